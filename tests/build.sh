@@ -8,6 +8,13 @@ need_rt() { # WHO
   exit 4
 }
 
+# Says so where the kit is another one than the one that README names: its proofs may take another time, or not pass.
+tell_kit() { # WHO
+  local named
+  named=$(grep -oE 'rattle-kit-[0-9a-z]+ logic [0-9a-f]+' "$top/README.md" | head -n 1)
+  [ "$(rt version)" = "$named" ] || echo "$1: the kit here is '$(rt version)', and README.md names '$named'" >&2
+}
+
 # The crates of the repository that a crate uses.
 uses() { # CRATE
   local name
@@ -45,4 +52,32 @@ lanes_of() { # GIB
   if [ "${room:-1}" -lt "$lanes" ]; then lanes=${room:-1}; fi
   if [ "$lanes" -lt 1 ]; then lanes=1; fi
   echo "$lanes"
+}
+
+# Runs a program: the proved one if it is built and no source is newer, otherwise a quick build in which nothing is proved, as
+# standard error then says. The status is the program's own; 4 if nothing could be built, and standard error says why.
+answer() { # CRATE WORD ..
+  local crate=$1 built="$top/crates/$1/out/$1" log status ended
+  shift
+  if is_built "$built" "$crate"; then exec "$built" "$@"; fi
+  need_rt "$crate"
+  if [ -x "$built" ]; then
+    echo "$crate: a source is newer than the proved program; this answer is of a quick build in which nothing is proved" >&2
+  else
+    echo "$crate: this answer is of a quick build in which nothing is proved (./prove proves \`rdata\` and keeps it)" >&2
+  fi
+  log=$(mktemp)
+  (cd "$top/crates/$crate" && rt try -- "$@") 2>"$log"
+  status=$?
+  # The last line tells how the program ended, and what comes before the checker's lines is the program's standard error.
+  ended=$(sed -nE 's/^run=ended status=([0-9]+) .*/\1/p' "$log" | tail -n 1)
+  if [ -z "$ended" ]; then
+    cat "$log" >&2
+    echo "$crate: the quick build gave no answer (rt try: status $status)" >&2
+    ended=4
+  else
+    sed '/^interpreter: /d; /^checked: /,$d' "$log" >&2
+  fi
+  rm -f "$log"
+  exit "$ended"
 }

@@ -1,7 +1,9 @@
 #!/usr/bin/env bash
 # How the time of options and parameters grows with their number, each of four octets: nanoseconds an octet of the data, for
-# reading, emitting into a fresh encoder, and `==`. Behind them, of options that stand in no order, microseconds for each thousand:
-# reading, `==`, hash, `cmp` of equal records and of records whose last options differ, canonical octets and the last of them. The built benchmark is asked (crates/rdata_bench, after `rt run` there).
+# reading, emitting into a fresh encoder, and `==`. Then, for records of options in no order, the microseconds of one call:
+# reading, `==`, hash, `cmp` of equal records and of records whose last options differ, canonical octets one by one, the last
+# of them, and all of them copied. A line with more than 10 ms says so. It runs the built benchmark (crates/rdata_bench, after
+# `rt run` there).
 set -u
 bench="${1:-$(cd "$(dirname "$0")/.." && pwd)/crates/rdata_bench/out/rdata_bench}"
 sample() { # TYPE COUNT: codes or keys from 100 on
@@ -17,11 +19,9 @@ for kind in OPT SVCB; do
       awk -v count="$count" -v len="$((8 * count))" 'NR == 2 { printf "%s\t%d\tread %.2f\temitted %.2f\tcompared %.2f\n", $1, count, $2 / len, $4 / len, $7 / len }'
   done
 done
-for count in 1024 4096 16383; do
-  "$bench" options "$count" | awk -v count="$count" -F '\t' '$1 == "mixed" {
-    printf "%s\t%d", $1, count
-    split("read compared hash cmp apart canonical octet_at", names, " ")
-    for (i = 2; i <= 8; i++) printf "\t%s %.0f", names[i - 1], $i * 1000 / count
-    print ""
-  }'
-done
+"$bench" mixed | awk -F '\t' -v OFS='\t' 'NR == 1 { NF = 10; print; next } {
+  slow = 0
+  for (i = 3; i <= 10; i++) if ($i > 10000) slow = 1
+  NF = 10
+  print $0 (slow ? "\tover 10 ms" : "")
+}'

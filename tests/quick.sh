@@ -8,6 +8,12 @@ need_rt quick
 dir=$(mktemp -d)
 trap 'kill $(jobs -p) 2>/dev/null; rm -rf "$dir"' EXIT
 
+# Keeps the counts of a part, and prints them as it ends.
+count() { # FILE GOOD BAD TEXT
+  echo "$2 $3" >"$dir/$1"
+  echo "$4: $2 as wanted, $3 not ($SECONDS s)"
+}
+
 # Runs a program on its stored words, input and files, and compares output and status with those that are stored.
 program() { # CRATE
   local folder="$top/crates/$1" words=() files=() file status=0
@@ -19,9 +25,9 @@ program() { # CRATE
   done
   rt try "${files[@]}" -- "${words[@]}" <"$(if [ -f stdin ]; then echo stdin; else echo /dev/null; fi)" >"$dir/$1.out" 2>"$dir/$1.log"
   if [ $? = "$status" ] && cmp -s "$dir/$1.out" stdout && grep -q '^run=ended' "$dir/$1.log"; then
-    echo "1 0 $1 prints what is wanted" >"$dir/$1.program"
+    count "$1.program" 1 0 "$1 prints what is wanted"
   else
-    echo "0 1 $1 does not print what is wanted" >"$dir/$1.program"
+    count "$1.program" 0 1 "$1 does not print what is wanted"
     { diff stdout "$dir/$1.out"; tail -n 20 "$dir/$1.log"; } >"$dir/$1.why" 2>&1
   fi
 }
@@ -32,9 +38,9 @@ tests() { # CRATE
   rt try --test >"$dir/$1.tests.log" 2>&1
   counts=$(sed -nE 's/^test result: .* ([0-9]+) passed; ([0-9]+) failed;.*/\1 \2/p' "$dir/$1.tests.log")
   if [ -n "$counts" ]; then
-    echo "$counts $1: tests" >"$dir/$1.tests"
+    count "$1.tests" "${counts% *}" "${counts#* }" "$1: tests"
   else
-    echo "0 1 $1: the tests did not run" >"$dir/$1.tests"
+    count "$1.tests" 0 1 "$1: the tests did not run"
   fi
   case "$counts" in ''|*' '[1-9]*) cp "$dir/$1.tests.log" "$dir/$1.why" ;; esac
 }
@@ -51,9 +57,8 @@ done
 wait
 good=0 bad=0
 for file in "$dir"/*.program "$dir"/*.tests; do
-  read -r one other text <"$file"
+  read -r one other <"$file"
   good=$((good + one)) bad=$((bad + other))
-  echo "$text: $one as wanted, $other not"
 done
 for file in "$dir"/*.why; do
   if [ -f "$file" ]; then cat "$file"; fi

@@ -1,4 +1,4 @@
-//! A message that is read from its front.
+//! Reads a message.
 
 ghost use Rattle.std.specs.Prelude.{◌≡◌, true, ◌+◌, ◌*◌, ◌-◌, ◌/◌, ◌^◌, ◌<◌, ◌≤◌, ◌⊎◌, ℕ, ◌↔◌, IsTrue, length, drop, slice_get, IfOk, IfErr, OnOk, OnErr};
 ghost use Rattle.std.specs.Int.{cast_unsigned, w32};
@@ -12,9 +12,10 @@ use dns_types::{DecodeError, Restrict, SmallOctets};
 use std::alloc::Global;
 use std::marker::Model;
 
-/// A message, and the place of the octet that is read next (RFC 1035, 4.1).
+/// Reads a message (RFC 1035, section 4.1): the message, and the offset of the octet that is read next.
 ///
-/// After a refusal the message is as it was, and the place is not before the one where the call began.
+/// On error the message is unchanged and the decoder is not before the offset where the call began; use
+/// [`BinDecoder::at`] or [`clone`](BinDecoder::clone) to go on elsewhere.
 ///
 /// ```rust
 /// fn count_answers(alloc: Global, message: &[u8]) -> Result<u16, DecodeError> {
@@ -44,7 +45,8 @@ impl<'a> Model for BinDecoder<'a> {
 }
 
 impl<'a> BinDecoder<'a> {
-    /// A decoder at the front of a message. What is read later takes its memory from `alloc`.
+    /// A decoder at the first octet of a message. Values that are read later are allocated from `alloc`; this call
+    /// allocates nothing.
     #[inline]
     pub fn new(alloc: Global, message: &'a [u8]) -> BinDecoder<'a>
         ensures { result ≡ record { message = message.now; index = 0 } }
@@ -56,8 +58,8 @@ impl<'a> BinDecoder<'a> {
         }
     }
 
-    /// A decoder at an offset of a message, so that a reader can go on after a record that was rejected. Values that are
-    /// read later are allocated from `alloc`; this call allocates nothing.
+    /// A decoder at an offset of a message, so that a reader can go on after a record that was rejected. Values that
+    /// are read later are allocated from `alloc`; this call allocates nothing.
     ///
     /// # Errors
     ///
@@ -107,13 +109,13 @@ impl<'a> BinDecoder<'a> {
         BinDecoder::at(self.alloc, self.message, index_at)
     }
 
-    /// What gives the memory of the values that are read.
+    /// The allocator of the values that are read.
     #[inline]
     pub fn allocator(&self) -> Global {
         self.alloc
     }
 
-    /// The place of the next octet, counted from the message's front.
+    /// The offset of the next octet, counted from the first octet of the message.
     #[inline]
     pub fn index(&self) -> usize
         ensures place { result ≡ self.now.index }
@@ -124,7 +126,7 @@ impl<'a> BinDecoder<'a> {
         self.index
     }
 
-    /// How many octets are left.
+    /// How many octets of the message are left.
     #[inline]
     pub fn len(&self) -> usize
         ensures left { self.now.index + result ≡ length self.now.message }
@@ -140,7 +142,7 @@ impl<'a> BinDecoder<'a> {
         self.index == self.message.len()
     }
 
-    /// The octets that are left, which stay untaken.
+    /// The octets that are left. The decoder stays where it is.
     #[inline]
     pub fn unread(&self) -> Restrict<&'a [u8]>
         ensures { result.now ≡ drop self.now.index self.now.message }
@@ -148,7 +150,7 @@ impl<'a> BinDecoder<'a> {
         Restrict::new(&self.message[self.index..])
     }
 
-    /// The next octet, which stays untaken; none at the message's end.
+    /// The next octet, or `None` at the end of the message. The decoder stays where it is.
     #[inline]
     pub fn peek(&self) -> Option<Restrict<u8>>
         ensures { result ≡ slice_get self.now.message self.now.index }
@@ -159,8 +161,11 @@ impl<'a> BinDecoder<'a> {
         }
     }
 
-    /// The next `len` octets. Where fewer are left it is refused by
-    /// [`InsufficientBytes`](DecodeError::InsufficientBytes), and takes none.
+    /// Reads the next `len` octets, as a part of the message. Allocates nothing.
+    ///
+    /// # Errors
+    ///
+    /// [`InsufficientBytes`](DecodeError::InsufficientBytes): fewer octets are left. Nothing is read then.
     #[inline]
     pub fn read_slice(&mut self, len: usize) -> Result<Restrict<&'a [u8]>, DecodeError>
         ensures taken { IfOk result (λ octets. TookField self.old (Octets len) octets.now self.new) }
@@ -176,9 +181,14 @@ impl<'a> BinDecoder<'a> {
         Ok(Restrict::new(&message[start..start + len]))
     }
 
-    /// The next `len` octets in memory of their own, by one request. Where fewer are left it is refused by
-    /// [`InsufficientBytes`](DecodeError::InsufficientBytes), where memory runs out by [`Memory`](DecodeError::Memory);
-    /// it takes none then.
+    /// Reads the next `len` octets into a vector. Allocates once.
+    ///
+    /// # Errors
+    ///
+    /// Nothing is read then.
+    ///
+    /// - [`InsufficientBytes`](DecodeError::InsufficientBytes): fewer octets are left.
+    /// - [`Memory`](DecodeError::Memory): the allocation failed.
     #[inline]
     pub fn read_vec(&mut self, len: usize) -> Result<Restrict<Vec<u8>>, DecodeError>
         ensures taken { IfOk result (λ octets. TookField self.old (Octets len) octets.items self.new) }
@@ -196,9 +206,14 @@ impl<'a> BinDecoder<'a> {
         Ok(Restrict::new(octets))
     }
 
-    /// The next `len` octets as a value, by one request for memory where they are more than `N`. Where fewer are left
-    /// it is refused by [`InsufficientBytes`](DecodeError::InsufficientBytes), where memory runs out by
-    /// [`Memory`](DecodeError::Memory); it takes none then.
+    /// Reads the next `len` octets into a value. Allocates once if they are more than `N`.
+    ///
+    /// # Errors
+    ///
+    /// Nothing is read then.
+    ///
+    /// - [`InsufficientBytes`](DecodeError::InsufficientBytes): fewer octets are left.
+    /// - [`Memory`](DecodeError::Memory): the allocation failed.
     #[inline(always)]
     pub fn read_small<const N: usize>(
         &mut self,
@@ -219,8 +234,12 @@ impl<'a> BinDecoder<'a> {
         Ok(Restrict::new(octets))
     }
 
-    /// The next `len` octets, `step` by `step`: where fewer are left, it takes the whole steps that are there, and is
-    /// refused by [`InsufficientBytes`](DecodeError::InsufficientBytes).
+    /// Reads the next `len` octets, `step` by `step`. Allocates nothing.
+    ///
+    /// # Errors
+    ///
+    /// [`InsufficientBytes`](DecodeError::InsufficientBytes): fewer octets are left. The whole steps that are there are
+    /// read then.
     #[inline]
     pub fn read_in_steps(
         &mut self,
@@ -245,7 +264,7 @@ impl<'a> BinDecoder<'a> {
         Ok(Restrict::new(&message[start..start + len]))
     }
 
-    /// The next octet. Where none is left it is refused by [`InsufficientBytes`](DecodeError::InsufficientBytes).
+    /// Reads the next octet, as [`read_u8`](BinDecoder::read_u8).
     #[inline]
     pub fn pop(&mut self) -> Result<Restrict<u8>, DecodeError>
         ensures taken { ReadsField (Number 1) (λ n. n) result self.old self.new }
@@ -255,8 +274,11 @@ impl<'a> BinDecoder<'a> {
         self.read_u8()
     }
 
-    /// The next octet, as a number. Where none is left it is refused by
-    /// [`InsufficientBytes`](DecodeError::InsufficientBytes).
+    /// Reads a number of one octet. Allocates nothing.
+    ///
+    /// # Errors
+    ///
+    /// [`InsufficientBytes`](DecodeError::InsufficientBytes): no octet is left.
     #[inline]
     pub fn read_u8(&mut self) -> Result<Restrict<u8>, DecodeError>
         ensures taken { ReadsField (Number 1) (λ n. n) result self.old self.new }
@@ -267,8 +289,11 @@ impl<'a> BinDecoder<'a> {
         Ok(Restrict::new(octets[0]))
     }
 
-    /// The number in the next two octets, the higher one first. Where fewer are left it is refused by
-    /// [`InsufficientBytes`](DecodeError::InsufficientBytes), and takes none.
+    /// Reads a number of two octets in network order. Allocates nothing.
+    ///
+    /// # Errors
+    ///
+    /// [`InsufficientBytes`](DecodeError::InsufficientBytes): fewer octets are left. Nothing is read then.
     #[inline]
     pub fn read_u16(&mut self) -> Result<Restrict<u16>, DecodeError>
         ensures taken { ReadsField (Number 2) (λ n. n) result self.old self.new }
@@ -279,7 +304,7 @@ impl<'a> BinDecoder<'a> {
         Ok(Restrict::new(u16::from_be_bytes([octets[0], octets[1]])))
     }
 
-    /// The number in the next four octets, the highest one first. Refused as `read_u16`.
+    /// Reads a number of four octets in network order. Fails as [`read_u16`](BinDecoder::read_u16). Allocates nothing.
     #[inline]
     pub fn read_u32(&mut self) -> Result<Restrict<u32>, DecodeError>
         ensures taken { ReadsField (Number 4) (λ n. n) result self.old self.new }
@@ -290,7 +315,8 @@ impl<'a> BinDecoder<'a> {
         Ok(Restrict::new(u32::from_be_bytes([octets[0], octets[1], octets[2], octets[3]])))
     }
 
-    /// The signed number in the next four octets, the highest one first, in two's complement. Refused as `read_u16`.
+    /// Reads a signed number of four octets in network order, in two's complement. Fails as
+    /// [`read_u16`](BinDecoder::read_u16). Allocates nothing.
     #[inline]
     pub fn read_i32(&mut self) -> Result<Restrict<i32>, DecodeError>
         ensures taken { ReadsField (Number 4) (λ n. cast_unsigned w32 n) result self.old self.new }
@@ -301,9 +327,13 @@ impl<'a> BinDecoder<'a> {
         Ok(Restrict::new(n.cast_signed()))
     }
 
-    /// The character string that stands next: an octet of length, and so many octets (RFC 1035, 3.3). Where it lacks
-    /// octets it is refused by [`InsufficientBytes`](DecodeError::InsufficientBytes), and its length octet stays taken
-    /// where it is there.
+    /// Reads a character string (RFC 1035, section 3.3): a length octet, and so many octets, which are returned as a
+    /// part of the message. Allocates nothing.
+    ///
+    /// # Errors
+    ///
+    /// [`InsufficientBytes`](DecodeError::InsufficientBytes): octets are missing. The length octet is read if it is
+    /// there.
     #[inline]
     pub fn read_character_data(&mut self) -> Result<Restrict<&'a [u8]>, DecodeError>
         ensures taken { ReadsField Text (λ s. s.now) result self.old self.new }
@@ -314,7 +344,7 @@ impl<'a> BinDecoder<'a> {
         Ok(Restrict::new(octets))
     }
 
-    /// The octets of the name that stands next, without the 0 at its end (RFC 1035, 3.1 and 4.1.4).
+    /// Reads a name (RFC 1035, sections 3.1 and 4.1.4), and returns its octets without the final zero octet.
     pub(crate) fn read_name(&mut self) -> Result<NameOctets, DecodeError>
         ensures taken { ReadsField Name (λ octets. name_of octets true) result self.old self.new }
         ensures octets { IfOk result AreNameOctets }

@@ -1,4 +1,4 @@
-//! A message that is being written.
+//! Writes a message.
 
 ghost use Rattle.std.specs.Prelude.{◌≡◌, ◌≢◌, ◌+◌, ◌<◌, ◌≤◌, ◌^◌, ◌↔◌, ◌⊎◌, ℕ, Bool, IsTrue, IfErr, List, [], ◌∷◌, ◌++◌, length, take, drop, IfOk};
 ghost use Rattle.std.specs.Prelude.{OnOk, OnErr};
@@ -14,13 +14,14 @@ use dns_types::ProtoError;
 use std::alloc::Global;
 use std::marker::Model;
 
-// The most octets of a message that is sent over TCP (RFC 1035, 4.2.2).
+// The most octets of a message over TCP (RFC 1035, section 4.2.2).
 const MAX_SIZE: usize = 65535;
 
-/// Octets that are written one behind the other to the end of a vector, up to a limit (RFC 1035, 4.1).
+/// Writes a message (RFC 1035, section 4.1) to the end of a vector, up to a limit.
 ///
-/// Each call appends whole, or it is refused by `Memory`, or by `MaxBufferSizeExceeded` exactly where the octets would
-/// pass the limit. After a refusal the octets that were there stand.
+/// Each call appends everything or nothing. It fails with `Memory` if an allocation fails, and with
+/// `MaxBufferSizeExceeded` exactly if the octets would pass the limit. On error the octets that were there are
+/// unchanged. Appending allocates as the vector grows.
 ///
 /// ```rust
 /// fn emit_record(
@@ -46,7 +47,7 @@ pub struct BinEncoder<'a> {
     message: MessageOctets<'a>,
     limit: usize,
     mode: RDataEncoding,
-    // where labels of names stand
+    // the offsets of labels of names
     places: Places,
 }
 
@@ -62,18 +63,18 @@ impl<'a> Model for BinEncoder<'a> {
     ghost invariant = { λ e. (e.limit ≤ 65535) × AreOctets e.message.items × (length e.message.items ≤ 65535) };
 }
 
-/// Where two octets stand that are still to be replaced by a number.
+/// Two octets of the message that are reserved for a number, such as RDLENGTH.
 #[derive(Clone, Copy, Debug, PartialEq, Eq)]
 pub struct Place {
-    /// The place of the first of the two octets.
+    /// The offset of the first of the two octets.
     pub index: usize,
 }
 
 impl<'a> BinEncoder<'a> {
-    /// An encoder of a message that begins where the vector ends. It starts without octets, with the limit 65535, and in
-    /// the mode of RFC 1035's records, which compresses names. What the vector has already, such as the two octets of a
-    /// length for TCP (RFC 1035, section 4.2.2), precedes the message: it never changes, and compression pointers do not
-    /// count it. Offsets of compressed names are kept in memory of `alloc`.
+    /// An encoder of a message that begins where the vector ends. It starts without octets, with the limit 65535, and
+    /// in the mode of RFC 1035's records, which compresses names. What the vector has already, such as the two octets
+    /// of a length for TCP (RFC 1035, section 4.2.2), precedes the message: it never changes, and compression pointers
+    /// do not count it. Offsets of compressed names are kept in memory of `alloc`.
     #[inline]
     pub fn new(alloc: Global, octets: &'a mut Vec<u8>) -> BinEncoder<'a>
         ensures { result ≡ record { before = octets.old.items; octets = []; limit = 65535; mode = RDataEncoding.StandardRecord; target = octets.entry.ghost_name } }
@@ -127,7 +128,7 @@ impl<'a> BinEncoder<'a> {
         }
     }
 
-    /// The vector, with the octets.
+    /// Ends the message, and returns the vector with its octets.
     #[inline]
     pub fn into_bytes(self) -> &'a mut Vec<u8>
         ensures same { result.ghost_name ≡ self.entry.target }
@@ -137,13 +138,13 @@ impl<'a> BinEncoder<'a> {
         message.into_vec()
     }
 
-    /// What gives the memory of what it remembers of names.
+    /// The allocator of the table of names.
     #[inline]
     pub fn allocator(&self) -> Global {
         self.alloc
     }
 
-    /// How many octets were written: at most 65535, as many as the limit may be.
+    /// How many octets the message has: at most 65535.
     #[inline]
     pub fn len(&self) -> usize
         ensures value { result ≡ length self.now.octets }
@@ -154,7 +155,7 @@ impl<'a> BinEncoder<'a> {
         self.message.len()
     }
 
-    /// Whether no octet was written.
+    /// Whether the message has no octet.
     #[inline]
     pub fn is_empty(&self) -> bool
         ensures { IsTrue result ↔ (self.now.octets ≡ []) }
@@ -162,7 +163,7 @@ impl<'a> BinEncoder<'a> {
         self.message.is_empty()
     }
 
-    /// Sets how many octets there may be; those that are there stay.
+    /// Sets how many octets the message may have. Octets that are there stay, also past the new limit.
     #[inline]
     pub fn set_max_size(&mut self, max: u16)
         ensures { self.new ≡ record self.old { limit = max } }
@@ -170,7 +171,7 @@ impl<'a> BinEncoder<'a> {
         self.limit = max as usize;
     }
 
-    /// Sets how names are written, and answers how they were.
+    /// Sets how names are written, and returns how they were written before.
     #[inline]
     pub fn with_rdata_behavior(&mut self, mode: RDataEncoding) -> RDataEncoding
         ensures earlier { result ≡ self.old.mode }
@@ -196,7 +197,7 @@ impl<'a> BinEncoder<'a> {
         Ok(())
     }
 
-    /// Appends octets and others behind them, under one test of the room: both, or nothing.
+    /// Appends some octets and then others, both or nothing, with one test of the limit.
     #[inline]
     #[tactic(auto, unfolding(dns_fields::specs::Fields::field_octets))]
     pub fn emit_both(&mut self, front: &[u8], rest: &[u8]) -> Result<(), ProtoError>
@@ -211,7 +212,7 @@ impl<'a> BinEncoder<'a> {
         append_both(&mut self.message, front, rest)
     }
 
-    /// Appends one octet.
+    /// Appends one octet, as [`emit_u8`](BinEncoder::emit_u8).
     #[inline]
     pub fn emit(&mut self, octet: u8) -> Result<(), ProtoError>
         ensures emits { EmitsField (Number 1) octet result self.old self.new }
@@ -221,7 +222,7 @@ impl<'a> BinEncoder<'a> {
         self.emit_u8(octet)
     }
 
-    /// Appends one octet, of a number.
+    /// Appends a number of one octet.
     #[inline]
     #[tactic(auto, unfolding(dns_fields::specs::Fields::field_octets))]
     pub fn emit_u8(&mut self, n: u8) -> Result<(), ProtoError>
@@ -233,7 +234,7 @@ impl<'a> BinEncoder<'a> {
         Ok(())
     }
 
-    /// Appends the two octets of a number, the higher one first.
+    /// Appends a number of two octets in network order.
     #[inline]
     #[tactic(auto, unfolding(dns_fields::specs::Fields::field_octets))]
     pub fn emit_u16(&mut self, n: u16) -> Result<(), ProtoError>
@@ -245,7 +246,7 @@ impl<'a> BinEncoder<'a> {
         Ok(())
     }
 
-    /// Appends the four octets of a number, the highest one first.
+    /// Appends a number of four octets in network order.
     #[inline]
     #[tactic(auto, unfolding(dns_fields::specs::Fields::field_octets))]
     pub fn emit_u32(&mut self, n: u32) -> Result<(), ProtoError>
@@ -257,7 +258,7 @@ impl<'a> BinEncoder<'a> {
         Ok(())
     }
 
-    /// Appends the four octets of a signed number in two's complement, the highest one first.
+    /// Appends a signed number of four octets in network order, in two's complement.
     #[inline]
     pub fn emit_i32(&mut self, n: i32) -> Result<(), ProtoError>
         ensures emits { EmitsField (Number 4) (cast_unsigned w32 n) result self.old self.new }
@@ -267,8 +268,11 @@ impl<'a> BinEncoder<'a> {
         self.emit_u32(n.cast_unsigned())
     }
 
-    /// Appends a character string: its length in one octet, and its octets (RFC 1035, 3.3). One of more than 255
-    /// octets is refused by [`Message`](ProtoError::Message).
+    /// Appends a character string (RFC 1035, section 3.3): its length in one octet, and its octets.
+    ///
+    /// # Errors
+    ///
+    /// [`Message`](ProtoError::Message): there are more than 255 octets; and those of every call.
     #[inline]
     #[tactic(auto, unfolding(dns_fields::specs::Fields::field_octets))]
     pub fn emit_character_data(&mut self, octets: &[u8]) -> Result<(), ProtoError>
@@ -285,7 +289,7 @@ impl<'a> BinEncoder<'a> {
         append_both(&mut self.message, &[octets.len() as u8], octets)
     }
 
-    /// Appends the two octets of the number 0, which is to be replaced by another.
+    /// Appends two octets 0, which [`replace`](BinEncoder::replace) fills with a number later.
     pub fn place(&mut self) -> Result<Place, ProtoError>
         ensures placed { IfOk result (λ p. (p.index ≡ length self.old.octets) × AppendedField self.old (Number 2) 0 self.new) }
         ensures refused { IfErr result (λ e. StoppedField e self.old (Number 2) 0 self.new) }
@@ -315,8 +319,8 @@ impl<'a> BinEncoder<'a> {
         )
     }
 
-    /// Puts the two octets of a number, the higher one first, where the two octets were placed. The caller owes a place
-    /// of which both octets stand, as `place` answers it.
+    /// Writes a number of two octets in network order over two octets that [`place`](BinEncoder::place) appended. Both
+    /// must be in the message. Allocates nothing.
     pub fn replace(&mut self, place: Place, number: u16)
         requires { place.index + 2 ≤ length self.old.octets }
         ensures keeps { Keeps self.old self.new }
@@ -325,7 +329,8 @@ impl<'a> BinEncoder<'a> {
         self.message.replace_u16(place.index, number);
     }
 
-    /// How many octets were written behind the two that were placed. The caller owes a place of which both octets stand.
+    /// How many octets were appended after two octets that [`place`](BinEncoder::place) appended. Both must be in the
+    /// message.
     pub fn len_since_place(&self, place: &Place) -> usize
         requires { place.now.index + 2 ≤ length self.now.octets }
         ensures value { place.now.index + 2 + result ≡ length self.now.octets }
@@ -335,7 +340,7 @@ impl<'a> BinEncoder<'a> {
     }
 }
 
-// Appends octets and others behind them, or nothing.
+// Appends some octets and then others, or nothing.
 #[inline]
 fn append_both(message: &mut MessageOctets<'_>, front: &[u8], rest: &[u8]) -> Result<(), ProtoError>
     ensures ok { OnOk result (message.new.items ≡ message.old.items ++ (front.now ++ rest.now)) }

@@ -1,4 +1,4 @@
-//! Domain names (RFC 1035, 3.1).
+//! Domain names (RFC 1035, section 3.1).
 
 ghost use Rattle.std.specs.Prelude.{◌≡◌, ◌≤◌, ◌<◌, ◌↔◌, ◌⊎◌, ℕ, Bool, true, false, [], length, slice_get, IsTrue, IfOk, IfErr, IfSome, OnOk, OnErr};
 ghost use Rattle.dns_fields.specs.{Labels.IsName, Labels.lowname, Names.IsNameIn, Octets.AreOctets, Fields.Name as NameKind};
@@ -21,10 +21,11 @@ use mark::Mark;
 use std::alloc::{AllocError, Global};
 use std::marker::Model;
 
-/// A domain name: labels of 1 to 63 octets, at most 255 octets with their length octets and one octet more, and
-/// whether it is fully qualified.
+/// A domain name (RFC 1035, section 3.1): labels of 1 to 63 octets, and whether it is fully qualified. With a length
+/// octet for each label and a final zero octet it has at most 255 octets.
 ///
-/// `==`, `Hash` and `Ord` ignore the case of ASCII letters, tell the mark, and take no memory.
+/// `==`, `Hash` and `Ord` ignore the case of ASCII letters, tell a relative name from a fully qualified one, and
+/// allocate nothing.
 ///
 /// ```rust
 /// fn is_in_zone(alloc: Global, zone: &str, host: &str) -> ProtoResult<bool> {
@@ -65,7 +66,7 @@ impl Name {
         }
     }
 
-    /// The relative name without labels. Takes no memory.
+    /// The relative name without labels. Allocates nothing.
     #[inline]
     pub fn new(alloc: Global) -> Name
         ensures { result ≡ record { labels = []; fully_qualified = false } }
@@ -73,7 +74,7 @@ impl Name {
         Name::from_octets(NameOctets::new(alloc), false)
     }
 
-    /// The root: the fully qualified name without labels. Takes no memory.
+    /// The root: the fully qualified name without labels. Allocates nothing.
     #[inline]
     pub fn root(alloc: Global) -> Name
         ensures { result ≡ root_name }
@@ -99,7 +100,7 @@ impl Name {
         self.is_fqdn.get()
     }
 
-    /// Marks it as fully qualified, or as relative; the labels stay.
+    /// Makes it fully qualified, or relative; the labels stay.
     #[inline]
     pub fn set_fqdn(&mut self, is_fqdn: bool)
         ensures { self.new ≡ record self.old { fully_qualified = is_fqdn } }
@@ -107,7 +108,7 @@ impl Name {
         self.is_fqdn = Mark::new(is_fqdn);
     }
 
-    /// The labels from the left, each without its length octet. Takes no memory.
+    /// The labels from the left, each without its length octet. Allocates nothing.
     #[inline]
     pub fn iter(&self) -> LabelIter<'_>
         ensures labels { result ≡ self.now.labels }
@@ -116,7 +117,7 @@ impl Name {
         LabelIter::new(self.octets.as_slice())
     }
 
-    /// Whether its first label is an asterisk (RFC 4592, 2.1.1).
+    /// Whether its first label is an asterisk (RFC 4592, section 2.1.1).
     #[inline]
     pub fn is_wildcard(&self) -> bool
         ensures { result ≡ has_asterisk self.now.labels }
@@ -127,7 +128,7 @@ impl Name {
         }
     }
 
-    /// How many labels there are, without an asterisk in front (RFC 4034, 3.1.3).
+    /// How many labels there are, without a first label that is an asterisk (RFC 4034, section 3.1.3).
     pub fn num_labels(&self) -> u8
         ensures { result ≡ label_count self.now.labels }
     {
@@ -135,7 +136,7 @@ impl Name {
         if self.is_wildcard() { count - 1 } else { count }
     }
 
-    /// How many octets it takes on the wire, uncompressed, with the 0 at the end: 1 to 255.
+    /// How many octets it has on the wire, uncompressed, with the final zero octet: 1 to 255.
     #[inline]
     pub fn len(&self) -> usize
         ensures value { result ≡ length (lowname self.now) }
@@ -147,7 +148,7 @@ impl Name {
         self.octets.len() + 1
     }
 
-    /// Always false: even the root takes an octet.
+    /// Always false: even the root has an octet.
     #[inline]
     pub fn is_empty(&self) -> bool
         ensures { result ≡ false }
@@ -155,7 +156,7 @@ impl Name {
         self.len() == 0
     }
 
-    /// The octet at a place of the canonical octets: uncompressed, with A to Z lowered (RFC 4034, 6.2).
+    /// The octet at an index of the canonical octets: uncompressed, with A to Z lowercased.
     #[inline]
     pub fn octet(&self, place: usize) -> Option<u8>
         ensures value { result ≡ slice_get (lowname self.now) place }
@@ -172,8 +173,8 @@ impl Name {
         }
     }
 
-    /// The labels' octets, each label behind its length, with its letters. Lowered and with a 0 behind them they are the
-    /// canonical octets. Takes no memory.
+    /// The octets of the labels, each after its length octet, with case preserved. Lowercased and with a final zero
+    /// octet they are the canonical octets. Allocates nothing.
     #[inline]
     pub fn label_octets(&self) -> &[u8]
         ensures { lowname self.now ≡ lowered_octets result.now }
@@ -201,8 +202,15 @@ impl BinDecodable for Name {
 
     ghost refuses = { IsNoName };
 
-    /// Reads the name that stands next, its letters kept: labels, and a 0, or a pointer to an earlier place from
-    /// which the rest stands (RFC 1035, 3.1 and 4.1.4). Takes memory once. After a refusal the place is as it was.
+    /// Reads a name (RFC 1035, sections 3.1 and 4.1.4) with case preserved: labels, and then a zero octet, or a
+    /// compression pointer to an earlier offset where the rest is. Allocates once if the name has more than 32 octets.
+    ///
+    /// # Errors
+    ///
+    /// The decoder stays where it was.
+    ///
+    /// - [`NameInvalid`](DecodeError::NameInvalid): the name is damaged.
+    /// - [`Memory`](DecodeError::Memory): the allocation failed.
     fn read(decoder: &mut BinDecoder<'_>) -> Result<Name, DecodeError>
         ensures reads { ReadsBy IsNameIn result decoder.old decoder.new }
         ensures field { ReadsField NameKind (λ x. x) result decoder.old decoder.new }
@@ -217,8 +225,9 @@ impl BinDecodable for Name {
 impl BinEncodable for Name {
     ghost emits = { EmitsField NameKind };
 
-    /// Appends the name in the encoder's mode, its letters kept: labels and a 0 (RFC 1035, 3.1), or, in the mode
-    /// `StandardRecord`, with a pointer in place of the longest tail with a label that stands already (4.1.4).
+    /// Appends the name in the encoder's mode, with case preserved: labels and a zero octet (RFC 1035, section 3.1),
+    /// or, in the mode `StandardRecord`, with a compression pointer in place of the longest suffix that the encoder
+    /// wrote before (section 4.1.4).
     #[inline(always)]
     fn emit(&self, encoder: &mut BinEncoder<'_>) -> Result<(), ProtoError>
         ensures emits { EmitsField NameKind self.now result encoder.old encoder.new }
@@ -234,7 +243,7 @@ impl BinEncodable for Name {
 impl Clone for Name {
     ghost is_clone = { λ a b. b ≡ a };
 
-    /// The same name, its letters kept, in memory that is asked for once.
+    /// The same name, with case preserved. Allocates once if the name has more than 32 octets.
     #[inline]
     fn clone(&self) -> Result<Name, AllocError> {
         Ok(Name {

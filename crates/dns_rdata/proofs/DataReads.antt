@@ -7,8 +7,8 @@ use Rattle.dns_fields.specs.{Octets.AreOctets, Fields.Values, Fields.Kind, Field
 use Rattle.dns_types.specs.{declared.error.DecodeError.DecodeError, declared.record_type.RecordType.RecordType, RecordTypes.number_of}
 use Rattle.dns_types.specs.declared.error.DecodeError.TheVariants as decode
 use Rattle.dns_types.specs.declared.record_type.RecordType.TheVariants as types
-use Rattle.dns_names_wire.specs.State.{Reading}
-use Rattle.dns_names_wire.specs.Words.{StaysBehind, UnlessMemory, NoWindow, TookWindow, RefusedWindow, ReadsWindow, LacksOctets}
+use Rattle.dns_names_wire.specs.{Facts.Facts, State.Reading}
+use Rattle.dns_names_wire.specs.Words.{StaysBehind, UnlessMemory, NoWindow, Took, TookWindow, RefusedWindow, ReadsIf, ReadsWindow}
 use Rattle.dns_names_wire.proofs.FieldReads.{stays, unless_all, unless_map}
 use Rattle.dns_rdata_base.specs.declared.null.NULL.{NULL}
 use Rattle.dns_rdata_options.proofs.Refusals.{opt_never}
@@ -16,9 +16,10 @@ use Rattle.dns_rdata_service.proofs.SvcbValues.{svcb_never}
 use Rattle.dns_rdata_base.specs as base
 use Rattle.dns_rdata_sets.specs as sets
 use Rattle.dns_rdata_base.specs.Counted.{by_length}
-use Rattle.dns_rdata.specs.{declared.record_data.RData.RData, Refusals.IsOwnRefusal, Refusals.OwnRefusal, Refusals.IsRefusal}
+use Rattle.dns_rdata.specs.declared.record_data.RData.{RData}
+use Rattle.dns_rdata.specs.Refusals.{IsOwnRefusal, IsOwnTaken, IsRefusal, OwnRefusal, OwnResult, OwnTaken, without}
 use Rattle.dns_rdata.specs.Data.{TypeRow, row, unread, rowless, row_of, kinds_of, MeetsConditionOf, IsRowlessRow, IsNever, FieldsOf, shape, MeetsCondition}
-use Rattle.dns_rdata.specs.Data.{IsRowless, IsValue, Fills, NoValue, TookData, RefusedData, ReadsData, type_of, IsNeverRead}
+use Rattle.dns_rdata.specs.Data.{IsRowless, IsValue, IsTaken, Fills, HasValue, NoValue, TookData, RefusedData, ReadsData, type_of, IsNeverRead}
 use Rattle.dns_rdata.specs.declared.record_data.RData.TheVariants as rdata
 
 -- what fills a window as fields fills it as a value
@@ -72,7 +73,7 @@ has_no_row t none = grind arith
 
 took_rowless : (r : TypeRow) {old new : Reading} {n : ℕ} (vs : Values base.NULL.null_shape) → IsRowlessRow r → TookWindow old n base.NULL.null_shape (λ _. Unit {0}) vs new
     → (ws : Values (kinds_of r)) × TookWindow old n (kinds_of r) (MeetsConditionOf r) ws new × (fields_as base.NULL.null_shape vs ≡ fields_as (kinds_of r) ws)
-took_rowless (row kinds asked refusal) vs h w = absurd h
+took_rowless (row kinds asked refusal taken) vs h w = absurd h
 took_rowless unread vs h w = absurd h
 took_rowless rowless vs h w = (vs, w, refl)
 
@@ -89,20 +90,21 @@ data Answered (n : ℕ) (old new : Reading) : Result RData DecodeError → Resul
   memory : Answered n old new (Err decode.Memory) (Err decode.Memory)
   number : (k : ℕ) → Answered n old new (Err (decode.UnknownRecordTypeValue k)) (Err (decode.UnknownRecordTypeValue k))
   whole : {o : Result RData DecodeError} → new.index ≡ old.index + n → Answered n old new o o
-  other : {o : Result RData DecodeError} → o ≢ Err decode.Memory → new.index ≢ old.index + n
+  other : {o : Result RData DecodeError} → o ≢ Err decode.Memory → ((k : ℕ) → o ≢ Err (decode.UnknownRecordTypeValue k)) → new.index ≢ old.index + n
       → Answered n old new o (Err (decode.IncorrectRDataLengthRead (new.index - old.index) n))
 
 by_count : {o : Result RData DecodeError} {old new : Reading} (n : ℕ) → StaysBehind old new → o ≢ Err decode.Memory
+    → ((k : ℕ) → o ≢ Err (decode.UnknownRecordTypeValue k))
     → Answered n old new o (cond ((new.index - old.index) == n) o (Err (decode.IncorrectRDataLengthRead (new.index - old.index) n)))
-by_count {old = old} {new = new} n b some = elim (eqb_tells (new.index - old.index) n) [
+by_count {old = old} {new = new} n b some known = elim (eqb_tells (new.index - old.index) n) [
   | inl e ↦ rw e.0 (whole (omega (arith, e.1, b.index)))
-  | inr e ↦ rw e.0 (other some (λ k. e.1 (omega (arith, k, b.index))))
+  | inr e ↦ rw e.0 (other some known (λ k. e.1 (omega (arith, k, b.index))))
 ]
 
 answered : {old new : Reading} (n : ℕ) (o : Result RData DecodeError) → StaysBehind old new → Answered n old new o (by_length o (new.index - old.index) n)
 answered n (Err decode.Memory) b = memory
 answered n (Err (decode.UnknownRecordTypeValue k)) b = number k
-answered n o b = by_count n b (λ e. cc e)
+answered n o b = by_count n b (λ e. cc e) (λ k e. cc e)
 
 no_value : {m : List ℕ} {p n : ℕ} (t : RecordType) → NoWindow m p n (shape t) (MeetsCondition t) → NoValue m p n t
 no_value t w = record { none = λ v f. w.none f.values f.window }
@@ -117,14 +119,14 @@ data_found t h memory = tt
 data_found t h (number k) = tt
 data_found t {o = Ok v} h (whole e) = h.here e
 data_found t {o = Err x} h (whole e) = tt
-data_found t h (other some e) = tt
+data_found t h (other some known e) = tt
 
 data_after : {n : ℕ} {old new : Reading} {o r : Result RData DecodeError} → Answered n old new o r → OnOk r (new.index ≡ old.index + n)
 data_after memory = tt
 data_after (number k) = tt
 data_after {o = Ok v} (whole e) = e
 data_after {o = Err x} (whole e) = tt
-data_after (other some e) = tt
+data_after (other some known e) = tt
 
 data_refused : (t : RecordType) {n : ℕ} {old new : Reading} {o r : Result RData DecodeError} → ReadsData t n o old new → Answered n old new o r
     → IfErr r (λ e. UnlessMemory e (NoValue old.message old.index n t))
@@ -132,8 +134,8 @@ data_refused t h memory = tt
 data_refused t h (number k) = no_value t h.none
 data_refused t {o = Ok v} h (whole e) = tt
 data_refused t {o = Err x} h (whole e) = unless_map x _ _ (no_value t) h.none
-data_refused t {o = Ok v} h (other some e) = no_value t (h.elsewhere e)
-data_refused t {o = Err x} h (other some e) = no_value t (unless_none x h.none (λ q. some (cc q)))
+data_refused t {o = Ok v} h (other some known e) = no_value t (h.elsewhere e)
+data_refused t {o = Err x} h (other some known e) = no_value t (unless_none x h.none (λ q. some (cc q)))
 
 first_never : (kinds : List Kind) (old new : Reading) (k : ℕ) → base.Refusing.FirstLack kinds old (decode.UnknownRecordTypeValue k) new → ⊥
 first_never [] old new k h = h
@@ -158,9 +160,9 @@ bitmap_never n old new k h = grind arith
 
 -- the refusal by number is that of types that are never read
 own_never : (t : RecordType) (n : ℕ) (old new : Reading) (k : ℕ) → OwnRefusal t n old new (decode.UnknownRecordTypeValue k) → IsNeverRead t × (k ≡ number_of t)
-own_never types.ANY n old new k e = (tt, cc e)
-own_never types.AXFR n old new k e = (tt, cc e)
-own_never types.IXFR n old new k e = (tt, cc e)
+own_never types.ANY n old new k h = let e = h.0 in (tt, cc e)
+own_never types.AXFR n old new k h = let e = h.0 in (tt, cc e)
+own_never types.IXFR n old new k h = let e = h.0 in (tt, cc e)
 own_never types.ZERO n old new k e = absurd e
 own_never types.OPT n old new k h = absurd (opt_never n old new k h)
 own_never types.NAPTR n old new k (inl h) = absurd (lack_never base.NAPTR.naptr_shape old new k h)
@@ -184,16 +186,20 @@ own_never types.SVCB n old new k h = absurd (svcb_never n old new k h)
 own_never t n old new k h = absurd (grind arith)
 
 data_why : (t : RecordType) {n : ℕ} {old new : Reading} {o r : Result RData DecodeError} → IfErr o (λ e. UnlessMemory e (OwnRefusal t n old new e))
-    → (IsNeverRead t → (new ≡ old) × (o ≡ Err (decode.UnknownRecordTypeValue (number_of t)))) → Answered n old new o r → IfErr r (IsRefusal t n old new)
-data_why t own never memory = tt
-data_why t {n} {old = old} {new = new} own never (number k) = let x = own_never t n old new k own in (x.0, x.1, (never x.0).0)
-data_why t {o = Ok v} own never (whole e) = tt
-data_why t {o = Err decode.Memory} own never (whole e) = tt
-data_why t {n} {old = old} {new = new} {o = Err (decode.UnknownRecordTypeValue k)} own never (whole e) =
+    → IfOk o (λ v. OwnTaken t n old new) → (IsNeverRead t → (new ≡ old) × (o ≡ Err (decode.UnknownRecordTypeValue (number_of t))))
+    → Answered n old new o r → IfErr r (IsRefusal t n old new)
+data_why t own taken never memory = tt
+data_why t {n} {old = old} {new = new} own taken never (number k) = let x = own_never t n old new k own in (x.0, x.1, (never x.0).0)
+data_why t {o = Ok v} own taken never (whole e) = tt
+data_why t {o = Err decode.Memory} own taken never (whole e) = tt
+data_why t {n} {old = old} {new = new} {o = Err (decode.UnknownRecordTypeValue k)} own taken never (whole e) =
     let x = own_never t n old new k own in (x.0, x.1, (never x.0).0)
-data_why t {o = Err (decode.IncorrectRDataLengthRead a b)} own never (whole e) = inr (e, own)
-data_why t {o = Err x} own never (whole e) = (e, own)
-data_why t own never (other some e) = inl (e, refl, refl)
+data_why t {o = Err (decode.IncorrectRDataLengthRead a b)} own taken never (whole e) = inr (e, own)
+data_why t {o = Err x} own taken never (whole e) = (e, own)
+data_why t {o = Ok v} own taken never (other some known e) =
+    inl (e, refl, refl, record { own = Ok tt; is_own = taken; some = λ q. cc q; read = λ h. known _ (never h).1 })
+data_why t {o = Err x} own taken never (other some known e) =
+    inl (e, refl, refl, record { own = Err x; is_own = own; some = λ q. some (cc q); read = λ h. known _ (never h).1 })
 
 -- ---- a record's answer, as that of the value that holds it
 
@@ -215,22 +221,32 @@ own_mapped : {X : Type 0} (f : X → RData) (r : Result X DecodeError) (P : Deco
 own_mapped f (Ok x) P h = tt
 own_mapped f (Err e) P h = h
 
+taken_mapped : {X : Type 0} (f : X → RData) (r : Result X DecodeError) (P : Type 0) → IfOk r (λ x. P) → IfOk (mapped f r) (λ v. P)
+taken_mapped f (Ok x) P h = h
+taken_mapped f (Err e) P h = tt
+
+pub without_mapped : {X : Type 0} (f : X → RData) (r : Result X DecodeError) → without (mapped f r) ≡ without r
+without_mapped f (Ok x) = refl
+without_mapped f (Err e) = refl
+
+-- what reading a type gives by itself, before the octets that it took are counted
+pub record ReadsOwn (t : RecordType) (n : ℕ) (outcome : Result RData DecodeError) (old new : Reading) : Type 0 where
+  pub reads : ReadsData t n outcome old new
+  pub own : IfErr outcome (λ e. UnlessMemory e (OwnRefusal t n old new e))
+  pub taken : IfOk outcome (λ v. OwnTaken t n old new)
+  pub never : IsNeverRead t → (new ≡ old) × (outcome ≡ Err (decode.UnknownRecordTypeValue (number_of t)))
+
 -- what reading a type answers: what its fields gave, by how many octets they took
 pub record ReadsCounted (t : RecordType) (n : ℕ) (result : Result RData DecodeError) (old new : Reading) : Type 0 where
   pub outcome : Result RData DecodeError
-  pub reads : ReadsData t n outcome old new
-  pub own : IfErr outcome (λ e. UnlessMemory e (OwnRefusal t n old new e))
-  pub never : IsNeverRead t → (new ≡ old) × (outcome ≡ Err (decode.UnknownRecordTypeValue (number_of t)))
+  pub given : ReadsOwn t n outcome old new
   pub counted : result ≡ by_length outcome (new.index - old.index) n
 
-mapped_counted : {X : Type 0} {n start : ℕ} {old new : Reading} {s : Result X DecodeError} (t : RecordType) (f : X → RData) (r : Result X DecodeError)
-    → (IsNeverRead t → ⊥) → start ≡ old.index → s ≡ by_length r (new.index - start) n → ReadsData t n (mapped f r) old new
-    → IfErr r (λ e. UnlessMemory e (OwnRefusal t n old new e)) → ReadsCounted t n (mapped f s) old new
-mapped_counted {n = n} {old = old} {new = new} t f r never place c reads own = record {
+pub counted_own : {X : Type 0} {n start : ℕ} {old new : Reading} {s : Result X DecodeError} (t : RecordType) (f : X → RData) (r : Result X DecodeError)
+    → start ≡ old.index → s ≡ by_length r (new.index - start) n → ReadsOwn t n (mapped f r) old new → ReadsCounted t n (mapped f s) old new
+counted_own {n = n} {old = old} {new = new} t f r place c given = record {
   outcome = mapped f r;
-  reads = reads;
-  own = own_mapped f r _ own;
-  never = λ h. absurd (never h);
+  given = given;
   counted = ap (mapped f) (c ∙ ap (λ k. by_length r (new.index - k) n) place) ∙ mapped_length f r (new.index - old.index) n;
 }
 
@@ -243,38 +259,49 @@ unless_each : {X : Type 0} (r : Result X DecodeError) (P : DecodeError → Type 
 unless_each (Ok x) P h = tt
 unless_each (Err e) P h = unless_all e h
 
-unless_other : {X : Type 0} (r : Result X DecodeError) (P : DecodeError → Type 0) → IfErr r (λ e. (e ≡ decode.Memory) ⊎ P e) → IfErr r (λ e. UnlessMemory e (P e))
-unless_other (Ok x) P h = tt
-unless_other (Err e) P (inl m) = rw m tt
-unless_other (Err e) P (inr h) = unless_all e h
-
 -- what is so of each value that is read
 pub of_read : {X E : Type 0} {r : Result X E} {x : X} (P : X → Type 0) → IfOk r P → r ≡ Ok x → P x
 of_read P h e = subst (λ z. IfOk z P) e h
 
-pub reads_counted : {X : Type 0} {n start : ℕ} {old new : Reading} {r s : Result X DecodeError} (t : RecordType) (f : X → RData) (fields : X → Values (shape t))
-    → (IsNeverRead t → ⊥) → start ≡ old.index → s ≡ by_length r (new.index - start) n → ReadsWindow (shape t) (MeetsCondition t) fields n r old new
-    → IfErr r (OwnRefusal t n old new) → ((x : X) → r ≡ Ok x → IsValue t (fields x) (f x)) → ReadsCounted t n (mapped f s) old new
-reads_counted {n = n} {old = old} {new = new} {r = r} t f fields never place c window own value =
-    mapped_counted t f r never place c (reads_mapped old new t n f fields r window value) (unless_each r _ own)
+pub reads_own : {X : Type 0} {n : ℕ} {old new : Reading} (t : RecordType) (f : X → RData) (fields : X → Values (shape t)) (r : Result X DecodeError)
+    → (IsNeverRead t → ⊥) → ReadsWindow (shape t) (MeetsCondition t) fields n r old new → IfErr r (OwnRefusal t n old new)
+    → IfOk r (λ x. OwnTaken t n old new) → ((x : X) → r ≡ Ok x → IsValue t (fields x) (f x)) → ReadsOwn t n (mapped f r) old new
+reads_own {n = n} {old = old} {new = new} t f fields r never window own taken value = record {
+  reads = reads_mapped old new t n f fields r window value;
+  own = own_mapped f r _ (unless_each r _ own);
+  taken = taken_mapped f r _ taken;
+  never = λ h. absurd (never h);
+}
 
-null_lacks : (n : ℕ) (old new : Reading) (r : Result NULL DecodeError) → IfErr r (λ e. base.NULL.IsNullRefusal n old e new)
-    → IfErr r (λ e. (e ≡ decode.Memory) ⊎ ((e ≡ decode.InsufficientBytes) × LacksOctets old n))
-null_lacks n old new (Ok x) h = tt
-null_lacks n old new (Err e) h = h.1
+-- ---- a value is read up to where the decoder is
 
-pub null_counted : {n start : ℕ} {old new : Reading} {s : Result NULL DecodeError} (r : Result NULL DecodeError) → start ≡ old.index → s ≡ by_length r (new.index - start) n
-    → ReadsWindow base.NULL.null_shape (λ _. Unit {0}) base.NULL.null_fields n r old new
-    → IfErr r (λ e. base.NULL.IsNullRefusal n old e new)
-    → ReadsCounted types.NULL n (mapped (λ x. rdata.NULL x) s) old new
-null_counted {n = n} {old = old} {new = new} r place c window own =
-    mapped_counted types.NULL (λ x. rdata.NULL x) r (λ h. h) place c
-    (reads_mapped old new types.NULL n (λ x. rdata.NULL x) base.NULL.null_fields r window (λ x _. record { type = refl; fields = refl; plain = tt }))
-    (unless_other r (λ e. (e ≡ decode.InsufficientBytes) × LacksOctets old n) (null_lacks n old new r own))
+-- where the fields say themselves where they end
+pub taken_fields : {X : Type 0} (f : Facts X) (n : ℕ) (old new : Reading) (r : Result X DecodeError)
+    → ReadsIf f.kinds (λ vs _. f.condition vs) f.fields r old new → IfOk r (λ x. f.made n x old new) → IfOk r (λ x. IsTaken f n old new)
+taken_fields f n old new (Ok x) reads made = record { value = x; took = reads.0; holds = reads.1; made = made }
+taken_fields f n old new (Err e) reads made = tt
+
+-- where they fill the length
+pub taken_filling : {X : Type 0} (f : Facts X) (n : ℕ) (old new : Reading) (r : Result X DecodeError)
+    → ((x : X) → f.made n x old new → new.index ≡ old.index + n) → ReadsWindow f.kinds f.condition f.fields n r old new
+    → IfOk r (λ x. f.made n x old new) → IfOk r (λ x. IsTaken f n old new)
+taken_filling f n old new (Ok x) all w made =
+    let h = w.here (all x made) in
+    record { value = x; took = record { message = w.behind.message; stands = rw (all x made) h.stands }; holds = h.holds; made = made }
+taken_filling f n old new (Err e) all w made = tt
+
+-- and where what its reader says of a value says so
+pub taken_made : {X : Type 0} (f : Facts X) (n : ℕ) (old new : Reading) (r : Result X DecodeError)
+    → ((x : X) → f.made n x old new → Took old f.kinds (f.fields x) new × f.condition (f.fields x))
+    → IfOk r (λ x. f.made n x old new) → IfOk r (λ x. IsTaken f n old new)
+taken_made f n old new (Ok x) all made = let h = all x made in record { value = x; took = h.0; holds = h.1; made = made }
+taken_made f n old new (Err e) all made = tt
+
+-- ---- types without a row of their own
 
 refused_rowless : (q : TypeRow) (old new : Reading) (n : ℕ) (e : DecodeError) → IsRowlessRow q → RefusedWindow e old n base.NULL.null_shape (λ _. Unit {0}) new
     → RefusedWindow e old n (kinds_of q) (MeetsConditionOf q) new
-refused_rowless (row kinds asked refusal) old new n e h w = absurd h
+refused_rowless (row kinds asked refusal taken) old new n e h w = absurd h
 refused_rowless unread old new n e h w = absurd h
 refused_rowless rowless old new n e h w = w
 
@@ -284,63 +311,104 @@ reads_rowless old new t n (Ok x) h w = unknown_took t n x h w
 reads_rowless old new t n (Err e) h w = data_refuses t n e (refused_rowless (row_of t) old new n e h.rowless w)
 
 own_rowless : (t : RecordType) (q : TypeRow) (old new : Reading) (n : ℕ) (r : Result NULL DecodeError) → IsRowlessRow q
-    → IfErr r (λ e. UnlessMemory e ((e ≡ decode.InsufficientBytes) × LacksOctets old n))
-    → IfErr r (λ e. UnlessMemory e (IsOwnRefusal t q n old new e))
-own_rowless t (row kinds asked refusal) old new n r h w = absurd h
+    → IfErr r (λ e. base.NULL.IsNullRefusal n old e new) → IfErr r (IsOwnRefusal t q n old new)
+own_rowless t (row kinds asked refusal taken) old new n r h w = absurd h
 own_rowless t unread old new n r h w = absurd h
 own_rowless t rowless old new n r h w = w
 
-pub unknown_counted : {n start : ℕ} {old new : Reading} {s : Result NULL DecodeError} (t : RecordType) (r : Result NULL DecodeError) → HasNoRow t → start ≡ old.index
-    → s ≡ by_length r (new.index - start) n → ReadsWindow base.NULL.null_shape (λ _. Unit {0}) base.NULL.null_fields n r old new
-    → IfErr r (λ e. base.NULL.IsNullRefusal n old e new)
-    → ReadsCounted t n (mapped (λ x. rdata.Unknown t x) s) old new
-unknown_counted {n = n} {old = old} {new = new} t r h place c window own =
-    mapped_counted t (λ x. rdata.Unknown t x) r h.read place c (reads_rowless old new t n r h window)
-    (own_rowless t (row_of t) old new n r h.rowless (unless_other r (λ e. (e ≡ decode.InsufficientBytes) × LacksOctets old n) (null_lacks n old new r own)))
+taken_rowless : (q : TypeRow) (old new : Reading) (n : ℕ) (r : Result NULL DecodeError) → IsRowlessRow q
+    → IfOk r (λ x. IsTaken base.NULL.null_facts n old new) → IfOk r (λ x. IsOwnTaken q n old new)
+taken_rowless (row kinds asked refusal taken) old new n r h w = absurd h
+taken_rowless unread old new n r h w = absurd h
+taken_rowless rowless old new n r h w = w
+
+pub unknown_own : {n : ℕ} {old new : Reading} (t : RecordType) (r : Result NULL DecodeError) → HasNoRow t
+    → ReadsWindow base.NULL.null_shape (λ _. Unit {0}) base.NULL.null_fields n r old new → IfErr r (λ e. base.NULL.IsNullRefusal n old e new)
+    → IfOk r (λ x. IsTaken base.NULL.null_facts n old new) → ReadsOwn t n (mapped (λ x. rdata.Unknown t x) r) old new
+unknown_own {n} {old} {new} t r h window own taken = record {
+  reads = reads_rowless old new t n r h window;
+  own = own_mapped (λ x. rdata.Unknown t x) r _ (unless_each r _ (own_rowless t (row_of t) old new n r h.rowless own));
+  taken = taken_mapped (λ x. rdata.Unknown t x) r _ (taken_rowless (row_of t) old new n r h.rowless taken);
+  never = λ e. absurd (h.read e);
+}
+
+-- ---- types without data
+
+pub zero_own : {n : ℕ} {d : Reading} → n < 65536 → d.index ≤ length d.message → AreOctets d.message → ReadsOwn types.ZERO n (Ok rdata.ZERO) d d
+zero_own {n} {d} short inside octets = record {
+  reads = data_zero d n short inside octets;
+  own = tt;
+  taken = refl;
+  never = λ h. absurd h;
+}
 
 pub zero_counted : {n start : ℕ} {d : Reading} {s : Result RData DecodeError} → n < 65536 → d.index ≤ length d.message → AreOctets d.message
     → start ≡ d.index → s ≡ by_length (Ok rdata.ZERO) (d.index - start) n → ReadsCounted types.ZERO n s d d
 zero_counted {n = n} {d = d} short inside octets place c = record {
   outcome = Ok rdata.ZERO;
-  reads = data_zero d n short inside octets;
-  own = tt;
-  never = λ h. absurd h;
+  given = zero_own short inside octets;
   counted = c ∙ ap (λ k. by_length (Ok rdata.ZERO) (d.index - k) n) place;
 }
 
 unread_none : (q : TypeRow) (m : List ℕ) (p n : ℕ) → IsNever q → NoWindow m p n (kinds_of q) (MeetsConditionOf q)
-unread_none (row kinds asked refusal) m p n h = absurd h
+unread_none (row kinds asked refusal taken) m p n h = absurd h
 unread_none unread m p n h = record { none = λ vs w. w.holds }
 unread_none rowless m p n h = absurd h
 
 own_unread : (t : RecordType) (q : TypeRow) (d : Reading) (n : ℕ) → IsNever q → IsOwnRefusal t q n d d (decode.UnknownRecordTypeValue (number_of t))
-own_unread t (row kinds asked refusal) d n h = absurd h
-own_unread t unread d n h = refl
+own_unread t (row kinds asked refusal taken) d n h = absurd h
+own_unread t unread d n h = (refl, refl)
 own_unread t rowless d n h = absurd h
 
-never_counted : (t : RecordType) (n : ℕ) (d : Reading) → IsNeverRead t → ReadsCounted t n (Err (decode.UnknownRecordTypeValue (number_of t))) d d
-never_counted t n d h = record {
-  outcome = Err (decode.UnknownRecordTypeValue (number_of t));
+never_own : (t : RecordType) (n : ℕ) (d : Reading) → IsNeverRead t → ReadsOwn t n (Err (decode.UnknownRecordTypeValue (number_of t))) d d
+never_own t n d h = record {
   reads = record { behind = stays d; none = unread_none (row_of t) d.message d.index n h };
   own = own_unread t (row_of t) d n h;
+  taken = tt;
   never = λ _. (refl, refl);
-  counted = refl;
 }
+
+pub unread_own : (t : RecordType) (n : ℕ) (d : Reading) → (t ≡ types.ANY) ⊎ ((t ≡ types.AXFR) ⊎ (t ≡ types.IXFR))
+    → ReadsOwn t n (Err (decode.UnknownRecordTypeValue (number_of t))) d d
+unread_own t n d (inl e) = rw e (never_own types.ANY n d tt)
+unread_own t n d (inr (inl e)) = rw e (never_own types.AXFR n d tt)
+unread_own t n d (inr (inr e)) = rw e (never_own types.IXFR n d tt)
 
 pub unread_counted : (t : RecordType) (n : ℕ) (d : Reading) → (t ≡ types.ANY) ⊎ ((t ≡ types.AXFR) ⊎ (t ≡ types.IXFR))
     → ReadsCounted t n (Err (decode.UnknownRecordTypeValue (number_of t))) d d
-unread_counted t n d (inl e) = rw e (never_counted types.ANY n d tt)
-unread_counted t n d (inr (inl e)) = rw e (never_counted types.AXFR n d tt)
-unread_counted t n d (inr (inr e)) = rw e (never_counted types.IXFR n d tt)
+unread_counted t n d h =
+    record { outcome = Err (decode.UnknownRecordTypeValue (number_of t)); given = unread_own t n d h; counted = refl }
 
--- ---- what stands after it
+-- ---- what a type gives by itself, without the value
 
 counted_behind : (t : RecordType) (n : ℕ) (o : Result RData DecodeError) (old new : Reading) → ReadsData t n o old new → StaysBehind old new
 counted_behind t n (Ok v) old new h = h.behind
 counted_behind t n (Err e) old new h = h.behind
 
+pub own_behind : {t : RecordType} {n : ℕ} {o : Result RData DecodeError} {old new : Reading} → ReadsOwn t n o old new → StaysBehind old new
+own_behind {t} {n} {o} {old} {new} h = counted_behind t n o old new h.reads
+
+pub own_result : {t : RecordType} {n : ℕ} (o : Result RData DecodeError) {old new : Reading} → ReadsOwn t n o old new → OwnResult t n old new (without o)
+own_result (Ok v) h = h.taken
+own_result (Err e) h = h.own
+
+pub own_whole : {t : RecordType} {n : ℕ} (o : Result RData DecodeError) {old new : Reading} → ReadsOwn t n o old new
+    → OnOk (without o) (new.index ≡ old.index + n → HasValue old.message old.index n t)
+own_whole (Ok v) h = λ e. record { value = v; fills = h.reads.here e }
+own_whole (Err e) h = tt
+
+pub own_elsewhere : {t : RecordType} {n : ℕ} (o : Result RData DecodeError) {old new : Reading} → ReadsOwn t n o old new
+    → OnOk (without o) (new.index ≢ old.index + n → NoValue old.message old.index n t)
+own_elsewhere {t} (Ok v) h = λ e. no_value t (h.reads.elsewhere e)
+own_elsewhere (Err e) h = tt
+
+pub own_refused : {t : RecordType} {n : ℕ} (o : Result RData DecodeError) {old new : Reading} → ReadsOwn t n o old new
+    → IfErr (without o) (λ e. UnlessMemory e (NoValue old.message old.index n t))
+own_refused (Ok v) h = tt
+own_refused {t} (Err e) h = unless_map e _ _ (no_value t) h.reads.none
+
 pub reads_behind : {t : RecordType} {n : ℕ} {r : Result RData DecodeError} {old new : Reading} → ReadsCounted t n r old new → StaysBehind old new
-reads_behind {t} {n} {r} {old} {new} h = counted_behind t n h.outcome old new h.reads
+reads_behind {t} {n} {r} {old} {new} h = own_behind h.given
 
 pub reads_after : {t : RecordType} {n : ℕ} {r : Result RData DecodeError} {old new : Reading} → ReadsCounted t n r old new
     → OnOk r (new.index ≡ old.index + n)
@@ -348,20 +416,20 @@ reads_after {t} {n} {r} {old} {new} h = rw h.counted (data_after (answered n h.o
 
 pub reads_found : {t : RecordType} {n : ℕ} {r : Result RData DecodeError} {old new : Reading} → ReadsCounted t n r old new
     → IfOk r (λ v. Fills old.message old.index n t v)
-reads_found {t} {n} {r} {old} {new} h = rw h.counted (data_found t h.reads (answered n h.outcome (reads_behind h)))
+reads_found {t} {n} {r} {old} {new} h = rw h.counted (data_found t h.given.reads (answered n h.outcome (reads_behind h)))
 
 pub reads_refused : {t : RecordType} {n : ℕ} {r : Result RData DecodeError} {old new : Reading} → ReadsCounted t n r old new
     → IfErr r (λ e. UnlessMemory e (NoValue old.message old.index n t))
-reads_refused {t} {n} {r} {old} {new} h = rw h.counted (data_refused t h.reads (answered n h.outcome (reads_behind h)))
+reads_refused {t} {n} {r} {old} {new} h = rw h.counted (data_refused t h.given.reads (answered n h.outcome (reads_behind h)))
 
 pub reads_why : {t : RecordType} {n : ℕ} {r : Result RData DecodeError} {old new : Reading} → ReadsCounted t n r old new
     → IfErr r (IsRefusal t n old new)
-reads_why {t} {n} {r} {old} {new} h = rw h.counted (data_why t h.own h.never (answered n h.outcome (reads_behind h)))
+reads_why {t} {n} {r} {old} {new} h = rw h.counted (data_why t h.given.own h.given.taken h.given.never (answered n h.outcome (reads_behind h)))
 
 pub reads_never : {t : RecordType} {n : ℕ} {r : Result RData DecodeError} {old new : Reading} → ReadsCounted t n r old new → IsNeverRead t
     → (new ≡ old) × (r ≡ Err (decode.UnknownRecordTypeValue (number_of t)))
 reads_never {t} {n} {r} {old} {new} h none =
-    let x = h.never none in (x.0, h.counted ∙ ap (λ o. by_length o (new.index - old.index) n) x.1)
+    let x = h.given.never none in (x.0, h.counted ∙ ap (λ o. by_length o (new.index - old.index) n) x.1)
 
 -- of what was found the type is told
 pub reads_kind : (t : RecordType) (m : List ℕ) (p n : ℕ) (r : Result RData DecodeError) → IfOk r (λ v. Fills m p n t v) → IfOk r (λ v. type_of v ≡ t)

@@ -1,5 +1,6 @@
 pub mod Values
 pub mod DataReads
+pub mod OwnReads
 pub mod DataLaws
 pub mod CursorSteps
 pub mod DataWords

@@ -5,8 +5,7 @@ use Rattle.dns_fields.specs.{declared.RDataEncoding.RDataEncoding, Fields.Kind, 
 use Rattle.dns_fields.specs.declared.RDataEncoding.TheVariants as modes
 use Rattle.dns_types.specs.{declared.record_type.RecordType.RecordType, declared.error.DecodeError.DecodeError, declared.error.ProtoError.ProtoError}
 use Rattle.dns_types.specs.declared.record_type.RecordType.TheVariants as types
-use Rattle.dns_types.specs.declared.error.DecodeError.TheVariants as decode
-use Rattle.dns_names_wire.specs.{Facts.Facts, State.Reading, State.Writing, Words.EmitsAs, Words.LacksOctets}
+use Rattle.dns_names_wire.specs.{Facts.Facts, State.Reading, State.Writing, Words.EmitsAs, Words.Took}
 use Rattle.dns_names_wire.specs.Words.{NoWindow, StaysBehind, UnlessMemory, Window}
 use Rattle.dns_words.specs.Straight.{straight_text}
 use Rattle.dns_rdata_base.specs as base
@@ -19,20 +18,26 @@ use Rattle.dns_rdata.specs.declared.record_data.RData.TheVariants as rdata
 
 -- What the data of a type is.
 pub data TypeRow : Type 1 where
-  -- fields in order, what is asked of them beside that they stand, and why the record itself refuses n octets of data
-  row : (kinds : List Kind) → (Values kinds → Type 0) → (ℕ → Reading → DecodeError → Reading → Type 0) → TypeRow
+  -- the fields in order, and what is asked of them beside that they stand; of n octets of RDATA why the record itself rejects
+  -- them, and up to where it reads a value
+  row : (kinds : List Kind) → (Values kinds → Type 0) → (ℕ → Reading → DecodeError → Reading → Type 0) → (ℕ → Reading → Reading → Type 0)
+      → TypeRow
   -- no data is read: a type that only questions have (RFC 1035, 3.2.3; RFC 1995, 2)
   unread : TypeRow
   -- octets of any form
   rowless : TypeRow
 
--- fewer octets are left than the length
-abbrev pub IsShortRefusal : ℕ → Reading → DecodeError → Reading → Type 0
-IsShortRefusal n old e new = (e ≡ decode.InsufficientBytes) × LacksOctets old n
+-- Of n octets of RDATA the record is read from where the decoder was to where it is, whatever n: its fields are encoded there
+-- and hold what is asked, and what holds of each value that its reader returns holds of this one.
+pub record IsTaken {T : Type 0} (f : Facts T) (n : ℕ) (old new : Reading) : Type 0 where
+  pub value : T
+  pub took : Took old f.kinds (f.fields value) new
+  pub holds : f.condition (f.fields value)
+  pub made : f.made n value old new
 
 -- as the facts of the record say
 abbrev pub row_by : {T : Type 0} → Facts T → TypeRow
-row_by f = row f.kinds f.condition f.refusal
+row_by f = row f.kinds f.condition f.refusal (IsTaken f)
 
 abbrev pub row_of : RecordType → TypeRow
 row_of types.A = row_by base.A.a_facts
@@ -46,7 +51,7 @@ row_of types.HINFO = row_by base.HINFO.hinfo_facts
 row_of types.HTTPS = row_by service.HTTPS.https_facts
 row_of types.MX = row_by base.NameRecords.mx_facts
 row_of types.NAPTR = row_by base.NAPTR.naptr_facts
-row_of types.NULL = row base.NULL.null_shape (λ vs. Unit {0}) IsShortRefusal
+row_of types.NULL = row_by base.NULL.null_facts
 row_of types.NS = row_by base.NameRecords.ns_facts
 row_of types.OPENPGPKEY = row_by base.OPENPGPKEY.openpgpkey_facts
 row_of types.OPT = row_by options.OPT.opt_facts
@@ -58,19 +63,19 @@ row_of types.SSHFP = row_by certs.SSHFP.sshfp_facts
 row_of types.SVCB = row_by service.SVCB.svcb_facts
 row_of types.TLSA = row_by certs.TLSA.tlsa_facts
 row_of types.TXT = row_by base.TXT.txt_facts
-row_of types.ZERO = row [] (λ vs. Unit {0}) (λ n old e new. ⊥)
+row_of types.ZERO = row [] (λ vs. Unit {0}) (λ n old e new. ⊥) (λ n old new. new ≡ old)
 row_of types.ANY = unread
 row_of types.AXFR = unread
 row_of types.IXFR = unread
 row_of t = rowless
 
 abbrev pub kinds_of : TypeRow → List Kind
-kinds_of (row kinds asked refusal) = kinds
+kinds_of (row kinds asked refusal taken) = kinds
 kinds_of unread = []
 kinds_of rowless = Rest ∷ []
 
 abbrev pub MeetsConditionOf : (r : TypeRow) → Values (kinds_of r) → Type 0
-MeetsConditionOf (row kinds asked refusal) vs = asked vs
+MeetsConditionOf (row kinds asked refusal taken) vs = asked vs
 MeetsConditionOf unread vs = ⊥
 MeetsConditionOf rowless vs = Unit {0}
 
@@ -196,6 +201,11 @@ pub record Fills (m : List ℕ) (p n : ℕ) (t : RecordType) (v : RData) : Type 
   pub values : Values (shape t)
   pub window : Window m p n (shape t) (MeetsCondition t) values
   pub value : IsValue t values v
+
+-- the octets are the data of a value of the type
+pub record HasValue (m : List ℕ) (p n : ℕ) (t : RecordType) : Type 0 where
+  pub value : RData
+  pub fills : Fills m p n t value
 
 -- the octets are the data of no value of the type
 pub record NoValue (m : List ℕ) (p n : ℕ) (t : RecordType) : Type 0 where

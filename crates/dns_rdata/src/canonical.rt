@@ -119,10 +119,10 @@ impl RData {
         Cursor::new(self, self.is_emittable())
     }
 
-    /// The canonical octet at a place, and none from their number on. Takes no memory. The octets in front of it are gone
-    /// over one by one, so a loop over all of them is for [`RData::canonical_octets`]. Linear in the place; where the
-    /// options of a record stand in no order, each one in front takes some hundred comparisons more, of 1,024 to 16,384
-    /// options, and else as many as there are options.
+    /// The canonical octet at an offset, and `None` from their number on. Allocates nothing. It goes over the octets before
+    /// the offset one by one, so a loop over all octets is for [`RData::canonical_octets`]. The time is linear in the
+    /// offset; where the options of a record are in no order, each option before the offset takes up to some hundred
+    /// comparisons more, and up to 190 where there are fewer than 96 options.
     pub fn octet_at(&self, place: u128) -> Option<u8>
         ensures { result ≡ slice_get (data_octets self.now) place }
     {

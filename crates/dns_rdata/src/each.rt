@@ -59,6 +59,27 @@ macro_rules! read_each {
     };
 }
 
+// Matches the type of the data: the arms that are given first, and then one for each record, which reads it, keeps no value, and
+// returns.
+macro_rules! own_each {
+    (
+        ($record_type:expr, $decoder:ident, $length:ident, $($pattern:pat => $other:expr),+; $last:expr)
+        $(($record:ident $place:literal))+
+    ) => {
+        match $record_type {
+            $($pattern => $other,)+
+            $(RecordType::$record => {
+                let data = $record::read_data($decoder, $length);
+                return without_value(data);
+            })+
+            _ => $last,
+        }
+    };
+    ($($arguments:tt)+) => {
+        with_records!(own_each, ($($arguments)+))
+    };
+}
+
 // Copies a value: the arms that are given first, and then one for each record. Addresses are copied as they are.
 macro_rules! clone_each {
     (($value:expr, $($pattern:pat => $other:expr,)+) (A 0) (AAAA 1) $(($record:ident $place:literal))+) => {
@@ -77,5 +98,6 @@ macro_rules! clone_each {
 pub(crate) use clone_each;
 pub(crate) use each;
 pub(crate) use equal_each;
+pub(crate) use own_each;
 pub(crate) use read_each;
 pub(crate) use with_records;

@@ -6,13 +6,14 @@ ghost use Rattle.dns_fields.specs.Equal.{values_eq};
 ghost use Rattle.dns_types.specs.{RecordTypes.number_of, declared.error.ProtoError.ProtoError as ProtoErrorValue};
 ghost use Rattle.dns_names_wire.specs.{State.Writing, Words.StaysBehind, Words.UnlessMemory, Words.EmitsAs, Words.Extends, Words.Keeps, Words.IsMessage};
 ghost use Rattle.dns_rdata_base.specs.NULL.{null_shape, null_fields};
-ghost use Rattle.dns_rdata.specs.Data.{Fills, NoValue, EmitsData, IsEmittable, IsNeverRead, data_octets, fields_of, mode_for, type_of};
+ghost use Rattle.dns_rdata.specs.Data.{Fills, HasValue, NoValue, EmitsData, IsEmittable, IsNeverRead, data_octets, fields_of, mode_for, type_of};
 ghost use Rattle.dns_rdata.specs.{Equal.equal, Equal.equal_equiv, Equal.record_type_eq, Hashing.data_fed, Hashing.fed_same, Laws.ReadsBack, Laws.ReadsCanonical};
 ghost use Rattle.std.specs.Option.{option_copied};
-ghost use Rattle.dns_rdata.specs.{Laws.TellsApart, Laws.address_of, Laws.target_of, Refusals.IsRefusal, Texts.HasText, Texts.data_text, WholeOctets.whole_data};
+ghost use Rattle.dns_rdata.specs.Refusals.{IsRefusal, OwnResult, without};
+ghost use Rattle.dns_rdata.specs.{Laws.TellsApart, Laws.address_of, Laws.target_of, Texts.HasText, Texts.data_text, WholeOctets.whole_data};
 ghost use Rattle.dns_rdata.specs.declared.record_data.RData.TheVariants as rdata;
 
-use crate::each::{clone_each, each, equal_each, read_each, with_records};
+use crate::each::{clone_each, each, equal_each, own_each, read_each, with_records};
 use crate::traits::RecordData;
 use crate::{
     A, AAAA, ANAME, CAA, CERT, CNAME, CSYNC, HINFO, HTTPS, MX, NAPTR, NS, NULL, OPENPGPKEY, OPT,
@@ -209,6 +210,53 @@ impl RData {
         )
     }
 
+    /// What the record itself gives for RDATA of this type: `Ok` if it reads a value, wherever that ends, and its own error
+    /// otherwise. The decoder is then where reading stopped.
+    ///
+    /// [`read`](RData::read) compares the number of octets with `length` before it returns an error of the record, so it rejects
+    /// most damaged RDATA with [`IncorrectRDataLengthRead`](DecodeError::IncorrectRDataLengthRead). This call tells the error that
+    /// the record has: [`CaaTagInvalid`](DecodeError::CaaTagInvalid) for a bad CAA tag with a value after it. `read` accepts the
+    /// RDATA exactly if this call returns `Ok` and the decoder has moved by `length`. Allocates what `read` does, and frees it.
+    ///
+    /// # Errors
+    ///
+    /// - [`UnknownRecordTypeValue`](DecodeError::UnknownRecordTypeValue): the type is ANY, AXFR or IXFR, of which no data is read.
+    ///   The decoder has not moved.
+    /// - [`Memory`](DecodeError::Memory): an allocation failed.
+    /// - The record's own errors, which [`read`](RData::read) lists.
+    #[inline(never)]
+    pub fn own_result(
+        decoder: &mut BinDecoder<'_>,
+        record_type: RecordType,
+        length: Restrict<u16>,
+    ) -> Result<(), DecodeError>
+        // The record's own value or error, and where it stops.
+        ensures own { OwnResult record_type length decoder.old decoder.new result }
+        // A value that ends at the length is that of the octets; where it ends elsewhere, the octets have none.
+        ensures whole { OnOk result (decoder.new.index ≡ decoder.old.index + length →
+            HasValue decoder.old.message decoder.old.index length record_type) }
+        ensures elsewhere { OnOk result (decoder.new.index ≢ decoder.old.index + length →
+            NoValue decoder.old.message decoder.old.index length record_type) }
+        // Nor have they one after an error, but for memory.
+        ensures refused { IfErr result (λ e. UnlessMemory e (NoValue decoder.old.message decoder.old.index length record_type)) }
+        ensures never { IsNeverRead record_type → (decoder.new ≡ decoder.old)
+            × (result ≡ Err (DecodeError.UnknownRecordTypeValue (number_of record_type))) }
+        ensures behind { StaysBehind decoder.old decoder.new }
+    {
+        // For the proof: brings in that the message is octets and the index is at most its length.
+        let _start = decoder.index();
+        own_each!(record_type, decoder, length,
+            RecordType::ZERO => return Ok(()),
+            RecordType::ANY | RecordType::AXFR | RecordType::IXFR => {
+                return Err(DecodeError::UnknownRecordTypeValue(record_type.into()));
+            };
+            {
+                let data = NULL::read_data(decoder, length);
+                return without_value(data);
+            }
+        )
+    }
+
     /// Appends the octets of the value, its names whole and with their letters, whatever the mode of the encoder: no name
     /// ends by a pointer, so the octets mean the same at any place of any message. Refused as by
     /// [`emit`](BinEncodable::emit). After a refusal the octets that were there stand, and the encoder is in the mode that it
@@ -301,6 +349,17 @@ impl RData {
             (RData::ZERO, RData::ZERO) => true;
             false
         )
+    }
+}
+
+// The result without its value.
+#[inline]
+fn without_value<T: Drop>(outcome: Result<T, DecodeError>) -> Result<(), DecodeError>
+    ensures { result ≡ without outcome }
+{
+    match outcome {
+        Ok(_) => Ok(()),
+        Err(error) => Err(error),
     }
 }
 

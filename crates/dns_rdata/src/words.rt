@@ -57,19 +57,23 @@ impl RData {
         }
     }
 
-    /// The data of a record of this type from its words, one by one as the record's own `from_tokens` reads them; a
-    /// relative name in them gets labels and mark of the origin, where one is given.
+    /// Reads RDATA of this type from its tokens, one by one, as the record's own `from_tokens` does. A relative name is
+    /// completed with the origin, if there is one.
     ///
-    /// What is behind the words of a type is not read, but for OPENPGPKEY and SSHFP, which refuse a further word, and
-    /// TXT, TLSA, SMIMEA, CSYNC, SVCB and HTTPS, whose last field is all further words. Of ZERO no word is read. The
-    /// caller owes an iterator that ends, as every iterator of a list or of a text's parts does.
+    /// Tokens after those of the type are not read, with these exceptions: OPENPGPKEY and SSHFP reject a further token, and
+    /// TXT, TLSA, SMIMEA, CSYNC, SVCB and HTTPS read all of them as their last field. Of ZERO no token is read. The iterator
+    /// must end, as every iterator of a list or of a text's parts does.
     ///
-    /// Refused by [`MissingToken`](ParseError::MissingToken) where a word is missing, and by
-    /// [`Message`](ParseError::Message) where one has none of the field's values or is one too many: both texts name
-    /// the field. By [`AddrParse`](ParseError::AddrParse) where a word is no address, by [`Proto`](ParseError::Proto)
-    /// where it is no name, no type or no key of a parameter. By
-    /// [`UnsupportedRecordType`](ParseError::UnsupportedRecordType) for every other type, those of an unknown number
-    /// too. By [`Memory`](ParseError::Memory) where memory runs out.
+    /// # Errors
+    ///
+    /// - [`MissingToken`](ParseError::MissingToken): a token is missing; the text names its field.
+    /// - [`Message`](ParseError::Message): a token has none of the field's values, or is one too many. The text says which
+    ///   field; that it is the right field is tested and not proved.
+    /// - [`AddrParse`](ParseError::AddrParse): a token is no address.
+    /// - [`Proto`](ParseError::Proto): a token is no name, no type or no key of a parameter.
+    /// - [`UnsupportedRecordType`](ParseError::UnsupportedRecordType): no text is read for the type, as for every type with
+    ///   an unknown number.
+    /// - [`Memory`](ParseError::Memory): an allocation failed.
     ///
     /// ```rust
     /// fn parse_alias(alloc: Global, origin: &Name) -> Result<RData, ParseError> {

@@ -23,7 +23,13 @@ use std::ops::Deref;
 use std::str::FromStr;
 use std::{fmt, str};
 
-/// An IPv4 address, its four octets in network order (RFC 1035, 3.4.1).
+/// A RDATA (RFC 1035, section 3.4.1): an IPv4 address.
+///
+///     +--+--+--+--+
+///     |  ADDRESS  |   4 octets, network order
+///     +--+--+--+--+
+///
+/// The RDATA `c0000201` is `192.0.2.1`.
 #[derive(Clone, Copy, Debug, Eq, Hash, PartialEq)]
 pub struct A(pub Ipv4Addr);
 
@@ -35,8 +41,13 @@ impl A {
         A(Ipv4Addr::new(a, b, c, d))
     }
 
-    /// From one word, the text of an IPv4 address as `from_str` reads it. Further words are not read. Refused by
-    /// [`MissingToken`](ParseError::MissingToken) or [`AddrParse`](ParseError::AddrParse). Takes no memory.
+    /// Reads one token, the text of an IPv4 address as `from_str` reads it. Further tokens are not read. Allocates
+    /// nothing.
+    ///
+    /// # Errors
+    ///
+    /// - [`MissingToken`](ParseError::MissingToken): there is no token.
+    /// - [`AddrParse`](ParseError::AddrParse): the token is no address.
     pub fn from_tokens<S: AsStr + Drop, I: Iterator<Item = S>>(
         mut tokens: I,
     ) -> Result<A, ParseError>
@@ -55,8 +66,12 @@ impl BinDecodable for A {
 
     ghost refuses = { IsCut 4 };
 
-    /// Reads four octets. Where fewer are left it takes them, and is refused by
-    /// [`InsufficientBytes`](DecodeError::InsufficientBytes).
+    /// Reads four octets. Allocates nothing.
+    ///
+    /// # Errors
+    ///
+    /// [`InsufficientBytes`](DecodeError::InsufficientBytes): fewer octets are left. The decoder is then at the end of
+    /// the message.
     #[inline]
     fn read(decoder: &mut BinDecoder<'_>) -> Result<A, DecodeError>
         ensures reads { ReadsBy (λ m p x q. Stands m p a_shape (a_fields x) q) result decoder.old decoder.new }
@@ -125,8 +140,8 @@ impl Deref for A {
     }
 }
 
-/// Four numbers of 0 to 255 joined by points, of one to three digits each, without leading zeros. Any other text is
-/// refused by [`AddrParseError`]. Takes no memory.
+/// Reads four numbers of 0 to 255 joined by dots, of one to three digits each, without leading zeros. Any other text is
+/// an error. Allocates nothing.
 impl FromStr for A {
     type Err = AddrParseError;
 
@@ -167,7 +182,7 @@ impl OrderedRecord for A {
 impl fmt::Display for A {
     ghost output = { λ a. Some (a_text a) };
 
-    /// The four octets in decimal, a point between: `192.0.2.1`.
+    /// Prints the four octets in decimal, with a dot between two: `192.0.2.1`.
     fn fmt<W: fmt::Write>(&self, f: &mut fmt::Formatter<W>) -> fmt::Result {
         let [a, b, c, d] = self.0.octets();
         let mut text = Dotted::new();

@@ -24,7 +24,13 @@ use std::net::Ipv6Addr;
 use std::ops::Deref;
 use std::str::FromStr;
 
-/// An IPv6 address, its sixteen octets in network order (RFC 3596, 2.2).
+/// AAAA RDATA (RFC 3596, section 2.2): an IPv6 address.
+///
+///     +--+--+ .. +--+
+///     |   ADDRESS   |   16 octets, network order
+///     +--+--+ .. +--+
+///
+/// The RDATA `20010db8000000000000000000000001` is `2001:db8::1`.
 #[derive(Clone, Copy, Debug)]
 pub struct AAAA(pub Ipv6Addr);
 
@@ -37,8 +43,13 @@ impl AAAA {
         AAAA(Ipv6Addr::new(a, b, c, d, e, f, g, h))
     }
 
-    /// From one word, the text of an IPv6 address as `from_str` reads it. Further words are not read. Refused by
-    /// [`MissingToken`](ParseError::MissingToken) or [`AddrParse`](ParseError::AddrParse). Takes no memory.
+    /// Reads one token, the text of an IPv6 address as `from_str` reads it. Further tokens are not read. Allocates
+    /// nothing.
+    ///
+    /// # Errors
+    ///
+    /// - [`MissingToken`](ParseError::MissingToken): there is no token.
+    /// - [`AddrParse`](ParseError::AddrParse): the token is no address.
     pub fn from_tokens<S: AsStr + Drop, I: Iterator<Item = S>>(
         mut tokens: I,
     ) -> Result<AAAA, ParseError>
@@ -57,8 +68,12 @@ impl BinDecodable for AAAA {
 
     ghost refuses = { IsCut 16 };
 
-    /// Reads sixteen octets, two by two. Where fewer are left it takes the pairs that are there, and is refused
-    /// by [`InsufficientBytes`](DecodeError::InsufficientBytes).
+    /// Reads sixteen octets. Allocates nothing.
+    ///
+    /// # Errors
+    ///
+    /// [`InsufficientBytes`](DecodeError::InsufficientBytes): fewer octets are left. The decoder is then after the last
+    /// whole pair of octets.
     #[inline]
     fn read(decoder: &mut BinDecoder<'_>) -> Result<AAAA, DecodeError>
         ensures reads { ReadsBy (λ m p x q. Stands m p aaaa_shape (aaaa_fields x) q) result decoder.old decoder.new }
@@ -160,8 +175,8 @@ impl Deref for AAAA {
     }
 }
 
-/// Eight groups of one to four hexadecimal digits joined by colons, one `::` in place of groups of zero, the last two
-/// groups perhaps as an IPv4 address (RFC 4291, 2.2). Any other text is refused by [`AddrParseError`]. Takes no memory.
+/// Reads eight groups of one to four hexadecimal digits joined by colons, one `::` in place of groups of zero, the last
+/// two groups perhaps as an IPv4 address (RFC 4291, section 2.2). Any other text is an error. Allocates nothing.
 impl FromStr for AAAA {
     type Err = AddrParseError;
 
@@ -202,8 +217,8 @@ impl OrderedRecord for AAAA {
 impl fmt::Display for AAAA {
     ghost output = { λ a. Some (aaaa_text a) };
 
-    /// Eight groups in hexadecimal, the first longest run of at least two groups of zero as `::`: `2001:db8::1`; an
-    /// IPv4 address that is mapped as `::ffff:192.0.2.1`.
+    /// Prints eight groups in hexadecimal, the first longest run of at least two groups of zero as `::`: `2001:db8::1`.
+    /// A mapped IPv4 address is printed as `::ffff:192.0.2.1`.
     fn fmt<W: fmt::Write>(&self, f: &mut fmt::Formatter<W>) -> fmt::Result {
         let address = self.0;
         write!(f, "{address}")

@@ -20,17 +20,23 @@ use std::cmp::Ordering;
 use std::convert::AsStr;
 use std::fmt;
 
-/// A machine and its system, each a character string (RFC 1035, 3.3.2).
+/// HINFO RDATA (RFC 1035, section 3.3.2): a machine and its operating system.
+///
+///     +------+-------+------+-------+
+///     |LENGTH/  CPU  |LENGTH/  OS   /   two character strings
+///     +------+-------+------+-------+
+///
+/// The RDATA `03637075026f73` is `cpu os`.
 #[derive(Clone, Debug, Drop, Eq, Hash, PartialEq)]
 pub struct HINFO {
-    /// The machine; at most 255 octets are emitted.
+    /// The machine: a character string, at most 255 octets on emit.
     pub cpu: SmallOctets<32>,
-    /// The operating system; at most 255 octets are emitted.
+    /// The operating system: a character string, at most 255 octets on emit.
     pub os: SmallOctets<32>,
 }
 
 impl HINFO {
-    /// With these texts, which are taken: up to 32 octets are copied into the value, more are moved.
+    /// Makes a record of these texts, which are moved: up to 32 octets are kept in the value.
     pub fn new(cpu: String, os: String) -> HINFO
         ensures cpu { result.cpu ≡ string_bytes cpu }
         ensures os { result.os ≡ string_bytes os }
@@ -41,7 +47,7 @@ impl HINFO {
         }
     }
 
-    /// With these octets, which are taken as those of `new`.
+    /// Makes a record of these octets, which are moved as those of [`new`](HINFO::new).
     pub fn from_bytes(cpu: BoxedSlice<u8>, os: BoxedSlice<u8>) -> HINFO
         ensures cpu { result.cpu ≡ boxed_slice_items cpu }
         ensures os { result.os ≡ boxed_slice_items os }
@@ -52,8 +58,12 @@ impl HINFO {
         }
     }
 
-    /// From two words, cpu and os, whose octets are kept. Further words are not read. Refused by
-    /// [`MissingToken`](ParseError::MissingToken) or [`Memory`](ParseError::Memory).
+    /// Reads two tokens, cpu and os, octet by octet. Further tokens are not read.
+    ///
+    /// # Errors
+    ///
+    /// - [`MissingToken`](ParseError::MissingToken): a token is missing.
+    /// - [`Memory`](ParseError::Memory): an allocation failed.
     pub fn from_tokens<S: AsStr + Drop, I: Iterator<Item = S>>(
         alloc: Global,
         mut tokens: I,
@@ -92,9 +102,13 @@ impl BinDecodable for HINFO {
 
     ghost refuses = { RecordRefuses hinfo_facts };
 
-    /// Reads two character strings. Where one lacks octets it is refused by
-    /// [`InsufficientBytes`](DecodeError::InsufficientBytes): the strings before it, and its length octet where that is
-    /// there, are taken. Memory is asked for once for each string of more than 32 octets, when both were read.
+    /// Reads two character strings. Allocates once for each string of more than 32 octets, after both were read.
+    ///
+    /// # Errors
+    ///
+    /// - [`InsufficientBytes`](DecodeError::InsufficientBytes): a string lacks octets. The strings before it, and its
+    ///   length octet if it is there, are read.
+    /// - [`Memory`](DecodeError::Memory): an allocation failed.
     #[inline]
     fn read(decoder: &mut BinDecoder<'_>) -> Result<HINFO, DecodeError> {
         HINFO::read_fields(decoder)
@@ -104,8 +118,11 @@ impl BinDecodable for HINFO {
 impl BinEncodable for HINFO {
     ghost emits = { λ x r old new. Emits hinfo_shape (hinfo_fields x) r old new };
 
-    /// Appends the two character strings. One of more than 255 octets is refused by [`Message`](ProtoError::Message);
-    /// the first one may then stand behind the start.
+    /// Appends the two character strings.
+    ///
+    /// # Errors
+    ///
+    /// [`Message`](ProtoError::Message): a string has more than 255 octets. The first one may have been appended.
     fn emit(&self, encoder: &mut BinEncoder<'_>) -> Result<(), ProtoError> {
         encoder.emit_character_data(self.cpu.as_slice())?;
         encoder.emit_character_data(self.os.as_slice())?;
@@ -136,7 +153,7 @@ impl OrderedRecord for HINFO {
 impl fmt::Display for HINFO {
     ghost output = { λ x. Some (hinfo_text x) };
 
-    /// The two strings, a blank between; U+FFFD stands for octets that are not UTF-8.
+    /// Prints the two strings with a blank between, and U+FFFD for octets that are not UTF-8.
     #[tactic(auto, unfolding(crate::specs::Lossy::lossy))]
     fn fmt<W: fmt::Write>(&self, f: &mut fmt::Formatter<W>) -> fmt::Result {
         let cpu = BStr::new(self.cpu.as_slice());

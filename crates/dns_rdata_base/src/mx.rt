@@ -17,7 +17,15 @@ use std::cmp::Ordering;
 use std::convert::AsStr;
 use std::fmt;
 
-/// A host that takes mail for the owner: a preference of two octets and a name (RFC 1035, 3.3.9).
+/// MX RDATA (RFC 1035, section 3.3.9): a host that receives mail for the owner.
+///
+///     +--+--+----------+
+///     |PREFERENCE      |   u16, lower is tried first
+///     +--+--+----------+
+///     /    EXCHANGE    /   a domain name, compressed on emit
+///     +--+--+----------+
+///
+/// The RDATA `0100014e00` is `256 N.`.
 #[derive(Clone, Debug, Drop, Eq, Hash, PartialEq)]
 pub struct MX {
     /// Lower values are tried first; 16 bits.
@@ -27,7 +35,7 @@ pub struct MX {
 }
 
 impl MX {
-    /// With these fields.
+    /// Makes a record of these fields.
     pub fn new(preference: u16, exchange: Name) -> MX
         ensures { result ≡ record { preference = preference; exchange = exchange } }
     {
@@ -37,9 +45,15 @@ impl MX {
         }
     }
 
-    /// From two words: preference, a decimal number of 16 bits, and exchange, a name, which the origin completes. Further
-    /// words are not read. Refused by [`MissingToken`](ParseError::MissingToken), [`Message`](ParseError::Message) (no
-    /// such number), [`Proto`](ParseError::Proto) (no name) or [`Memory`](ParseError::Memory).
+    /// Reads two tokens: preference, a decimal number of 16 bits, and exchange, a name, which is completed with the
+    /// origin if it is relative. Further tokens are not read.
+    ///
+    /// # Errors
+    ///
+    /// - [`MissingToken`](ParseError::MissingToken): a token is missing.
+    /// - [`Message`](ParseError::Message): the first token is no such number.
+    /// - [`Proto`](ParseError::Proto): the second token is no name.
+    /// - [`Memory`](ParseError::Memory): an allocation failed.
     pub fn from_tokens<S: AsStr + Drop, I: Iterator<Item = S>>(
         alloc: Global,
         mut tokens: I,
@@ -68,7 +82,7 @@ impl DecodesFields for MX {
 }
 
 impl EncodesFields for MX {
-    /// A name ends with a pointer to an earlier place where it can (RFC 1035, 4.1.4).
+    /// Appends the fields, with the name compressed against earlier names of the message (RFC 1035, section 4.1.4).
     const MODE: RDataEncoding = RDataEncoding::StandardRecord;
 
     ghost MODE = { modes.StandardRecord };
@@ -104,7 +118,7 @@ impl OrderedRecord for MX {
 impl fmt::Display for MX {
     ghost output = { λ x. Some (straight_text mx_facts x) };
 
-    /// The fields in order, a blank between.
+    /// Prints the fields in order, with a blank between.
     fn fmt<W: fmt::Write>(&self, f: &mut fmt::Formatter<W>) -> fmt::Result {
         write!(f, "{} {}", self.preference, self.exchange)
     }

@@ -18,12 +18,16 @@ use std::convert::AsStr;
 use std::fmt;
 use std::ops::Deref;
 
-/// The canonical name of an alias: a name to the end (RFC 1035, 3.3.1).
+/// CNAME RDATA (RFC 1035, section 3.3.1): the canonical name of an alias.
+///
+///     /   CNAME   /   a domain name, compressed on emit
+///
+/// The RDATA `0377777700` is `www.`.
 #[derive(Clone, Debug, Drop, Eq, Hash, PartialEq)]
 pub struct CNAME(pub Name);
 
 impl CNAME {
-    /// From one word, the name, as `ANAME::from_tokens`.
+    /// Reads one token, the name, as [`ANAME::from_tokens`].
     pub fn from_tokens<S: AsStr + Drop, I: Iterator<Item = S>>(
         alloc: Global,
         mut tokens: I,
@@ -49,7 +53,7 @@ impl DecodesFields for CNAME {
 }
 
 impl EncodesFields for CNAME {
-    /// A name ends with a pointer to an earlier place where it can (RFC 1035, 4.1.4).
+    /// Appends the name, compressed against earlier names of the message (RFC 1035, section 4.1.4).
     const MODE: RDataEncoding = RDataEncoding::StandardRecord;
 
     ghost MODE = { modes.StandardRecord };
@@ -84,18 +88,22 @@ impl OrderedRecord for CNAME {
 impl fmt::Display for CNAME {
     ghost output = { λ x. Some (straight_text cname_facts x) };
 
-    /// The name.
+    /// Prints the name.
     fn fmt<W: fmt::Write>(&self, f: &mut fmt::Formatter<W>) -> fmt::Result {
         write!(f, "{}", self.0)
     }
 }
 
-/// A name server of the zone: a name to the end (RFC 1035, 3.3.11).
+/// NS RDATA (RFC 1035, section 3.3.11): a name server of the zone.
+///
+///     /   NSDNAME   /   a domain name, compressed on emit
+///
+/// The RDATA `036e733100` is `ns1.`.
 #[derive(Clone, Debug, Drop, Eq, Hash, PartialEq)]
 pub struct NS(pub Name);
 
 impl NS {
-    /// From one word, the name, as `ANAME::from_tokens`.
+    /// Reads one token, the name, as [`ANAME::from_tokens`].
     pub fn from_tokens<S: AsStr + Drop, I: Iterator<Item = S>>(
         alloc: Global,
         mut tokens: I,
@@ -121,7 +129,7 @@ impl DecodesFields for NS {
 }
 
 impl EncodesFields for NS {
-    /// A name ends with a pointer to an earlier place where it can (RFC 1035, 4.1.4).
+    /// Appends the name, compressed against earlier names of the message (RFC 1035, section 4.1.4).
     const MODE: RDataEncoding = RDataEncoding::StandardRecord;
 
     ghost MODE = { modes.StandardRecord };
@@ -156,18 +164,22 @@ impl OrderedRecord for NS {
 impl fmt::Display for NS {
     ghost output = { λ x. Some (straight_text ns_facts x) };
 
-    /// The name.
+    /// Prints the name.
     fn fmt<W: fmt::Write>(&self, f: &mut fmt::Formatter<W>) -> fmt::Result {
         write!(f, "{}", self.0)
     }
 }
 
-/// The name that is pointed to: a name to the end (RFC 1035, 3.3.12).
+/// PTR RDATA (RFC 1035, section 3.3.12): the name that an address or a name points to.
+///
+///     /   PTRDNAME   /   a domain name, compressed on emit
+///
+/// The RDATA `04686f737400` is `host.`.
 #[derive(Clone, Debug, Drop, Eq, Hash, PartialEq)]
 pub struct PTR(pub Name);
 
 impl PTR {
-    /// From one word, the name, as `ANAME::from_tokens`.
+    /// Reads one token, the name, as [`ANAME::from_tokens`].
     pub fn from_tokens<S: AsStr + Drop, I: Iterator<Item = S>>(
         alloc: Global,
         mut tokens: I,
@@ -193,7 +205,7 @@ impl DecodesFields for PTR {
 }
 
 impl EncodesFields for PTR {
-    /// A name ends with a pointer to an earlier place where it can (RFC 1035, 4.1.4).
+    /// Appends the name, compressed against earlier names of the message (RFC 1035, section 4.1.4).
     const MODE: RDataEncoding = RDataEncoding::StandardRecord;
 
     ghost MODE = { modes.StandardRecord };
@@ -228,20 +240,28 @@ impl OrderedRecord for PTR {
 impl fmt::Display for PTR {
     ghost output = { λ x. Some (straight_text ptr_facts x) };
 
-    /// The name.
+    /// Prints the name.
     fn fmt<W: fmt::Write>(&self, f: &mut fmt::Formatter<W>) -> fmt::Result {
         write!(f, "{}", self.0)
     }
 }
 
-/// The name whose addresses the owner has: a name to the end (draft-ietf-dnsop-aname).
+/// ANAME RDATA (draft-ietf-dnsop-aname, type 65305 of private use): the name whose addresses the owner has.
+///
+///     /   TARGET   /   a domain name, uncompressed on emit
+///
+/// The RDATA `0377777700` is `www.`.
 #[derive(Clone, Debug, Drop, Eq, Hash, PartialEq)]
 pub struct ANAME(pub Name);
 
 impl ANAME {
-    /// From one word, the text of a name, which the origin completes. Further words are not read. Refused by
-    /// [`MissingToken`](ParseError::MissingToken), [`Proto`](ParseError::Proto) (no name) or
-    /// [`Memory`](ParseError::Memory).
+    /// Reads one token, the text of a name; a relative name is completed with the origin. Further tokens are not read.
+    ///
+    /// # Errors
+    ///
+    /// - [`MissingToken`](ParseError::MissingToken): there is no token.
+    /// - [`Proto`](ParseError::Proto): the token is no name.
+    /// - [`Memory`](ParseError::Memory): an allocation failed.
     pub fn from_tokens<S: AsStr + Drop, I: Iterator<Item = S>>(
         alloc: Global,
         mut tokens: I,
@@ -267,7 +287,7 @@ impl DecodesFields for ANAME {
 }
 
 impl EncodesFields for ANAME {
-    /// The name is written whole, its letters kept.
+    /// Appends the name uncompressed, with case preserved.
     const MODE: RDataEncoding = RDataEncoding::Other;
 
     ghost MODE = { modes.Other };
@@ -302,7 +322,7 @@ impl OrderedRecord for ANAME {
 impl fmt::Display for ANAME {
     ghost output = { λ x. Some (straight_text aname_facts x) };
 
-    /// The name.
+    /// Prints the name.
     fn fmt<W: fmt::Write>(&self, f: &mut fmt::Formatter<W>) -> fmt::Result {
         write!(f, "{}", self.0)
     }

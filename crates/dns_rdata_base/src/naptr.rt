@@ -22,8 +22,14 @@ use std::cmp::Ordering;
 use std::convert::AsStr;
 use std::fmt;
 
-/// A rule that rewrites a name: order and preference of two octets each, three character strings and a name (RFC 3403,
-/// 4.1).
+/// NAPTR RDATA (RFC 3403, section 4.1): a rule that rewrites a name.
+///
+///     +----+----+----+----+-------+---------+--------+-------------+
+///     |  ORDER  |PREFERENCE/ FLAGS / SERVICES / REGEXP / REPLACEMENT /
+///     +----+----+----+----+-------+---------+--------+-------------+
+///        u16       u16     three character strings     a domain name, uncompressed on emit
+///
+/// The RDATA `0008001001610000016200` is `8 16 "a" "" "" b.`.
 #[derive(Clone, Debug, Drop, Eq, Hash, PartialEq)]
 pub struct NAPTR {
     /// Lower values are tried first; 16 bits.
@@ -48,7 +54,7 @@ pub fn verify_flags(flags: &[u8]) -> bool
 }
 
 impl NAPTR {
-    /// With these fields, which are moved.
+    /// Makes a record of these fields, which are moved.
     pub fn new(
         order: u16,
         preference: u16,
@@ -77,11 +83,16 @@ impl NAPTR {
         }
     }
 
-    /// From six words: order and preference, decimal numbers of 16 bits; flags, digits and letters; services and
-    /// regexp, whose octets are kept; and replacement, a name, which the origin completes where one is given. Further
-    /// words are not read. Refused by [`MissingToken`](ParseError::MissingToken), by [`Message`](ParseError::Message)
-    /// where a word is no such number or has another character than a flag, by [`Proto`](ParseError::Proto) where one
-    /// is no name, or by [`Memory`](ParseError::Memory).
+    /// Reads six tokens: order and preference, decimal numbers of 16 bits; flags, digits and letters; services and
+    /// regexp, octet by octet; and replacement, a name, which is completed with the origin if it is relative. Further
+    /// tokens are not read.
+    ///
+    /// # Errors
+    ///
+    /// - [`MissingToken`](ParseError::MissingToken): a token is missing.
+    /// - [`Message`](ParseError::Message): a token is no such number, or has a character that is no flag.
+    /// - [`Proto`](ParseError::Proto): the last token is no name.
+    /// - [`Memory`](ParseError::Memory): an allocation failed.
     pub fn from_tokens<S: AsStr + Drop, I: Iterator<Item = S>>(
         alloc: Global,
         mut tokens: I,
@@ -138,8 +149,8 @@ impl Record for NAPTR {
 impl DecodesFields for NAPTR {
     ghost ends = { (tt, (tt, (tt, (tt, (tt, (tt, (tt, tt))))))) };
 
-    /// The flags are tested as soon as they are taken: where an octet of theirs is no letter and no digit, the data is
-    /// refused by [`NaptrFlagsInvalid`](DecodeError::NaptrFlagsInvalid).
+    /// Reads the fields. The flags are tested as soon as they are read: if one of their octets is no letter and no
+    /// digit, it fails with [`NaptrFlagsInvalid`](DecodeError::NaptrFlagsInvalid).
     fn read_fields(decoder: &mut BinDecoder<'_>) -> Result<NAPTR, DecodeError> {
         let alloc = decoder.allocator();
         let order = decoder.read_u16()?.unverified();
@@ -189,13 +200,13 @@ impl NAPTR {
 }
 
 impl EncodesFields for NAPTR {
-    /// The name is written whole, its letters kept.
+    /// The name is appended uncompressed, with case preserved.
     const MODE: RDataEncoding = RDataEncoding::Canonical;
 
     ghost MODE = { modes.Canonical };
 
-    /// A string of more than 255 octets is refused by [`Message`](ProtoError::Message); what comes before it may then
-    /// stand behind the start.
+    /// Appends the fields. Fails with [`Message`](ProtoError::Message) if a string has more than 255 octets; the fields
+    /// before it may have been appended.
     fn emit_fields(&self, encoder: &mut BinEncoder<'_>) -> Result<(), ProtoError> {
         self.emit_numbers(encoder)?;
         self.emit_rest(encoder)
@@ -225,7 +236,8 @@ impl OrderedRecord for NAPTR {
 impl fmt::Display for NAPTR {
     ghost output = { λ x. Some (naptr_text x) };
 
-    /// The fields in order, a blank between, the strings in quotes; U+FFFD stands for octets that are not UTF-8.
+    /// Prints the fields in order with a blank between, the strings in quotes, and U+FFFD for octets that are not
+    /// UTF-8.
     #[tactic(auto, unfolding(crate::specs::Lossy::lossy))]
     fn fmt<W: fmt::Write>(&self, f: &mut fmt::Formatter<W>) -> fmt::Result {
         let flags = BStr::new(self.flags.as_slice());

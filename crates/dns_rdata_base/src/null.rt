@@ -15,7 +15,9 @@ use std::alloc::Global;
 use std::cmp::Ordering;
 use std::fmt;
 
-/// Octets of any number without a form, all of a record's length (RFC 1035, 3.3.10).
+/// NULL RDATA (RFC 1035, section 3.3.10): any octets, all of RDLENGTH.
+///
+/// The RDATA `abcd` is `q80=` (base64).
 #[derive(Clone, Debug, Drop, Eq, Hash, PartialEq)]
 pub struct NULL {
     /// The octets.
@@ -39,7 +41,7 @@ impl NULL {
         NULL::new(alloc)
     }
 
-    /// With these octets. The caller owes at least one.
+    /// Makes a record of these octets. There must be at least one.
     pub fn with(anything: Vec<u8>) -> NULL
         requires { anything.items ≢ [] }
         ensures { result.anything ≡ anything.items }
@@ -55,9 +57,14 @@ impl Record for NULL {
 }
 
 impl RecordDataDecodable for NULL {
-    /// Reads all octets of the length, which asks for memory once where they are more than 64. Where fewer are left it
-    /// is refused by [`InsufficientBytes`](DecodeError::InsufficientBytes), where memory runs out by
-    /// [`Memory`](DecodeError::Memory); it then takes none.
+    /// Reads all octets of RDLENGTH. Allocates once if they are more than 64.
+    ///
+    /// # Errors
+    ///
+    /// Nothing is read then.
+    ///
+    /// - [`InsufficientBytes`](DecodeError::InsufficientBytes): fewer octets are left.
+    /// - [`Memory`](DecodeError::Memory): the allocation failed.
     #[inline]
     fn read_data(decoder: &mut BinDecoder<'_>, length: Restrict<u16>) -> Result<NULL, DecodeError> {
         // Called for its clauses: the message is octets, and the place is in it.
@@ -93,7 +100,7 @@ impl OrderedRecord for NULL {
 impl fmt::Display for NULL {
     ghost output = { λ x. Some (null_text x) };
 
-    /// Base64 (RFC 4648, 4).
+    /// Prints the octets in base64 (RFC 4648, section 4).
     fn fmt<W: fmt::Write>(&self, f: &mut fmt::Formatter<W>) -> fmt::Result {
         write!(f, "{}", Base64Text(self.anything.as_slice()))
     }

@@ -17,7 +17,9 @@ use std::cmp::Ordering;
 use std::convert::AsStr;
 use std::fmt;
 
-/// A public key in the format of OpenPGP, all octets of a record's length (RFC 7929, 2.1).
+/// OPENPGPKEY RDATA (RFC 7929, section 2.1): a public key in the format of OpenPGP, all octets of RDLENGTH.
+///
+/// The RDATA `abcd` is `q80=` (base64).
 #[derive(Clone, Debug, Drop, Eq, Hash, PartialEq)]
 pub struct OPENPGPKEY {
     /// The key's octets.
@@ -25,7 +27,7 @@ pub struct OPENPGPKEY {
 }
 
 impl OPENPGPKEY {
-    /// With this key, which is taken: up to 64 octets are copied into the value, more are moved.
+    /// Makes a record of this key, which is moved: up to 64 octets are kept in the value.
     pub fn new(public_key: Vec<u8>) -> OPENPGPKEY
         ensures { result.public_key ≡ public_key.items }
     {
@@ -34,8 +36,13 @@ impl OPENPGPKEY {
         }
     }
 
-    /// From one word, the key in base64; a further word is refused. Refused by
-    /// [`MissingToken`](ParseError::MissingToken), [`Message`](ParseError::Message) or [`Memory`](ParseError::Memory).
+    /// Reads one token, the key in base64.
+    ///
+    /// # Errors
+    ///
+    /// - [`MissingToken`](ParseError::MissingToken): there is no token.
+    /// - [`Message`](ParseError::Message): the token is not base64, or there is a further one.
+    /// - [`Memory`](ParseError::Memory): an allocation failed.
     pub fn from_tokens<S: AsStr + Drop, I: Iterator<Item = S>>(
         alloc: Global,
         mut tokens: I,
@@ -56,9 +63,14 @@ impl Record for OPENPGPKEY {
 }
 
 impl RecordDataDecodable for OPENPGPKEY {
-    /// Reads all octets of the length, which asks for memory once where they are more than 64. Where fewer are left it
-    /// is refused by [`InsufficientBytes`](DecodeError::InsufficientBytes), where memory runs out by
-    /// [`Memory`](DecodeError::Memory); it then takes none.
+    /// Reads all octets of RDLENGTH. Allocates once if they are more than 64.
+    ///
+    /// # Errors
+    ///
+    /// Nothing is read then.
+    ///
+    /// - [`InsufficientBytes`](DecodeError::InsufficientBytes): fewer octets are left.
+    /// - [`Memory`](DecodeError::Memory): the allocation failed.
     #[inline]
     fn read_data(
         decoder: &mut BinDecoder<'_>,
@@ -97,7 +109,7 @@ impl OrderedRecord for OPENPGPKEY {
 impl fmt::Display for OPENPGPKEY {
     ghost output = { λ x. Some (openpgpkey_text x) };
 
-    /// Base64 (RFC 4648, 4).
+    /// Prints the octets in base64 (RFC 4648, section 4).
     fn fmt<W: fmt::Write>(&self, f: &mut fmt::Formatter<W>) -> fmt::Result {
         write!(f, "{}", Base64Text(self.public_key.as_slice()))
     }

@@ -47,8 +47,8 @@ pub fn is_equal<T: PartialEq>(a: &T, b: &T) -> bool
     *a == *b
 }
 
-/// The order of two records that can be emitted, as it was found field by field. `None` where it ties two that are not equal. They are
-/// compared in place, or by a call.
+/// The order of two records that can be emitted, as it was found field by field. `None` where it ties two that are not
+/// equal. They are compared in place, or by a call.
 #[inline]
 #[tactic(auto, using(dns_pieces::proofs::Fronts::ordered))]
 pub fn unless_tied<T: Record + PartialEq>(

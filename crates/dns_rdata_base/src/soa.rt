@@ -23,11 +23,18 @@ use std::cmp::Ordering;
 use std::convert::AsStr;
 use std::fmt;
 
-/// The start of a zone of authority: two names, and five numbers of four octets each (RFC 1035, 3.3.13). Refresh, retry
-/// and expire are read as signed numbers, in two's complement.
+/// SOA RDATA (RFC 1035, section 3.3.13): the start of a zone of authority.
+///
+///     +-------+-------+--------+---------+-------+--------+---------+
+///     / MNAME / RNAME / SERIAL | REFRESH | RETRY | EXPIRE | MINIMUM |
+///     +-------+-------+--------+---------+-------+--------+---------+
+///      two domain names,         five numbers of 4 octets; refresh, retry and
+///      compressed on emit        expire are signed, in two's complement
+///
+/// The RDATA `016d000172000000000100000002000000030000000400000005` is `m. r. 1 2 3 4 5`.
 #[derive(Clone, Debug, Drop, Hash)]
 pub struct SOA {
-    /// The name server that the data came from.
+    /// The name server that the zone came from.
     pub mname: Name,
     /// The mailbox of who is responsible, its first dot in place of the `@`.
     pub rname: Name,
@@ -39,12 +46,12 @@ pub struct SOA {
     pub retry: i32,
     /// Seconds until the zone is no longer authoritative; 32 bits, signed.
     pub expire: i32,
-    /// Seconds for which an answer that there is none stands (RFC 2308, 4); 32 bits.
+    /// Seconds for which a negative answer is valid (RFC 2308, section 4); 32 bits.
     pub minimum: u32,
 }
 
 impl SOA {
-    /// With these fields.
+    /// Makes a record of these fields.
     pub fn new(
         mname: Name,
         rname: Name,
@@ -67,18 +74,24 @@ impl SOA {
         }
     }
 
-    /// Puts the serial up by one; behind 4294967295 stands 0.
+    /// Adds one to the serial; 0 follows 4294967295.
     pub fn increment_serial(&mut self)
         ensures { self.new ≡ record self.old { serial = (self.old.serial + 1) % 4294967296 } }
     {
         self.serial = self.serial.wrapping_add(1);
     }
 
-    /// From seven words: mname and rname, names, which the origin completes where one is given; and serial, refresh,
-    /// retry, expire and minimum, times to live (`parse_ttl`), of which refresh, retry and expire are at most
-    /// 2147483647. Further words are not read. Refused by [`MissingToken`](ParseError::MissingToken), by
-    /// [`Message`](ParseError::Message) where a word is no such time, by [`Proto`](ParseError::Proto) where one is no
-    /// name, or by [`Memory`](ParseError::Memory).
+    /// Reads seven tokens: mname and rname, names, which are completed with the origin if they are relative; and
+    /// serial, refresh, retry, expire and minimum, times to live (`parse_ttl`), of which refresh, retry and expire are
+    /// at most
+    /// 2147483647. Further tokens are not read.
+    ///
+    /// # Errors
+    ///
+    /// - [`MissingToken`](ParseError::MissingToken): a token is missing.
+    /// - [`Message`](ParseError::Message): a token is no such time.
+    /// - [`Proto`](ParseError::Proto): one of the first two tokens is no name.
+    /// - [`Memory`](ParseError::Memory): an allocation failed.
     pub fn from_tokens<S: AsStr + Drop, I: Iterator<Item = S>>(
         alloc: Global,
         mut tokens: I,
@@ -174,7 +187,7 @@ impl DecodesFields for SOA {
 }
 
 impl EncodesFields for SOA {
-    /// Names end with a pointer to an earlier place where they can (RFC 1035, 4.1.4).
+    /// Appends the fields, with names compressed against earlier names of the message (RFC 1035, section 4.1.4).
     const MODE: RDataEncoding = RDataEncoding::StandardRecord;
 
     ghost MODE = { modes.StandardRecord };
@@ -255,7 +268,7 @@ impl OrderedRecord for SOA {
 impl fmt::Display for SOA {
     ghost output = { λ x. Some (soa_text x) };
 
-    /// The fields in order, a blank between.
+    /// Prints the fields in order, with a blank between.
     fn fmt<W: fmt::Write>(&self, f: &mut fmt::Formatter<W>) -> fmt::Result {
         write!(
             f,

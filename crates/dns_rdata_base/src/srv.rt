@@ -18,7 +18,13 @@ use std::cmp::Ordering;
 use std::convert::AsStr;
 use std::fmt;
 
-/// A host and port of a service: priority, weight and port of two octets each, and a name (RFC 2782).
+/// SRV RDATA (RFC 2782): a host and a port of a service.
+///
+///     +----+----+----+----+----+----+--------+
+///     |PRIORITY | WEIGHT  |  PORT   / TARGET /   three u16, and a domain name, uncompressed on emit
+///     +----+----+----+----+----+----+--------+
+///
+/// The RDATA `000100020003016100` is `1 2 3 a.`.
 #[derive(Clone, Debug, Drop, Eq, Hash, PartialEq)]
 pub struct SRV {
     /// Lower values are tried first; 16 bits.
@@ -32,7 +38,7 @@ pub struct SRV {
 }
 
 impl SRV {
-    /// With these fields.
+    /// Makes a record of these fields.
     pub fn new(priority: u16, weight: u16, port: u16, target: Name) -> SRV
         ensures { result ≡ record { priority = priority; weight = weight; port = port; target = target } }
     {
@@ -44,8 +50,8 @@ impl SRV {
         }
     }
 
-    /// From four words: priority, weight and port, decimal numbers of 16 bits, and target, a name. Further words are
-    /// not read. Refused as `MX::from_tokens`.
+    /// Reads four tokens: priority, weight and port, decimal numbers of 16 bits, and target, a name. Further tokens are
+    /// not read. Fails as `MX::from_tokens`.
     pub fn from_tokens<S: AsStr + Drop, I: Iterator<Item = S>>(
         alloc: Global,
         mut tokens: I,
@@ -109,7 +115,7 @@ impl SRV {
 }
 
 impl EncodesFields for SRV {
-    /// The name is written whole, its letters kept.
+    /// Appends the fields, with the name uncompressed and case preserved.
     const MODE: RDataEncoding = RDataEncoding::Canonical;
 
     ghost MODE = { modes.Canonical };
@@ -149,7 +155,7 @@ impl OrderedRecord for SRV {
 impl fmt::Display for SRV {
     ghost output = { λ x. Some (straight_text srv_facts x) };
 
-    /// The fields in order, a blank between.
+    /// Prints the fields in order, with a blank between.
     fn fmt<W: fmt::Write>(&self, f: &mut fmt::Formatter<W>) -> fmt::Result {
         write!(
             f,

@@ -25,15 +25,21 @@ use std::cmp::Ordering;
 use std::convert::AsStr;
 use std::fmt;
 
-/// Character strings, none or more, which fill a record's length (RFC 1035, 3.3.14).
+/// TXT RDATA (RFC 1035, section 3.3.14): character strings, none or more.
+///
+///     +------+--------+
+///     |LENGTH/ STRING /   none or more, to the end of the RDATA
+///     +------+--------+
+///
+/// The RDATA `03616263` is `abc`.
 #[derive(Clone, Debug, Drop, Eq, Hash, PartialEq)]
 pub struct TXT {
-    /// The strings, in order; of each at most 255 octets are emitted.
+    /// The strings in order, each of at most 255 octets on emit.
     pub txt_data: Strings,
 }
 
 impl TXT {
-    /// With these texts, which are moved. Asks for memory once, for the list.
+    /// Makes a record of these texts, which are moved. Allocates once, for the list.
     pub fn new(txt_data: Vec<String>) -> Result<TXT, AllocError>
         ensures { IfOk result (λ x. x.txt_data ≡ map string_bytes txt_data.items) }
     {
@@ -46,7 +52,7 @@ impl TXT {
         })
     }
 
-    /// With copies of these octets. Asks for memory once for the list, and once for each string.
+    /// Makes a record of copies of these octets. Allocates once for the list, and once for each string.
     pub fn from_bytes(txt_data: Vec<&[u8]>) -> Result<TXT, AllocError>
         ensures { IfOk result (λ x. x.txt_data ≡ map (λ s. s.now) txt_data.entry.items) }
     {
@@ -60,8 +66,8 @@ impl TXT {
         })
     }
 
-    /// From all words, also none: each is a string, its octets as they are. Fails only for want of memory. The caller
-    /// owes an iterator that ends.
+    /// Reads all tokens, or none: each is a string, octet by octet. Fails only if an allocation fails. The iterator
+    /// must end.
     pub fn from_tokens<S: AsStr + Drop, I: Iterator<Item = S>>(
         alloc: Global,
         tokens: I,
@@ -80,10 +86,14 @@ impl Record for TXT {
 }
 
 impl RecordDataDecodable for TXT {
-    /// Reads character strings until the length is reached or passed. Where it is passed, no strings fill it, and the
-    /// value is that of the strings that were taken. Where a string lacks octets it is refused by
-    /// [`InsufficientBytes`](DecodeError::InsufficientBytes): the strings before it, and its length octet where that is
-    /// there, are taken. Memory is asked for once for the list, and once for each string.
+    /// Reads character strings until RDLENGTH is reached or passed. If it is passed, the strings do not fill the RDATA,
+    /// and the value has the strings that were read. Allocates once for the list, and once for each string.
+    ///
+    /// # Errors
+    ///
+    /// - [`InsufficientBytes`](DecodeError::InsufficientBytes): a string lacks octets. The strings before it, and its
+    ///   length octet if it is there, are read.
+    /// - [`Memory`](DecodeError::Memory): an allocation failed.
     fn read_data(decoder: &mut BinDecoder<'_>, length: Restrict<u16>) -> Result<TXT, DecodeError> {
         let length = length.unverified() as usize;
         let end = decoder.index() + length;
@@ -115,8 +125,8 @@ fn strings_within(octets: &[u8], length: usize) -> usize
 impl BinEncodable for TXT {
     ghost emits = { λ x r old new. Emits txt_shape (txt_fields x) r old new };
 
-    /// Appends the character strings. One of more than 255 octets is refused by [`Message`](ProtoError::Message); those
-    /// before it may then stand behind the start.
+    /// Appends the character strings. Fails with [`Message`](ProtoError::Message) if a string has more than 255 octets;
+    /// those before it may have been appended.
     fn emit(&self, encoder: &mut BinEncoder<'_>) -> Result<(), ProtoError> {
         for string in self.txt_data.as_slice() {
             encoder.emit_character_data(string.as_slice())?;
@@ -170,7 +180,7 @@ impl OrderedRecord for TXT {
 impl fmt::Display for TXT {
     ghost output = { λ x. Some (txt_text x) };
 
-    /// The strings, nothing between; U+FFFD stands for octets that are not UTF-8.
+    /// Prints the strings, with nothing between, and U+FFFD for octets that are not UTF-8.
     #[tactic(auto, unfolding(crate::specs::Lossy::lossy))]
     fn fmt<W: fmt::Write>(&self, f: &mut fmt::Formatter<W>) -> fmt::Result {
         for string in self.txt_data.as_slice() {

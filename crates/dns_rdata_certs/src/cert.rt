@@ -18,8 +18,14 @@ pub use enums::{Algorithm, CertType};
 use std::alloc::{AllocError, Global};
 use std::fmt;
 
-/// A certificate (RFC 4398, 2): two octets of its type, two of a key tag, one of an algorithm, and then the certificate
-/// to the end of the record's length. One without octets is emitted, and never read.
+/// CERT RDATA (RFC 4398, section 2): a certificate.
+///
+///     +----+----+----+----+----+--------------+
+///     |  TYPE   | KEY TAG | ALG| CERTIFICATE  /   two u16, an octet, and the rest, not empty
+///     +----+----+----+----+----+--------------+
+///
+/// A value without certificate data can be built and emitted, and is not read. The RDATA `000130390841514944` is
+/// `PKIX 12345 RSASHA256 QVFJRA==`.
 #[derive(Clone, Debug, Drop, Eq, Hash, PartialEq)]
 pub struct CERT {
     /// The type of the certificate.
@@ -33,7 +39,7 @@ pub struct CERT {
 }
 
 impl CERT {
-    /// With these fields, which are taken: up to 64 octets are copied into the value, more are moved.
+    /// Makes a record of these fields, which are moved: up to 64 octets are kept in the value.
     pub fn new(cert_type: CertType, key_tag: u16, algorithm: Algorithm, cert_data: Vec<u8>) -> CERT
         ensures kind { result.cert_type ≡ cert_type }
         ensures tag { result.key_tag ≡ key_tag }
@@ -48,16 +54,20 @@ impl CERT {
         }
     }
 
-    /// The certificate in base64 (RFC 4648, 4). Fails only for want of memory.
+    /// The certificate in base64 (RFC 4648, section 4). Fails only if an allocation fails.
     pub fn cert_base64(&self) -> Result<String, AllocError>
         ensures { IfOk result (λ text. string_bytes text ≡ cert_data_text self.now) }
     {
         STANDARD.encode(self.cert_data.allocator(), self.cert_data.as_slice())
     }
 
-    /// The record that all these octets are. Refused by
-    /// [`IncorrectRDataLengthRead`](DecodeError::IncorrectRDataLengthRead) of their number and 6 where they are fewer
-    /// than 6, and of their number and 65535 where they are more than that; and for want of memory.
+    /// Reads the record that all these octets are.
+    ///
+    /// # Errors
+    ///
+    /// - [`IncorrectRDataLengthRead`](DecodeError::IncorrectRDataLengthRead): there are fewer than 6 octets (their
+    ///   number and 6), or more than 65535 (their number and 65535).
+    /// - [`Memory`](DecodeError::Memory): an allocation failed.
     #[tactic(auto, using(crate::proofs::Values::whole_cert))]
     pub fn try_from(alloc: Global, octets: &[u8]) -> Result<CERT, DecodeError>
         ensures reads { ReadsWholeCert octets.now result }
@@ -78,10 +88,15 @@ impl Record for CERT {
 }
 
 impl RecordDataDecodable for CERT {
-    /// Reads five octets of numbers, and the rest of the length, by one request for memory where that is more than 64
-    /// octets. A length below 6 is refused by [`IncorrectRDataLengthRead`](DecodeError::IncorrectRDataLengthRead) of
-    /// the length and 6, and nothing is taken. Where octets are missing it is refused by
-    /// [`InsufficientBytes`](DecodeError::InsufficientBytes), and the numbers that are there are taken.
+    /// Reads five octets of numbers, and the rest of RDLENGTH. Allocates once if the rest is more than 64 octets.
+    ///
+    /// # Errors
+    ///
+    /// - [`IncorrectRDataLengthRead`](DecodeError::IncorrectRDataLengthRead) of RDLENGTH and 6: RDLENGTH is below 6.
+    ///   Nothing is read.
+    /// - [`InsufficientBytes`](DecodeError::InsufficientBytes): octets are missing. The numbers that are there are
+    ///   read.
+    /// - [`Memory`](DecodeError::Memory): the allocation failed.
     #[inline]
     fn read_data(decoder: &mut BinDecoder<'_>, length: Restrict<u16>) -> Result<CERT, DecodeError> {
         // Called for its clauses: the message is octets, and the place is in it.

@@ -14,16 +14,20 @@ use std::{fmt, str};
 pub struct HEX;
 
 impl HEX {
-    /// The digits of the octets, in lower case. Fails only for want of memory.
+    /// The digits of the octets, in lower case. Fails only if an allocation fails.
     pub fn encode(&self, alloc: Global, octets: &[u8]) -> Result<String, AllocError>
         ensures text { IfOk result (λ text. string_bytes text ≡ encode_lower octets.now) }
     {
         hex::encode(alloc, octets)
     }
 
-    /// The octets of a text of digits of either case, in which spaces, tabs, CR and LF may stand anywhere. An odd
-    /// number of digits or any other octet is refused by [`Message`](ParseError::Message), which says which of both it
-    /// is.
+    /// The octets of a text of digits in either case, with spaces, tabs, CR and LF anywhere between.
+    ///
+    /// # Errors
+    ///
+    /// - [`Message`](ParseError::Message): the number of digits is odd, or another octet is among them; the text says
+    ///   which.
+    /// - [`Memory`](ParseError::Memory): an allocation failed.
     pub fn decode(&self, alloc: Global, text: &[u8]) -> Result<Vec<u8>, ParseError>
         ensures decodes { DecodesHex text.now result }
     {
@@ -59,7 +63,7 @@ fn is_white_space(octet: u8) -> bool
     matches!(octet, b' ' | b'\t' | b'\r' | b'\n')
 }
 
-/// Octets that print as hexadecimal digits in lower case, without memory, 32 at a time.
+/// Octets that print as hexadecimal digits in lower case, 32 at a time. Allocates nothing.
 #[derive(Clone, Copy)]
 pub struct Hexadecimal<'a>(pub &'a [u8]);
 

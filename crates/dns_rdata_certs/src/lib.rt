@@ -1,8 +1,9 @@
 //! The data of DNS records with certificates, keys and fingerprints.
 #![tactic(auto, using(dns_names_wire::proofs::FieldReads::reading, dns_names_wire::proofs::WindowReads::filled_window, dns_words::proofs::Steps::reading, dns_pieces::proofs::Comparing::then_equal, dns_pieces::proofs::Comparing::then_assoc))]
 
-// Matches over an enum with numbers. The enum's list calls the macro with what was given for it, the enum's name, a row for
-// each variant of one number, and one for each variant with its number inside: name, number, place in the declaration.
+// Matches over an enum with numbers. The enum's list calls the macro with what was given for it, the enum's name, a row
+// for each variant of one number, and one for each variant with its number inside: name, number, place in the
+// declaration.
 
 // The variant of a number; the arms behind the value are for numbers that no variant has alone.
 macro_rules! of_number {

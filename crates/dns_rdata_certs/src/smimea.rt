@@ -12,12 +12,14 @@ use dns_names_wire::{
 use std::fmt;
 use std::ops::Deref;
 
-/// A certificate of a mail user, with the fields of TLSA (RFC 8162, 2).
+/// SMIMEA RDATA (RFC 8162, section 2): a certificate of a mail user, with the fields of [`TLSA`].
+///
+/// The RDATA `030101abcd` is `3 1 1 abcd`.
 #[derive(Clone, Debug, Drop, Eq, Hash, PartialEq)]
 pub struct SMIMEA(pub TLSA);
 
 impl SMIMEA {
-    /// With these fields, which are taken: up to 64 octets are copied into the value, more are moved.
+    /// Makes a record of these fields, which are moved: up to 64 octets are kept in the value.
     pub fn new(
         cert_usage: CertUsage,
         selector: Selector,
@@ -38,7 +40,7 @@ impl Record for SMIMEA {
 }
 
 impl RecordDataDecodable for SMIMEA {
-    /// Reads the fields of TLSA, and is refused as that is.
+    /// Reads the fields of TLSA, and fails as that does.
     #[inline]
     fn read_data(
         decoder: &mut BinDecoder<'_>,
@@ -75,7 +77,7 @@ impl Deref for SMIMEA {
 impl fmt::Display for SMIMEA {
     ghost output = { λ x. Some (smimea_text x) };
 
-    /// As TLSA prints: `3 1 1 abcd`.
+    /// Prints as TLSA: `3 1 1 abcd`.
     fn fmt<W: fmt::Write>(&self, f: &mut fmt::Formatter<W>) -> fmt::Result {
         let certificate = &self.0;
         write!(f, "{certificate}")

@@ -16,8 +16,13 @@ use dns_names_wire::{
 pub use fingerprint_type::FingerprintType;
 use std::fmt;
 
-/// The fingerprint of a host's key (RFC 4255, 3.1): an octet each for the key's algorithm and the fingerprint's type,
-/// and then the fingerprint to the end of the record's length.
+/// SSHFP RDATA (RFC 4255, section 3.1): the fingerprint of a host's key.
+///
+///     +----+----+-------------+
+///     |ALG |TYPE| FINGERPRINT /   an octet each, and the rest
+///     +----+----+-------------+
+///
+/// The length of the fingerprint is not tested. The RDATA `02013b6b` is `2 1 3b6b`.
 #[derive(Clone, Debug, Drop, Eq, Hash, PartialEq)]
 pub struct SSHFP {
     /// The algorithm of the key.
@@ -29,7 +34,7 @@ pub struct SSHFP {
 }
 
 impl SSHFP {
-    /// With these fields, which are taken: up to 64 octets are copied into the value, more are moved.
+    /// Makes a record of these fields, which are moved: up to 64 octets are kept in the value.
     pub fn new(
         algorithm: Algorithm,
         fingerprint_type: FingerprintType,
@@ -52,11 +57,14 @@ impl Record for SSHFP {
 }
 
 impl RecordDataDecodable for SSHFP {
-    /// Reads two octets of numbers, and the rest of the length, by one request for memory where that is more than 64
-    /// octets. Where the two pass the length it is refused by
-    /// [`IncorrectRDataLengthRead`](DecodeError::IncorrectRDataLengthRead) of 2 and the length. Where octets are
-    /// missing it is refused by [`InsufficientBytes`](DecodeError::InsufficientBytes), and the numbers that are there
-    /// are taken.
+    /// Reads two octets of numbers, and the rest of RDLENGTH. Allocates once if the rest is more than 64 octets.
+    ///
+    /// # Errors
+    ///
+    /// - [`IncorrectRDataLengthRead`](DecodeError::IncorrectRDataLengthRead) of 2 and RDLENGTH: RDLENGTH is below 2.
+    /// - [`InsufficientBytes`](DecodeError::InsufficientBytes): octets are missing. The numbers that are there are
+    ///   read.
+    /// - [`Memory`](DecodeError::Memory): the allocation failed.
     #[inline]
     fn read_data(
         decoder: &mut BinDecoder<'_>,
@@ -93,7 +101,7 @@ impl BinEncodable for SSHFP {
 impl fmt::Display for SSHFP {
     ghost output = { λ x. Some (sshfp_text x) };
 
-    /// The two numbers in decimal and the fingerprint in hexadecimal, a blank between: `2 1 3b6b`.
+    /// Prints the two numbers in decimal and the fingerprint in hexadecimal, with a blank between: `2 1 3b6b`.
     fn fmt<W: fmt::Write>(&self, f: &mut fmt::Formatter<W>) -> fmt::Result {
         let algorithm = u8::from(self.algorithm);
         let fingerprint_type = u8::from(self.fingerprint_type);

@@ -14,8 +14,13 @@ use dns_names_wire::{
 pub use enums::{CertUsage, Matching, Selector};
 use std::fmt;
 
-/// A certificate, or what is compared with one, for a service (RFC 6698, 2.1): an octet each for usage, selector and
-/// matching type, and then the data to the end of the record's length.
+/// TLSA RDATA (RFC 6698, section 2.1): a certificate for a service, or what is compared with one.
+///
+///     +-----+--------+--------+------+
+///     |USAGE|SELECTOR|MATCHING| DATA /   an octet each, and the rest
+///     +-----+--------+--------+------+
+///
+/// The RDATA `030101abcd` is `3 1 1 abcd`.
 #[derive(Clone, Debug, Drop, Eq, Hash, PartialEq)]
 pub struct TLSA {
     /// How the certificate is used.
@@ -29,7 +34,7 @@ pub struct TLSA {
 }
 
 impl TLSA {
-    /// With these fields, which are taken: up to 64 octets are copied into the value, more are moved.
+    /// Makes a record of these fields, which are moved: up to 64 octets are kept in the value.
     pub fn new(
         cert_usage: CertUsage,
         selector: Selector,
@@ -55,11 +60,14 @@ impl Record for TLSA {
 }
 
 impl RecordDataDecodable for TLSA {
-    /// Reads three octets of numbers, and the rest of the length, by one request for memory where that is more than 64
-    /// octets. Where the three pass the length it is refused by
-    /// [`IncorrectRDataLengthRead`](DecodeError::IncorrectRDataLengthRead) of 3 and the length. Where octets are
-    /// missing it is refused by [`InsufficientBytes`](DecodeError::InsufficientBytes), and the numbers that are there
-    /// are taken.
+    /// Reads three octets of numbers, and the rest of RDLENGTH. Allocates once if the rest is more than 64 octets.
+    ///
+    /// # Errors
+    ///
+    /// - [`IncorrectRDataLengthRead`](DecodeError::IncorrectRDataLengthRead) of 3 and RDLENGTH: RDLENGTH is below 3.
+    /// - [`InsufficientBytes`](DecodeError::InsufficientBytes): octets are missing. The numbers that are there are
+    ///   read.
+    /// - [`Memory`](DecodeError::Memory): the allocation failed.
     #[inline(always)]
     fn read_data(decoder: &mut BinDecoder<'_>, length: Restrict<u16>) -> Result<TLSA, DecodeError> {
         let start = decoder.index();
@@ -97,7 +105,7 @@ impl BinEncodable for TLSA {
 impl fmt::Display for TLSA {
     ghost output = { λ x. Some (tlsa_text x) };
 
-    /// The three numbers in decimal and the data in hexadecimal, a blank between: `3 1 1 abcd`.
+    /// Prints the three numbers in decimal and the data in hexadecimal, with a blank between: `3 1 1 abcd`.
     fn fmt<W: fmt::Write>(&self, f: &mut fmt::Formatter<W>) -> fmt::Result {
         let usage = u8::from(self.cert_usage);
         let selector = u8::from(self.selector);

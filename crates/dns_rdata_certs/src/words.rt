@@ -110,9 +110,14 @@ fn all_hex<S: AsStr + Drop, I: Iterator<Item = S>>(
 }
 
 impl CERT {
-    /// From four words: type and key tag, decimal numbers of 16 bits; algorithm, one of 8 bits; and the certificate in
-    /// base64, also an empty word. Further words are not read. Refused by [`MissingToken`](ParseError::MissingToken),
-    /// [`Message`](ParseError::Message) or [`Memory`](ParseError::Memory).
+    /// Reads four tokens: type and key tag, decimal numbers of 16 bits; algorithm, one of 8 bits; and the certificate
+    /// in base64, which may be an empty token. Further tokens are not read.
+    ///
+    /// # Errors
+    ///
+    /// - [`MissingToken`](ParseError::MissingToken): a token is missing.
+    /// - [`Message`](ParseError::Message): a token is no such number, or not base64.
+    /// - [`Memory`](ParseError::Memory): an allocation failed.
     pub fn from_tokens<S: AsStr + Drop, I: Iterator<Item = S>>(
         alloc: Global,
         mut tokens: I,
@@ -135,9 +140,14 @@ impl CERT {
 }
 
 impl SSHFP {
-    /// From three words: algorithm and fingerprint type, decimal numbers of 8 bits, and the fingerprint, hexadecimal
-    /// digits of either case ([`HEX`]) in a word that isn't empty; a further word is refused. Refused by
-    /// [`MissingToken`](ParseError::MissingToken), [`Message`](ParseError::Message) or [`Memory`](ParseError::Memory).
+    /// Reads three tokens: algorithm and fingerprint type, decimal numbers of 8 bits, and the fingerprint, hexadecimal
+    /// digits in either case ([`HEX`]) in a token that is not empty.
+    ///
+    /// # Errors
+    ///
+    /// - [`MissingToken`](ParseError::MissingToken): a token is missing.
+    /// - [`Message`](ParseError::Message): a token is no such number, empty, or no digits; or there is a further one.
+    /// - [`Memory`](ParseError::Memory): an allocation failed.
     pub fn from_tokens<S: AsStr + Drop, I: Iterator<Item = S>>(
         alloc: Global,
         mut tokens: I,
@@ -159,10 +169,14 @@ impl SSHFP {
 }
 
 impl TLSA {
-    /// From three words and more: usage, selector and matching type, decimal numbers of 8 bits, and in all further
-    /// words, joined, hexadecimal digits of one octet or more ([`HEX`]). Refused by
-    /// [`MissingToken`](ParseError::MissingToken), [`Message`](ParseError::Message) or [`Memory`](ParseError::Memory).
-    /// The caller owes an iterator that ends.
+    /// Reads three tokens and more: usage, selector and matching type, decimal numbers of 8 bits, and in all further
+    /// tokens, joined, hexadecimal digits of one octet or more ([`HEX`]). The iterator must end.
+    ///
+    /// # Errors
+    ///
+    /// - [`MissingToken`](ParseError::MissingToken): a token is missing.
+    /// - [`Message`](ParseError::Message): a token is no such number, or no digits; or there is no octet.
+    /// - [`Memory`](ParseError::Memory): an allocation failed.
     pub fn from_tokens<S: AsStr + Drop, I: Iterator<Item = S>>(
         alloc: Global,
         mut tokens: I,
@@ -186,7 +200,7 @@ impl TLSA {
 }
 
 impl SMIMEA {
-    /// From the words of TLSA, and refused as that is.
+    /// Reads the tokens of TLSA, and fails as that does.
     pub fn from_tokens<S: AsStr + Drop, I: Iterator<Item = S>>(
         alloc: Global,
         tokens: I,

@@ -9,7 +9,6 @@ ghost use Rattle.dns_rdata_options.specs.{EdnsCode.edns_code_number, EdnsOption.
 ghost use Rattle.dns_rdata_options.specs.{OPT.opt_shape, OPT.opt_fields, OPT.opt_facts, OPT.pair_value, OPT.options_of, OPT.without, Order.opt_cmp};
 
 mod code;
-pub(crate) mod headed;
 mod net;
 mod net_text;
 mod option;
@@ -18,6 +17,7 @@ mod payload;
 mod reading;
 mod subnet;
 mod text;
+pub(crate) mod walks;
 
 pub use code::EdnsCode;
 use dns_names_wire::{

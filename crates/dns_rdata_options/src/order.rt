@@ -1,12 +1,11 @@
 //! Records of options ordered by their canonical octets, without a cursor.
 
-ghost use Rattle.std.specs.Prelude.{◌≡◌, ◌<◌, ◌≤◌, true, length, IfSome, IsTrue, Some};
+ghost use Rattle.std.specs.Prelude.{◌≡◌, ◌<◌, true, length, IfSome, IsTrue, Some};
 ghost use Rattle.dns_pieces.specs.Fronts.{canonical_cmp};
 ghost use Rattle.dns_rdata_options.specs.{OPT.opt_shape, OPT.opt_fields, Order.opt_eq, Steps.pairs_emittable};
 ghost use Rattle.dns_rdata_options.specs.LeastDifferences.{lesser, IsLeastDifference, IsAlone};
 
-use crate::opt::headed::headed_cmp;
-use crate::opt::order::are_many;
+use crate::opt::walks::cmp_in_order;
 use crate::opt::{EdnsCode, EdnsOption, OPT};
 use crate::steps::{Pieces, compare_pairs, opt_is_emittable};
 use dns_rdata_base::OrderedRecord;
@@ -33,8 +32,8 @@ impl OrderedRecord for OPT {
     }
 }
 
-/// How two lists of options are ordered by their canonical octets, without a cursor: by what stands at the same places,
-/// where that tells it, and of many options by going over both in rising order. Else `None`.
+/// How two lists of options are ordered by their canonical octets, without a cursor: by the options with the same indices,
+/// where that tells it, and else by all options in rising order. `None` for lists with the same octets that are not equal.
 pub fn opt_order(a: &OPT, b: &OPT) -> Option<Ordering>
     requires first { pairs_emittable a.now ≡ true }
     requires second { pairs_emittable b.now ≡ true }
@@ -46,26 +45,19 @@ pub fn opt_order(a: &OPT, b: &OPT) -> Option<Ordering>
     if let Some(order) = order_by_places(options, others) {
         return Some(order);
     }
-    if !are_many(options.len().max(others.len())) {
-        return None;
-    }
-    order_of_many(a, b)
+    order_by_least(a, b)
 }
 
-// Orders two long lists by their least options that differ. `None` for lists with the same octets that are not equal. It is
-// not inlined, so that only long lists take the 4 KiB of the stack in which the walks keep their heads.
-#[inline(never)]
-fn order_of_many(a: &OPT, b: &OPT) -> Option<Ordering>
+// Orders two lists by their least options that differ. `None` for lists with the same octets that are not equal.
+fn order_by_least(a: &OPT, b: &OPT) -> Option<Ordering>
     requires first { pairs_emittable a.now ≡ true }
     requires second { pairs_emittable b.now ≡ true }
-    requires many { length a.now ≤ 16384 }
-    requires others { length b.now ≤ 16384 }
     ensures order { IfSome result (λ o. o ≡ canonical_cmp opt_shape (opt_fields a.now) (opt_fields b.now)) }
     ensures equal { result ≡ Some Ordering.Equal → opt_eq a.now b.now ≡ true }
 {
     let options = a.as_ref();
     let others = b.as_ref();
-    let (order, same) = headed_cmp(&Pieces { options }, &Pieces { options: others });
+    let (order, same) = cmp_in_order(&Pieces { options }, &Pieces { options: others });
     if order.is_ne() || same || a == b {
         return Some(order);
     }

@@ -3,7 +3,7 @@ use Rattle.std.specs.{Ordering.on, Prelude.ℕ, Prelude.List}
 use Rattle.dns_types.specs.declared.error.DecodeError.{DecodeError}
 use Rattle.dns_fields.specs.{Fields.Kind, Fields.Values, Order.values_cmp}
 use Rattle.dns_names_wire.specs.{State.Reading, Facts.Facts}
-use Rattle.dns_rdata_service.specs.SVCB.{svcb_shape, svcb_fields, MeetsSvcbCondition, svcb_key_shape, svcb_keys, IsReadSvcb, svcb_text, IsSvcbRefusal}
+use Rattle.dns_rdata_service.specs.SVCB.{svcb_shape, svcb_fields, MeetsSvcbCondition, svcb_key_shape, svcb_keys, IsReadSvcb, svcb_text, IsSvcbRefusal, TookService}
 use Rattle.dns_rdata_service.specs.declared.https.HTTPS.{HTTPS}
 
 abbrev pub https_shape : List Kind
@@ -36,6 +36,6 @@ https_facts = record {
   condition = MeetsHttpsCondition;
   fields = https_fields;
   refusal = IsHttpsRefusal;
-  made = λ n x old new. IsReadHttps x;
+  made = λ n x old new. TookService n x.0 old new;
   order = on https_keys (values_cmp https_key_shape);
 }

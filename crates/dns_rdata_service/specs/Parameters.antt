@@ -35,6 +35,13 @@ AreRead ps = ps ≡ map parameter_from (map parameter_of ps)
 abbrev pub HaveTexts : List (Numbered ParameterValue) → Type 0
 HaveTexts v = AllByRecursion (λ x. HasText x.0 x.1) v
 
+-- of the n octets from p, parameters are taken up to the last three octets or further, and none past the end
+pub record TookParameters (p n : ℕ) (old : Reading) (ps : List Parameter) (new : Reading) : Type 0 where
+  pub took : TookField old Parameters (map parameter_of ps) new
+  pub texts : HaveTexts (map parameter_of ps)
+  pub within : new.index ≤ p + n
+  pub left : p + n < new.index + 4
+
 -- a key's number is above the last one
 abbrev pub IsAbove : Option ℕ → ℕ → Type 0
 IsAbove None key = Unit {0}

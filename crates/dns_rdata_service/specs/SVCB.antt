@@ -78,12 +78,22 @@ pub record RefusedParameters (n : ℕ) (old : Reading) (e : DecodeError) (new : 
 abbrev pub IsSvcbRefusal : ℕ → Reading → DecodeError → Reading → Type 0
 IsSvcbRefusal n old e new = IsLack (Number 2 ∷ Name ∷ []) old e new ⊎ (PassedHead n old e new ⊎ RefusedParameters n old e new)
 
+-- ---- a value that was read
+
+-- Priority, target name and parameters are taken, and of the record's n octets at most three are left.
+pub record TookService (n : ℕ) (x : SVCB) (old new : Reading) : Type 0 where
+  pub read : IsReadSvcb x
+  pub took : Took old svcb_shape (svcb_fields x) new
+  pub holds : MeetsSvcbCondition (svcb_fields x)
+  pub within : new.index ≤ old.index + n
+  pub left : old.index + n < new.index + 4
+
 abbrev pub svcb_facts : Facts SVCB
 svcb_facts = record {
   kinds = svcb_shape;
   condition = MeetsSvcbCondition;
   fields = svcb_fields;
   refusal = IsSvcbRefusal;
-  made = λ n x old new. IsReadSvcb x;
+  made = TookService;
   order = on svcb_keys (values_cmp svcb_key_shape);
 }

@@ -20,8 +20,13 @@ pub use issuer::{KeyValue, read_iodef, read_issuer};
 use std::alloc::AllocError;
 use std::fmt;
 
-/// A property of a domain's issuers of certificates (RFC 8659, 4.1): an octet of flags, a tag behind an octet of its
-/// length, and a value to the end of the record's length.
+/// CAA RDATA (RFC 8659, section 4.1): a property of a domain's issuers of certificates.
+///
+///     +-----+------------+-----+-------+
+///     |FLAGS| TAG LENGTH / TAG / VALUE /   two octets, 1 to 15 letters and digits, and the rest
+///     +-----+------------+-----+-------+
+///
+/// The RDATA `800569737375653b` is `128 issue ";"`.
 ///
 /// ```rust
 /// fn only_issuer(alloc: Global, issuer: Name) -> Result<CAA, AllocError> {
@@ -32,7 +37,7 @@ use std::fmt;
 pub struct CAA {
     /// Whether an issuer that does not know the tag may not issue: 0x80 of the flags.
     pub issuer_critical: bool,
-    /// The other flags. The wire has their 0x7f.
+    /// The other flags. Their 0x7f is emitted.
     pub reserved_flags: u8,
     /// The tag. Those that are read are 1 to 15 letters and digits of ASCII.
     pub tag: SmallOctets<32>,
@@ -137,17 +142,21 @@ impl Record for CAA {
 }
 
 impl RecordDataDecodable for CAA {
-    /// Reads an octet of flags, the tag, and the rest of the length, which asks for memory once where it is more than
-    /// 64 octets.
+    /// Reads an octet of flags, the tag, and the rest of RDLENGTH. Allocates once if the rest is more than 64 octets.
     ///
-    /// Where flags or the tag's length are missing it is refused by
-    /// [`InsufficientBytes`](DecodeError::InsufficientBytes), and the flags are taken where they are there. Where a tag
-    /// of that length passes the record's it is refused by
-    /// [`IncorrectRDataLengthRead`](DecodeError::IncorrectRDataLengthRead) of the record's length and the tag's and 2.
-    /// A tag of no octet or more than 15 is refused by [`CaaTagInvalid`](DecodeError::CaaTagInvalid). Then the tag is
-    /// taken octet by octet: one that is no letter and no digit of ASCII is the last taken, and `CaaTagInvalid` refuses
-    /// the tag. Where octets of tag or value are missing it is refused by `InsufficientBytes`; the tag's octets that
-    /// are there are taken, and the value's are not.
+    /// # Errors
+    ///
+    /// In this order:
+    ///
+    /// - [`InsufficientBytes`](DecodeError::InsufficientBytes): the flags or the length of the tag are missing. The
+    ///   flags are read if they are there.
+    /// - [`IncorrectRDataLengthRead`](DecodeError::IncorrectRDataLengthRead) of RDLENGTH and the tag's length plus 2:
+    ///   the tag passes RDLENGTH.
+    /// - [`CaaTagInvalid`](DecodeError::CaaTagInvalid): the tag has no octet or more than 15, or one that is no ASCII
+    ///   letter and no digit. Octets up to that one are read.
+    /// - `InsufficientBytes`: octets of tag or value are missing. Those of the tag are read, those of the value are
+    ///   not.
+    /// - [`Memory`](DecodeError::Memory): the allocation failed.
     #[inline]
     fn read_data(decoder: &mut BinDecoder<'_>, length: Restrict<u16>) -> Result<CAA, DecodeError> {
         // Called for its clauses: the message is octets, and the place is in it.
@@ -159,8 +168,8 @@ impl RecordDataDecodable for CAA {
 impl BinEncodable for CAA {
     ghost emits = { λ x r old new. Emits caa_shape (caa_fields x) r old new };
 
-    /// Appends the flags, the tag behind its length, and the value. A tag of more than 255 octets is refused, and no
-    /// other is refused by [`Message`](ProtoError::Message).
+    /// Appends the flags, the length of the tag, the tag, and the value. Fails with [`Message`](ProtoError::Message)
+    /// exactly if the tag has more than 255 octets.
     #[inline]
     #[tactic(auto, using(crate::proofs::CaaValues::long_tag))]
     fn emit(&self, encoder: &mut BinEncoder<'_>) -> Result<(), ProtoError>

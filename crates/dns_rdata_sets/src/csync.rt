@@ -24,8 +24,13 @@ const RESERVED: u16 = 0xFFFC;
 // Bits that are refused.
 const UNKNOWN: u16 = 0x00FC;
 
-/// What a parent copies from a child zone (RFC 7477, 2.1): a serial in four octets, flags in two, and then a bitmap of
-/// record types to the end of the record's length.
+/// CSYNC RDATA (RFC 7477, section 2.1): what a parent copies from a child zone.
+///
+///     +----+----+----+----+----+----+-------------+
+///     |      SOA SERIAL   |  FLAGS  | TYPE BITMAP /   u32, u16, and a bitmap (RFC 4034, section 4.1.2)
+///     +----+----+----+----+----+----+-------------+
+///
+/// The RDATA `0000007b0003000460000008` is `123 3 A NS AAAA`.
 #[derive(Clone, Debug, Drop, Eq, Hash, PartialEq)]
 pub struct CSYNC {
     /// A serial of the child zone: where `soa_minimum` is set, nothing is copied while the zone has a lower one.
@@ -41,8 +46,8 @@ pub struct CSYNC {
 }
 
 impl CSYNC {
-    /// With these fields, no reserved flags, and the set of these types. Fails only for want of memory. The caller owes an
-    /// iterator that may be asked and that ends, as every iterator of a list is.
+    /// Makes a record of these fields, no reserved flags, and the set of these types. Fails only if an allocation
+    /// fails. The iterator must end.
     pub fn new<I: Iterator<Item = RecordType> + Drop>(
         alloc: Global,
         soa_serial: u32,
@@ -133,11 +138,18 @@ impl Record for CSYNC {
 }
 
 impl RecordDataDecodable for CSYNC {
-    /// Reads serial and flags, and the types to the end of the length. Flags with any of 0x00fc are refused by
-    /// [`UnrecognizedCsyncFlags`](DecodeError::UnrecognizedCsyncFlags) as soon as they are taken; then a length below
-    /// 6, by [`IncorrectRDataLengthRead`](DecodeError::IncorrectRDataLengthRead) of 6 and the length; then octets that
-    /// are no bitmap, by [`BitmapInvalid`](DecodeError::BitmapInvalid). Where octets are missing it is refused by
-    /// [`InsufficientBytes`](DecodeError::InsufficientBytes), and the numbers that are there are taken.
+    /// Reads serial and flags, and the types to the end of RDLENGTH. Allocates once for the types.
+    ///
+    /// # Errors
+    ///
+    /// In this order:
+    ///
+    /// - [`InsufficientBytes`](DecodeError::InsufficientBytes): octets are missing. The numbers that are there are
+    ///   read.
+    /// - [`UnrecognizedCsyncFlags`](DecodeError::UnrecognizedCsyncFlags): a flag of 0x00fc is set.
+    /// - [`IncorrectRDataLengthRead`](DecodeError::IncorrectRDataLengthRead) of 6 and RDLENGTH: RDLENGTH is below 6.
+    /// - [`BitmapInvalid`](DecodeError::BitmapInvalid): the octets are no bitmap.
+    /// - [`Memory`](DecodeError::Memory): the allocation failed.
     #[inline]
     fn read_data(
         decoder: &mut BinDecoder<'_>,

@@ -118,9 +118,9 @@ fn common_len(a: &[u16], b: &[u16]) -> usize
     n
 }
 
-// Where the first has the lower number at the place where they begin to differ: it alone has that number. If the other has
-// none of its window, that window comes before what the other goes on with; else the lengths of both windows decide, and
-// where these are the same the bit of that number.
+// Where the first has the lower number at the place where they begin to differ: it alone has that number. If the other
+// has none of its window, that window comes before what the other goes on with; else the lengths of both windows
+// decide, and where these are the same the bit of that number.
 fn lower_order(a: &[u16], b: &[u16], at: usize) -> Ordering
     requires first { IsTypeSet a.now }
     requires second { IsTypeSet b.now }

@@ -25,8 +25,8 @@ pub(crate) use writing::run_len;
 
 /// A set of record types. Contracts see the list of their numbers, each once, in rising order.
 ///
-/// On the wire it is a bitmap (RFC 4034, 4.1.2): blocks, each of them the number of a window of 256 types, a length of 1
-/// to 32, and so many octets; type 0 of the window is 0x80 of the first octet.
+/// On the wire it is a bitmap (RFC 4034, section 4.1.2): windows of 256 types, each with its number, a length of 1 to
+/// 32, and so many octets; type 0 of the window is 0x80 of the first octet.
 #[derive(Debug, Drop)]
 pub struct RecordTypeSet {
     // rising, each once
@@ -45,8 +45,8 @@ impl Model for RecordTypeSet {
 }
 
 impl RecordTypeSet {
-    /// The set of these types, in any order, also where one comes repeatedly. Fails only for want of memory. The caller
-    /// owes an iterator that may be asked and that ends, as every iterator of a list is.
+    /// The set of these types, in any order; a type may come repeatedly. Fails only if an allocation fails. The
+    /// iterator must end.
     pub fn new<I: Iterator<Item = RecordType> + Drop>(
         alloc: Global,
         types: I,
@@ -74,11 +74,14 @@ impl RecordTypeSet {
         RecordTypeSet { numbers }
     }
 
-    /// Reads the bitmap that has exactly this length. The blocks may stand in any order, two may be of one window, and
-    /// bits that are all 0 are read too. Where the octets are missing, it is refused by
-    /// [`InsufficientBytes`](DecodeError::InsufficientBytes) and takes none; where they are no bitmap, by
-    /// [`BitmapInvalid`](DecodeError::BitmapInvalid), and they are taken. Linear in the octets; where the windows do
-    /// not rise, memory is asked for once, for exactly the types of the set.
+    /// Reads the bitmap that has exactly this length. Windows may be in any order and may repeat, and bits that are all
+    /// 0 are read too. Linear in the octets. Allocates for the types of the set; once, if the windows do not rise.
+    ///
+    /// # Errors
+    ///
+    /// - [`InsufficientBytes`](DecodeError::InsufficientBytes): octets are missing. Nothing is read.
+    /// - [`BitmapInvalid`](DecodeError::BitmapInvalid): the octets are no bitmap. They are read.
+    /// - [`Memory`](DecodeError::Memory): an allocation failed.
     pub fn read_data(
         decoder: &mut BinDecoder<'_>,
         length: Restrict<u16>,
@@ -93,7 +96,7 @@ impl RecordTypeSet {
         Ok(RecordTypeSet::of_numbers(numbers))
     }
 
-    /// The types in rising order by number, each once. Takes no memory.
+    /// The types in rising order by number, each once. Allocates nothing.
     #[inline]
     pub fn iter(&self) -> RecordTypes<'_>
         ensures { result ≡ map record_type_of self.now }
@@ -103,7 +106,7 @@ impl RecordTypeSet {
         }
     }
 
-    /// Whether a type of this number is in the set. Takes no memory.
+    /// Whether a type of this number is in the set. Allocates nothing.
     #[inline]
     pub fn contains(&self, kind: RecordType) -> bool
         ensures { result ≡ contains (number_of kind) self.now }
@@ -151,8 +154,8 @@ fn rises(numbers: &[u16]) -> bool
 impl BinEncodable for RecordTypeSet {
     ghost emits = { λ set r old new. EmitsField Bitmap set r old new };
 
-    /// Appends the shortest bitmap of the set: rising windows, none of them empty, no octet 0 at a block's end. So no
-    /// octet stands for the empty set.
+    /// Appends the shortest bitmap of the set: rising windows, none of them empty, none that ends with a zero octet.
+    /// The empty set has no octet.
     fn emit(&self, encoder: &mut BinEncoder<'_>) -> Result<(), ProtoError> {
         // Called for its clauses: the numbers rise.
         let _set = self.len();
@@ -192,7 +195,7 @@ impl Hash for RecordTypeSet {
 impl Clone for RecordTypeSet {
     ghost is_clone = { λ a b. b ≡ a };
 
-    /// The same types in memory of their own, by one request.
+    /// The same types in memory of their own. Allocates once.
     #[inline]
     fn clone(&self) -> Result<RecordTypeSet, AllocError>
         ensures { IfOk result (λ copy. copy ≡ self.now) }

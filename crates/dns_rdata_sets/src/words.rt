@@ -23,9 +23,14 @@ const SOA_SERIAL: Field = number_field!("CSYNC soa_serial");
 const CSYNC_FLAGS: Field = number_field!("CSYNC flags");
 
 impl CAA {
-    /// From three words: flags, a decimal number of 8 bits, of which 0x80 is `issuer_critical`; tag and value, whose
-    /// octets are kept. Further words are not read. Refused by [`MissingToken`](ParseError::MissingToken),
-    /// [`Message`](ParseError::Message) or [`Memory`](ParseError::Memory).
+    /// Reads three tokens: flags, a decimal number of 8 bits, of which 0x80 is `issuer_critical`; tag and value, octet
+    /// by octet. Further tokens are not read.
+    ///
+    /// # Errors
+    ///
+    /// - [`MissingToken`](ParseError::MissingToken): a token is missing.
+    /// - [`Message`](ParseError::Message): the flags are no such number.
+    /// - [`Memory`](ParseError::Memory): an allocation failed.
     pub fn from_tokens<S: AsStr + Drop, I: Iterator<Item = S>>(
         alloc: Global,
         mut tokens: I,
@@ -94,10 +99,15 @@ fn all_types<S: AsStr + Drop, I: Iterator<Item = S>>(
 }
 
 impl CSYNC {
-    /// From two words and more: serial, a decimal number of 32 bits; flags, one of 16 bits, of which 0x0003 is kept;
-    /// and in every further word the text of a record type. Refused by [`MissingToken`](ParseError::MissingToken), by
-    /// [`Message`](ParseError::Message) for a number, by [`Proto`](ParseError::Proto) of `UnknownRecordTypeStr` for a
-    /// word that is the text of no type, or by [`Memory`](ParseError::Memory). The caller owes an iterator that ends.
+    /// Reads two tokens and more: serial, a decimal number of 32 bits; flags, one of 16 bits, of which 0x0003 is kept;
+    /// and in every further token the text of a record type. The iterator must end.
+    ///
+    /// # Errors
+    ///
+    /// - [`MissingToken`](ParseError::MissingToken): serial or flags are missing.
+    /// - [`Message`](ParseError::Message): serial or flags are no such number.
+    /// - [`Proto`](ParseError::Proto) of `UnknownRecordTypeStr`: a token is the text of no type.
+    /// - [`Memory`](ParseError::Memory): an allocation failed.
     pub fn from_tokens<S: AsStr + Drop, I: Iterator<Item = S>>(
         alloc: Global,
         mut tokens: I,

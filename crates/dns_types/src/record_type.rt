@@ -13,9 +13,9 @@ use std::fmt;
 use std::hash::{Hash, Hasher};
 use std::str::FromStr;
 
-/// The type of a resource record (RFC 1035, 3.2.2, and IANA's list of types). Its text is the
+/// The type of a resource record (RFC 1035, section 3.2.2, and IANA's list of types). Its text is the
 /// variant's name in capitals, and `TYPE` and the number of `Unknown`. Types are ordered by number, and
-/// `Unknown` stands after the named type of the same number.
+/// `Unknown` comes after the named type of the same number.
 #[derive(Clone, Copy, Debug)]
 pub enum RecordType {
     /// 0, of no records: the type whose data is none.
@@ -28,7 +28,7 @@ pub enum RecordType {
     CNAME,
     /// 6, the start of a zone of authority (RFC 1035, 3.3.13).
     SOA,
-    /// 10, octets without a form (RFC 1035, 3.3.10).
+    /// 10, octets without a format (RFC 1035, 3.3.10).
     NULL,
     /// 12, a name that is pointed to (RFC 1035, 3.3.12).
     PTR,
@@ -152,7 +152,7 @@ macro_rules! array_of {
     };
 }
 
-/// The named type of the number, or `Unknown` where none has it.
+/// The named type of the number, or `Unknown` if none has it.
 impl From<u16> for RecordType {
     ghost from_gives = { λ number kind. (kind ≡ record_type_of number) × (number_of kind ≡ number) };
 
@@ -286,9 +286,9 @@ impl fmt::Display for RecordType {
     }
 }
 
-/// The type whose name the text is, in capitals, or the type of the number behind `TYPE`, in one to
-/// five decimal digits (RFC 3597, 5). Any other text is refused by
-/// `DecodeError::UnknownRecordTypeStr`. Takes no memory.
+/// The type whose name the text is, in capitals, or the type of the number after `TYPE`, in one to
+/// five decimal digits (RFC 3597, section 5). Any other text fails with
+/// `DecodeError::UnknownRecordTypeStr`. Allocates nothing.
 impl FromStr for RecordType {
     type Err = DecodeError;
 

@@ -45,7 +45,7 @@ impl<T> Restrict<T> {
         Restrict::new(f(self.unverified()))
     }
 
-    /// Looks at the value: `Ok` exactly where `f` answers true. Both outcomes carry the value.
+    /// Looks at the value: `Ok` exactly if `f` returns true. Both outcomes carry the value.
     #[inline]
     pub fn verify_unwrap<F: FnOnce(&T) -> bool>(self, f: F) -> Result<T, T>
         requires { FnOnceTakesAt F.FnOnce f self }

@@ -1,4 +1,4 @@
-//! Octets that a value owns, a few of them without memory.
+//! Octets that a value owns, a few of them in the value itself.
 ghost use Rattle.std.specs.Prelude.{◌≡◌, ◌==◌, ◌<◌, ◌≤◌, ◌^◌, ◌↔◌, ℕ, List, [], length, All, IfOk, IsTrue};
 ghost use Rattle.std.specs.{Box.boxed_slice_items, Cmp.partial_order_from_agreeing_total, Cmp.Rules.comparing, Cmp.Rules.hashing, Ordering.nat_cmp};
 ghost use Rattle.std.specs.{Ordering.as_partial_cmp, Slice.Iter.iter_rest, Iterator.Adapters.IterYieldsInOrder};
@@ -17,11 +17,11 @@ use std::marker::Model;
 use std::ops::DerefSlice;
 use std::{fmt, slice};
 
-/// Up to `N` octets, without a request for memory.
+/// Up to `N` octets, in the value itself.
 #[derive(Drop)]
 struct Inline<const N: usize> {
-    // The length fills a word. A word that is loaded where `Heap` has a part of its vector was then stored whole, and the
-    // processor need not join two stores.
+    // The length fills a word. A word that is loaded where `Heap` has a part of its vector was then stored whole, and
+    // the processor need not join two stores.
     len: u64,
     // Behind the first `len` octets stand zeros, so that two arrays are compared whole.
     octets: [u8; N],
@@ -88,8 +88,8 @@ enum Kept<const N: usize> {
     Heap(Vec<u8>),
 }
 
-/// Octets that a value owns, which contracts see as their list: up to `N` of them stand in the value itself, and more in
-/// memory of their own. They are ordered by the first difference, and a proper beginning is less.
+/// Octets that a value owns, which contracts see as their list: up to `N` of them are kept in the value itself, and
+/// more in a vector. They are ordered by the first difference, and a beginning of others comes before them.
 ///
 /// They have the methods of a slice, as `iter`, `get` and `first`, and an index. `eq_slice` compares them with a slice.
 pub struct SmallOctets<const N: usize> {
@@ -107,7 +107,7 @@ impl<const N: usize> Model for SmallOctets<N> {
 }
 
 impl<const N: usize> SmallOctets<N> {
-    /// No octets. Takes no memory.
+    /// No octets. Allocates nothing.
     #[inline]
     pub fn new(alloc: Global) -> SmallOctets<N>
         ensures { result ≡ [] }
@@ -121,7 +121,7 @@ impl<const N: usize> SmallOctets<N> {
         }
     }
 
-    /// A copy of the octets. Asks for memory once where they are more than `N`, and fails only for want of it.
+    /// A copy of the octets. Allocates once if they are more than `N`, and fails only if that fails.
     #[inline(always)]
     pub fn from_slice(alloc: Global, octets: &[u8]) -> Result<SmallOctets<N>, AllocError>
         ensures { IfOk result (λ kept. kept ≡ octets.now) }
@@ -134,7 +134,7 @@ impl<const N: usize> SmallOctets<N> {
         Ok(SmallOctets { alloc, kept })
     }
 
-    /// The octets of the vector, which is moved, or dropped where they are few.
+    /// The octets of the vector, which is moved, or dropped if they are few.
     pub fn from_vec(octets: Vec<u8>) -> SmallOctets<N>
         ensures { result ≡ octets.items }
     {
@@ -151,7 +151,7 @@ impl<const N: usize> SmallOctets<N> {
         }
     }
 
-    /// The octets of the box, which is moved, or dropped where they are few.
+    /// The octets of the box, which is moved, or dropped if they are few.
     #[inline]
     pub fn from_boxed(octets: BoxedSlice<u8>) -> SmallOctets<N>
         ensures { result ≡ boxed_slice_items octets }
@@ -159,7 +159,7 @@ impl<const N: usize> SmallOctets<N> {
         SmallOctets::from_vec(octets.into_vec())
     }
 
-    /// The octets as a vector, which may still grow. Asks for memory where they are few.
+    /// The octets as a vector, which may still grow. Allocates if they are few.
     pub fn into_vec(self) -> Result<Vec<u8>, AllocError>
         ensures { IfOk result (λ octets. octets.items ≡ self.entry) }
     {
@@ -214,7 +214,7 @@ impl<const N: usize> SmallOctets<N> {
         same_octets(self.as_slice(), other.as_slice())
     }
 
-    /// What gives the memory of more octets than `N`.
+    /// The allocator of more octets than `N`.
     #[inline]
     pub fn allocator(&self) -> Global {
         self.alloc
@@ -358,7 +358,7 @@ impl<const N: usize> Ord for SmallOctets<N> {
 impl<const N: usize> Clone for SmallOctets<N> {
     ghost is_clone = { λ a b. b ≡ a };
 
-    /// The same octets. Asks for memory once where they are more than `N`.
+    /// The same octets. Allocates once if they are more than `N`.
     #[inline]
     fn clone(&self) -> Result<SmallOctets<N>, AllocError> {
         let kept = match &self.kept {

@@ -17,7 +17,7 @@ use std::ops::DerefSlice;
 use std::{slice, vec};
 
 /// Strings of octets that a value owns, which contracts see as the list of their lists. They are
-/// ordered by the first string that differs, and a proper beginning is less.
+/// ordered by the first string that differs, and a beginning of others comes before them.
 ///
 /// They have the methods of a slice of [`Octets`], as `iter` and `first`, and an index. `eq_slice`
 /// compares them with a slice.
@@ -33,7 +33,7 @@ impl Model for Strings {
 }
 
 impl Strings {
-    /// No strings. Takes no memory.
+    /// No strings. Allocates nothing.
     #[inline]
     pub fn new(alloc: Global) -> Strings
         ensures { result ≡ [] }
@@ -43,7 +43,7 @@ impl Strings {
         }
     }
 
-    /// No strings, and memory for so many. Fails only for want of memory.
+    /// No strings, and memory for so many. Fails only if the allocation fails.
     #[inline]
     pub fn with_capacity(alloc: Global, capacity: usize) -> Result<Strings, AllocError>
         ensures { IfOk result (λ s. s ≡ []) }
@@ -70,8 +70,8 @@ impl Strings {
         items
     }
 
-    /// Puts the string behind the others. Fails only for want of memory; the others then stand as
-    /// they were, and the string is dropped.
+    /// Appends the string. Fails only if an allocation fails; the others are unchanged then, and the
+    /// string is dropped.
     #[inline]
     pub fn push(&mut self, string: Octets) -> Result<(), AllocError>
         ensures ok { OnOk result (self.new ≡ self.old ++ string ∷ []) }

@@ -18,5 +18,3 @@ pub use reading::row_octets;
 pub use row::{ZoneField, ZoneRest, ZoneRow};
 pub use table::row_of;
 
-#[cfg(test)]
-mod tests;

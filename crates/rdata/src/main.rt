@@ -8,8 +8,7 @@ use std::io::ErrorKind;
 use std::process::ExitCode;
 use std::{env, io};
 
-// The words behind the program's name. Each refused request for memory is told: `collect` would ask for less where its
-// first one is refused.
+// The words after the program's name. Each allocation that fails is reported: `collect` would try again with less.
 fn command_words(alloc: Global, args: Args<Global>) -> Result<Vec<String>, AllocError> {
     let mut words = Vec::new(alloc);
     for word in args.skip(1) {
@@ -20,6 +19,8 @@ fn command_words(alloc: Global, args: Args<Global>) -> Result<Vec<String>, Alloc
 
 fn main(rt: HostRuntime) -> ExitCode {
     let mut out = io::writer(&rt);
+    let standard_error = rt.stderr();
+    let mut err = io::writer(&standard_error);
     let words = match env::args(&rt) {
         Ok(args) => command_words(rt.alloc(), args),
         Err(e) if e.kind() == ErrorKind::OutOfMemory => {
@@ -28,7 +29,7 @@ fn main(rt: HostRuntime) -> ExitCode {
         Err(_) => return ExitCode::from(4),
     };
     match words {
-        Ok(words) => ExitCode::from(run(rt.alloc(), words.as_slice(), &mut out)),
+        Ok(words) => ExitCode::from(run(rt.alloc(), words.as_slice(), &mut out, &mut err)),
         Err(_) => ExitCode::from(say(&mut out, "memory\n", 3)),
     }
 }

@@ -247,6 +247,19 @@ fn orders(values: &[Held], others: &[Held], passes: u64) -> Result<()> {
     Ok(())
 }
 
+// Copies all canonical octets.
+#[inline(never)]
+fn copies(row: &Row, passes: u64) -> Result<()> {
+    let mut buffer = [0u8; 512];
+    for _ in 0..passes {
+        for value in &row.values {
+            let count = value.0.canonical_octets().copy_to(&mut buffer);
+            anyhow::ensure!(count > 0 || row.length == 0, "no octets");
+        }
+    }
+    Ok(())
+}
+
 /// One column: so many rounds of the call.
 pub fn column(alloc: Global, row: &mut Row, name: &str, rounds: u64) -> Result<()> {
     let passes = rounds / COPIES;
@@ -262,6 +275,7 @@ pub fn column(alloc: Global, row: &mut Row, name: &str, rounds: u64) -> Result<(
         "equal" => equals(row, passes),
         "cmp" => orders(row.values.as_slice(), row.others.as_slice(), passes),
         "next" => orders(row.values.as_slice(), row.nexts.as_slice(), passes),
+        "canonical" => copies(row, passes),
         _ => Ok(()),
     }
 }

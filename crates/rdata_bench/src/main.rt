@@ -2,13 +2,14 @@
 //!
 //! The first argument is the number of rounds. The first line names the columns, with tabs between: the type, and the
 //! nanoseconds of one call, in tenths: read, emit into an encoder that is kept, emit into a fresh encoder over a vector that
-//! is kept, print into a text that is kept, print the text of a zone file so, clone, `==`, `cmp` of equal values and `cmp` of
-//! a value and a next one. Each is the least of five parts of the rounds.
+//! is kept, print into a text that is kept, print the text of a zone file so, clone, `==`, `cmp` of equal values, `cmp` of
+//! a value and a next one, and all canonical octets copied. Each is the least of five parts of the rounds.
 //!
 //! A second argument, one of these words, takes that column alone and prints nothing: for runs under a counter of requests
 //! for memory. With a third, each value that is read or cloned is compared. In place of the number the word `growth`
 //! prints how the time grows with names, pointers, strings and windows, and `options` how long records of so many options
-//! take, 16,383 where no number follows, which is as many as fit. After the word `parse` and a number of rounds lines
+//! take, 16,383 where no number follows, which is as many as fit. The word `mixed` prints the same for options in no order:
+//! client subnets, options that are alike in their first octets, and options without octets. After the word `parse` and a number of rounds lines
 //! `TYPE TEXT` are read, and the nanoseconds of reading each text as record data printed: as hickory-proto reads it, and as a
 //! zone file's; nothing where it is not read so (`data/texts.txt`, `data/zone_texts.txt`). The word `sort` measures a million
 //! records that are sorted. After the word `names` and a number of rounds 2,000 names of one zone are measured, written into
@@ -40,8 +41,17 @@ use std::io;
 use std::io::BufRead;
 use std::rt::Clock;
 
-const COLUMNS: [&str; 9] = [
-    "read", "emit", "fresh", "print", "zone", "clone", "equal", "cmp", "next",
+const COLUMNS: [&str; 10] = [
+    "read",
+    "emit",
+    "fresh",
+    "print",
+    "zone",
+    "clone",
+    "equal",
+    "cmp",
+    "next",
+    "canonical",
 ];
 
 fn read_row(alloc: Global, line: &str, compares: bool) -> Result<Row> {
@@ -76,6 +86,7 @@ fn main(rt: HostRuntime) -> Result<()> {
     match (word.as_str(), &next) {
         ("growth", _) => growth::print_growth(&rt),
         ("sort", _) => sorting::measure_sorting(&rt),
+        ("mixed", _) => options::measure_mixed(&rt),
         ("options", None) => options::measure_options(&rt, 16383),
         ("options", Some(count)) => options::measure_options(&rt, count.parse::<u16>()?),
         ("parse", Some(rounds)) => measure_texts(&rt, rounds.parse::<u64>()?),

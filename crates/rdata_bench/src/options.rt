@@ -8,20 +8,78 @@ use std::hash::{DefaultHasher, Hash, Hasher};
 use std::rt::Clock;
 use std::time::Instant;
 
-// So many options without octets: their order, whether they stand in it from the last one on, and whether the one that comes
-// last in rising order has another code.
+// What an option holds.
+#[derive(Clone, Copy)]
+enum Body {
+    // Nothing: the code is the number.
+    Empty,
+    // A client subnet with so many octets of an IPv6 address, which begin with the number, in the scope prefix if there are
+    // none.
+    Subnet(u8),
+    // So many octets that are the same in all options, and the number in two.
+    Alike(usize),
+}
+
+impl Body {
+    // The most octets of RDATA that an option of this kind takes.
+    fn width(self) -> usize {
+        match self {
+            Body::Empty => 4,
+            Body::Subnet(address) => 8 + address as usize,
+            Body::Alike(same) => same.min(65535) + 6,
+        }
+    }
+
+    // Appends an option's octets with this number. An option that is made to be the last has a code of its own.
+    fn write(self, number: u16, is_last: bool, octets: &mut Vec<u8>) -> Result<()> {
+        let code = match self {
+            _ if is_last => 65000u16,
+            Body::Empty => number,
+            Body::Subnet(_) => 8,
+            Body::Alike(_) => 20,
+        };
+        octets.extend_from_slice(&code.to_be_bytes())?;
+        let length = self.width() - 4;
+        octets.extend_from_slice(&(length.min(65535) as u16).to_be_bytes())?;
+        let [high, low] = number.to_be_bytes();
+        match self {
+            Body::Empty => {}
+            Body::Subnet(address) => {
+                octets.extend_from_slice(&[0, 2, address.min(16) * 8, low])?;
+                for i in 0..address {
+                    octets.push(match i {
+                        0 => high,
+                        1 => low,
+                        _ => 0,
+                    })?;
+                }
+            }
+            Body::Alike(same) => {
+                for _ in 0..same.min(65535) {
+                    octets.push(97u8)?;
+                }
+                octets.extend_from_slice(&[high, low])?;
+            }
+        }
+        Ok(())
+    }
+}
+
+// So many options: their order, what they hold, whether they stand in that order from the last one on, and whether the one
+// that comes last in rising order has another code.
 #[derive(Drop)]
 struct Options<'a> {
     order: &'a str,
     count: u16,
+    body: Body,
     turned: bool,
     differs: bool,
 }
 
 impl Options<'_> {
-    // The code of an option: rising, falling, mixed, or two codes by turns.
-    fn code(&self, i: u16) -> u16 {
-        // Without code 8, whose options have octets.
+    // The number of an option: rising, falling, mixed, or two numbers by turns.
+    fn number(&self, i: u16) -> u16 {
+        // As codes without 8, whose options have octets.
         match self.order {
             "rising" => i.wrapping_add(100),
             "falling" => self.count.wrapping_sub(i).wrapping_add(100),
@@ -32,11 +90,11 @@ impl Options<'_> {
         }
     }
 
-    // The greatest of the codes.
+    // The greatest of the numbers.
     fn greatest(&self) -> u16 {
         let mut greatest = 0u16;
         for i in 0..self.count {
-            greatest = greatest.max(self.code(i));
+            greatest = greatest.max(self.number(i));
         }
         greatest
     }
@@ -48,13 +106,10 @@ impl Options<'_> {
         let mut octets = Vec::new(alloc);
         for i in 0..self.count {
             let place = if self.turned { self.count - 1 - i } else { i };
-            let mut code = self.code(place);
-            if left && code == greatest {
-                left = false;
-                code = 65000;
-            }
-            octets.extend_from_slice(&code.to_be_bytes())?;
-            octets.extend_from_slice(&[0, 0])?;
+            let number = self.number(place);
+            let is_last = left && number == greatest;
+            left = left && !is_last;
+            self.body.write(number, is_last, &mut octets)?;
         }
         Ok(octets)
     }
@@ -78,10 +133,28 @@ fn sum_of(value: &RData) -> u64 {
     sum
 }
 
-fn measure(rt: &(impl Clock + AllocGlobal + Print), order: &str, count: u16) -> Result<()> {
+// The octets that `copy_to` gives in all.
+fn copied(value: &RData) -> usize {
+    let mut octets = value.canonical_octets();
+    let mut buffer = [0u8; 4096];
+    let mut all = 0usize;
+    for _ in 0..17 {
+        all = all.saturating_add(octets.copy_to(&mut buffer));
+    }
+    all
+}
+
+fn measure(
+    rt: &(impl Clock + AllocGlobal + Print),
+    name: &str,
+    order: &str,
+    body: Body,
+    count: u16,
+) -> Result<()> {
     let mut options = Options {
         order,
         count,
+        body,
         turned: true,
         differs: false,
     };
@@ -99,26 +172,61 @@ fn measure(rt: &(impl Clock + AllocGlobal + Print), order: &str, count: u16) -> 
     let (least, apart) = timed!(rt, first.0.cmp(&other.0));
     anyhow::ensure!(least.is_lt(), "a greater option, and not less");
     let (sum, canonical) = timed!(rt, sum_of(&second.0));
-    let place = (u128::from(count) * 4).wrapping_sub(1);
-    let (last, at) = timed!(rt, second.0.octet_at(place));
-    print!(rt; "{order}")?;
-    for time in [read, equal, hashed, compared, apart, canonical, at] {
+    let length = (count as usize).saturating_mul(body.width());
+    let (last, at) = timed!(rt, second.0.octet_at(length.wrapping_sub(1) as u128));
+    let (all, copy) = timed!(rt, copied(&second.0));
+    anyhow::ensure!(all == length, "another number of octets");
+    print!(rt; "{name}\t{count}")?;
+    for time in [read, equal, hashed, compared, apart, canonical, at, copy] {
         print!(rt; "\t{}", time.as_micros())?;
     }
     println!(rt; "\t{sum} {}", last.is_some())?;
     Ok(())
 }
 
-/// Prints, for records of so many options, 16,383 at most, the microseconds of one read, `==`, hash, `cmp` of equal records
-/// and of records whose last options differ, all canonical octets and the last of them.
+fn print_head(rt: &impl Print) -> Result<()> {
+    println!(rt; "options\tcount\tread\tequal\thash\tcmp\tapart\tcanonical\toctet_at\tcopy_to")?;
+    Ok(())
+}
+
+/// Prints, for records of so many options without octets, 16,383 at most, in several orders the microseconds of one read,
+/// `==`, hash, `cmp` of equal records and of records whose last options differ, all canonical octets one by one, the last of
+/// them, and all of them copied.
 pub fn measure_options(rt: &(impl Clock + AllocGlobal + Print), count: u16) -> Result<()> {
     anyhow::ensure!(
         count >= 1 && count <= 16383,
         "no record holds so many options"
     );
-    println!(rt; "options\tread\tequal\thash\tcmp\tapart\tcanonical\toctet_at")?;
+    print_head(rt)?;
     for order in ["rising", "falling", "mixed", "two", "last"] {
-        measure(rt, order, count)?;
+        measure(rt, order, order, Body::Empty, count)?;
+    }
+    Ok(())
+}
+
+/// Prints the same for options in no order: client subnets of 24, 10 and 8 octets, options of one code with one octet more
+/// than these have in common, options that are alike in their first 60 octets, and options without octets; each in several
+/// numbers, the last as many as fit.
+pub fn measure_mixed(rt: &(impl Clock + AllocGlobal + Print)) -> Result<()> {
+    print_head(rt)?;
+    let shapes = [
+        ("subnets of 24", Body::Subnet(16)),
+        ("subnets of 10", Body::Subnet(2)),
+        ("subnets of 8", Body::Subnet(0)),
+        ("alike", Body::Alike(56)),
+        ("two octets", Body::Alike(0)),
+        ("empty", Body::Empty),
+    ];
+    for (name, body) in shapes {
+        let most = 65535 / body.width();
+        for count in [24, 95, 120, 170, 512, 1023, 2048, most] {
+            if count <= most {
+                measure(rt, name, "mixed", body, count as u16)?;
+            }
+        }
+    }
+    for order in ["falling", "two", "last"] {
+        measure(rt, order, order, Body::Empty, 16383)?;
     }
     Ok(())
 }

@@ -6,7 +6,7 @@ ghost use Rattle.std.specs.Io.KnownBytes.{Appends};
 ghost use Rattle.rdata_command.specs.Request.{texts};
 ghost use Rattle.rdata_command.specs.Comparing.{NotCompare, AsksOrder, NoOrderRequest, HasOrder, PrintedOrder, NoOrder, order_line};
 
-use crate::report::{read_at, say};
+use crate::report::{read_at, reject, say};
 use crate::request::{octets, record_type};
 use dns_rdata::{DecodeError, RecordType};
 use std::alloc::{AllocError, Global};
@@ -89,9 +89,14 @@ fn order_of(alloc: Global, pair: &Pair) -> Result<Ordering, DecodeError>
     Ok(value.0.cmp(&other.0))
 }
 
-/// Reads both, the left one first, writes their order, and tells the status: 0 where both are data of the type, 1 where
-/// one is not, 3 where memory runs out, 4 where the writer refuses.
-pub fn serve_order<W: io::Write>(alloc: Global, pair: &Pair, out: &mut W) -> u8
+/// Reads both, the left one first, writes their order, and returns the status: 0 if both are RDATA of the type, 1 if one
+/// is not, 3 if an allocation fails, 4 if writing fails.
+pub fn serve_order<W: io::Write, E: io::Write>(
+    alloc: Global,
+    pair: &Pair,
+    out: &mut W,
+    err: &mut E,
+) -> u8
     requires left { size pair.now.left.items < 65536 }
     requires right { size pair.now.right.items < 65536 }
     ensures status { (result ≡ 0) ⊎ (result ≡ 1) ⊎ (result ≡ 3) ⊎ (result ≡ 4) }
@@ -102,7 +107,7 @@ pub fn serve_order<W: io::Write>(alloc: Global, pair: &Pair, out: &mut W) -> u8
 {
     match order_of(alloc, pair) {
         Err(DecodeError::Memory) => say(out, "memory\n", 3),
-        Err(_) => say(out, "refused\n", 1),
+        Err(e) => reject(out, err, &e),
         Ok(order) => say(out, order_text(order), 0),
     }
 }

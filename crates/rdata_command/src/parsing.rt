@@ -6,7 +6,7 @@ ghost use Rattle.rdata_command.specs.Request.{texts};
 ghost use Rattle.rdata_command.specs.Parsing.{NotParse, AsksText, NoTextRequest, PrintedText, NoDataText};
 ghost use Rattle.dns_rdata.specs.DataWords.{IsDataText};
 
-use crate::report::{lines, say};
+use crate::report::{lines, reject, say};
 use crate::request::record_type;
 use dns_rdata::{ParseError, RData, RecordType};
 use held_data::Held;
@@ -48,13 +48,14 @@ fn parsed(alloc: Global, record_type: RecordType, text: &str) -> Result<Held, Pa
     Ok(Held(RData::try_from_str(alloc, record_type, text)?))
 }
 
-/// Reads the text, writes the answer, and tells the status: 0 with four lines where the text is of a value of the type,
-/// 1 where it is of none, 3 where memory runs out, 4 where the writer refuses.
-pub fn serve_text<W: io::Write>(
+/// Reads the text, writes the result, and returns the status: 0 with four lines if the text is of a value of the type, 1
+/// if it is of none, 3 if an allocation fails, 4 if writing fails.
+pub fn serve_text<W: io::Write, E: io::Write>(
     alloc: Global,
     record_type: RecordType,
     text: &str,
     out: &mut W,
+    err: &mut E,
 ) -> u8
     ensures status { (result ≡ 0) ⊎ (result ≡ 1) ⊎ (result ≡ 3) ⊎ (result ≡ 4) }
     ensures printed { result ≡ 0 → PrintedText record_type text.now (W.contents out.old) (W.contents out.new) }
@@ -64,7 +65,7 @@ pub fn serve_text<W: io::Write>(
 {
     match parsed(alloc, record_type, text) {
         Err(ParseError::Memory) => say(out, "memory\n", 3),
-        Err(_) => say(out, "refused\n", 1),
+        Err(e) => reject(out, err, &e),
         Ok(value) => match lines(alloc, record_type, &value.0) {
             Err(_) => say(out, "memory\n", 3),
             Ok(text) => say(out, text.as_str(), 0),

@@ -13,7 +13,7 @@ use dns_rdata::{
 };
 use held_data::Held;
 use std::alloc::{AllocError, Global};
-use std::io;
+use std::{fmt, io};
 
 // Reads the data of a record at a place of a message.
 fn value_at(
@@ -141,9 +141,27 @@ pub fn say<W: io::Write>(out: &mut W, text: &str, status: u8) -> u8
     }
 }
 
-/// Reads what is asked for, writes the answer, and tells the status: 0 with four lines where a value fills the octets,
-/// 1 where none does, 3 where memory runs out, 4 where the writer refuses.
-pub fn serve<W: io::Write>(alloc: Global, request: &Request, out: &mut W) -> u8
+/// Writes `refused` to `out` and the reason to `err`, and returns the status. Whether the reason can be written changes
+/// nothing: standard error may be closed.
+pub fn reject<W: io::Write, E: io::Write, T: fmt::Display>(
+    out: &mut W,
+    err: &mut E,
+    reason: &T,
+) -> u8
+    ensures { (result ≡ 4) ⊎ ((result ≡ 1) × Appends (W.contents out.old) (W.contents out.new) (codes "refused\n")) }
+{
+    let _ = writeln!(err, "{reason}");
+    say(out, "refused\n", 1)
+}
+
+/// Reads what is asked for, writes the result, and returns the status: 0 with four lines if a value fills the octets, 1 if
+/// none does, 3 if an allocation fails, 4 if writing fails.
+pub fn serve<W: io::Write, E: io::Write>(
+    alloc: Global,
+    request: &Request,
+    out: &mut W,
+    err: &mut E,
+) -> u8
     requires { request.now.place ≤ size request.now.message.items }
     ensures status { (result ≡ 0) ⊎ (result ≡ 1) ⊎ (result ≡ 3) ⊎ (result ≡ 4) }
     ensures printed { result ≡ 0 → Printed request.now.message.items request.now.place request.now.length request.now.record_type (W.contents out.old)
@@ -161,7 +179,7 @@ pub fn serve<W: io::Write>(alloc: Global, request: &Request, out: &mut W) -> u8
     );
     match outcome {
         Err(DecodeError::Memory) => say(out, "memory\n", 3),
-        Err(_) => say(out, "refused\n", 1),
+        Err(e) => reject(out, err, &e),
         Ok(value) => match lines(alloc, request.record_type, &value.0) {
             Err(_) => say(out, "memory\n", 3),
             Ok(text) => say(out, text.as_str(), 0),

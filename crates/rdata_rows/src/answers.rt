@@ -6,7 +6,7 @@ use anyhow::Result;
 use rdata_command::run;
 use replay::fields_of;
 use std::alloc::{AllocError, Global};
-use std::io::{BufRead, BufReader, BufWriter, Write};
+use std::io::{self, BufRead, BufReader, BufWriter, Write};
 
 // Appends the text with its line ends, tabs and backslashes escaped.
 fn push_escaped(all: &mut String, text: &str) -> std::result::Result<(), AllocError> {
@@ -25,7 +25,7 @@ fn push_escaped(all: &mut String, text: &str) -> std::result::Result<(), AllocEr
 fn answer(alloc: Global, line: &str) -> Result<String> {
     let words = fields_of(alloc, line)?;
     let mut out: Vec<u8> = Vec::new(alloc);
-    let status = run(alloc, words.as_slice(), &mut out);
+    let status = run(alloc, words.as_slice(), &mut out, &mut io::sink());
     let mut all = format!(in alloc; "{status}\t")?;
     push_escaped(&mut all, std::str::from_utf8(out.as_slice())?)?;
     all.push('\n')?;
@@ -34,7 +34,7 @@ fn answer(alloc: Global, line: &str) -> Result<String> {
 
 /// Answers each line of standard input.
 pub fn answer_all(rt: &(impl Input + AllocGlobal + Print)) -> Result<()> {
-    let mut out = BufWriter::new(rt.alloc(), std::io::writer(rt))?;
+    let mut out = BufWriter::new(rt.alloc(), io::writer(rt))?;
     for line in BufReader::new(rt.alloc(), rt.reader())?.lines(rt.alloc()) {
         out.write_all(answer(rt.alloc(), line?.as_str())?.as_bytes())?;
     }

@@ -18,6 +18,7 @@ use anyhow::{Result, bail};
 use rdata_command::run;
 use replay::{Interpreter, replay};
 use std::alloc::Global;
+use std::io;
 
 /// The program: a line has the status and the output that are wanted, and the words.
 struct Commands;
@@ -28,7 +29,7 @@ impl Interpreter for Commands {
             bail!("a status or an output is missing");
         };
         let mut out: Vec<u8> = Vec::new(alloc);
-        let status = run(alloc, words, &mut out);
+        let status = run(alloc, words, &mut out, &mut io::sink());
         let output = String::from_utf8(out)?;
         if status != wanted_status.as_str().parse::<u8>()? || output.as_str() != wanted.as_str() {
             return Ok(Some(output));
@@ -89,7 +90,7 @@ fn reads_again(alloc: Global, words: &[String], output: &str) -> Result<bool> {
     words.push(format!(in alloc; "{length}")?)?;
     words.push(String::from_str(alloc, octets)?)?;
     let mut out: Vec<u8> = Vec::new(alloc);
-    let status = run(alloc, words.as_slice(), &mut out);
+    let status = run(alloc, words.as_slice(), &mut out, &mut io::sink());
     let text = std::str::from_utf8(out.as_slice())?;
     Ok(status == 0 && canonical_line(text) == Some(octets))
 }

@@ -3,6 +3,7 @@
 use anyhow::{Result, bail};
 use dns_names_wire::{BinDecodable, BinDecoder, Name, ParseError};
 use dns_types::{Octets, RecordType, Strings};
+use dns_zone_parameters::put_parameters;
 use dns_zone_rows::{row_octets, row_of};
 use dns_zone_words::{
     Field, NameField, StringField, ZoneWords, all_base64, ipv4_of, is_unknown_mark, name_field,
@@ -45,6 +46,15 @@ fn row(alloc: Global, record_type: &str, text: &str) -> Result<String> {
     }
 }
 
+// The octets in hexadecimal that service parameters give, or why there are none.
+fn parameters(alloc: Global, words: &mut ZoneWords<'_>) -> Result<String> {
+    let mut octets = Vec::new(alloc);
+    match put_parameters(alloc, words, &mut octets) {
+        Ok(()) => Ok(hex::encode(alloc, octets.as_slice())?),
+        Err(e) => Ok(format!(in alloc; "{e}")?),
+    }
+}
+
 // The strings that all words are.
 fn strings(alloc: Global, words: &mut ZoneWords<'_>) -> std::result::Result<Strings, ParseError> {
     let mut strings = Strings::new(alloc);
@@ -73,14 +83,15 @@ fn name(
     Ok(Name::read(&mut decoder)?)
 }
 
-/// The value of a text's first words as a field of a kind, or why it is refused; of `row` and a type, the octets of all
-/// its words. Names are below `ex`, but for a `name alone`.
+/// The value of a text's first tokens as a field of a kind, or the error; of `row` and a type, and of `parameters`, the
+/// octets of all its tokens. Names are below `ex`, but for a `name alone`.
 pub fn field(alloc: Global, kind: &str, text: &str) -> Result<String> {
     if let Some(record_type) = kind.strip_prefix("row ") {
         return row(alloc, record_type, text);
     }
     let mut words = ZoneWords::new(text.as_bytes());
     match kind {
+        "parameters" => parameters(alloc, &mut words),
         "strings" => show(alloc, strings(alloc, &mut words)),
         "base64" => show(alloc, all_base64(alloc, &mut words, "no base64")),
         "number" => show(alloc, next_u16(&mut words, NUMBER)),

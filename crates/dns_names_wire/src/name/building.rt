@@ -1,4 +1,4 @@
-//! Names put together from labels, texts and other names.
+//! Names made of labels, texts and other names.
 
 ghost use Rattle.std.specs.Prelude.{◌≡◌, ◌≤◌, ◌<◌, map, drop, length, IfOk, IfErr, Err};
 ghost use Rattle.std.specs.Option.{option_copied};
@@ -12,8 +12,12 @@ use dns_types::{ProtoError, ProtoResult};
 use std::alloc::{AllocError, Global};
 
 impl Name {
-    /// The fully qualified name of these labels, from the left. Refused by [`Message`](ProtoError::Message) where a
-    /// label has no octet or more than 63, or the name would have more than 255.
+    /// The fully qualified name of these labels, from the left.
+    ///
+    /// # Errors
+    ///
+    /// - [`Message`](ProtoError::Message): a label has no octet or more than 63, or the name would have more than 255.
+    /// - [`Memory`](ProtoError::Memory): an allocation failed.
     pub fn from_labels(alloc: Global, labels: &[&[u8]]) -> ProtoResult<Name>
         ensures ok { IfOk result (λ x. x ≡ qualified (map (λ label. label.now) labels.now)) }
         ensures refused { IfErr result (λ e. IsTextRefusal e (IsName (qualified (map (λ label. label.now) labels.now)) → ⊥)) }
@@ -25,8 +29,8 @@ impl Name {
         }
     }
 
-    /// The name with one label more, behind the others; its mark stays. Refused by [`Message`](ProtoError::Message)
-    /// where the label has no octet or more than 63, or the name would have more than 255.
+    /// The name with one label more, after the others, and as qualified as before. Fails as
+    /// [`from_labels`](Name::from_labels).
     pub fn append_label(self, label: &[u8]) -> ProtoResult<Name>
         ensures ok { IfOk result (λ x. x ≡ with_label self label.now) }
         ensures refused { IfErr result (λ e. IsTextRefusal e (IsName (with_label self label.now) → ⊥)) }
@@ -40,8 +44,12 @@ impl Name {
         }
     }
 
-    /// The labels of both names, and the mark of the second. Refused by [`Message`](ProtoError::Message) where there
-    /// would be more than 255 octets.
+    /// The labels of both names, as qualified as the second.
+    ///
+    /// # Errors
+    ///
+    /// - [`Message`](ProtoError::Message): there would be more than 255 octets.
+    /// - [`Memory`](ProtoError::Memory): an allocation failed.
     pub fn append_name(self, other: &Name) -> ProtoResult<Name>
         ensures ok { IfOk result (λ x. x ≡ joined_name self other.now) }
         ensures refused { IfErr result (λ e. IsTextRefusal e (IsName (joined_name self other.now) → ⊥)) }
@@ -55,7 +63,7 @@ impl Name {
         }
     }
 
-    /// The labels of both names, fully qualified. Refused as `append_name`.
+    /// The labels of both names, fully qualified. Fails as [`append_name`](Name::append_name).
     pub fn append_domain(self, domain: &Name) -> ProtoResult<Name>
         ensures ok { IfOk result (λ x. x ≡ qualified (joined_name self domain.now).labels) }
         ensures refused { IfErr result (λ e. IsTextRefusal e (IsName (joined_name self domain.now) → ⊥)) }
@@ -79,9 +87,13 @@ impl Name {
         }
     }
 
-    /// The name of a text, by `from_str`; a relative one gets labels and mark of the origin, where one is given.
-    /// Refused by [`Message`](ProtoError::Message) where it is no text of a name, or where there would be more than 255
-    /// octets.
+    /// The name of a text, by `from_str`. A relative name is completed with the origin; without an origin it stays
+    /// relative. `@` is a label.
+    ///
+    /// # Errors
+    ///
+    /// - [`Message`](ProtoError::Message): the text is no name, or there would be more than 255 octets.
+    /// - [`Memory`](ProtoError::Memory): an allocation failed.
     pub fn parse(alloc: Global, text: &str, origin: Option<&Name>) -> ProtoResult<Name>
         ensures found { IfOk result (λ x. IsParsed text.now (option_copied origin.entry) x) }
         ensures refused { IfErr result (λ e. IsTextRefusal e ((x : DomainName) → IsParsed text.now (option_copied origin.entry) x → ⊥)) }
@@ -89,7 +101,7 @@ impl Name {
         Name::from_str(alloc, text)?.complete(origin)
     }
 
-    /// The name with A to Z lowered, in memory that is asked for once. Fails only for want of memory.
+    /// The name with A to Z lowercased. Fails only if an allocation fails.
     pub fn to_lowercase(&self) -> Result<Name, AllocError>
         ensures { IfOk result (λ x. x ≡ in_lowercase self.now) }
     {
@@ -98,8 +110,8 @@ impl Name {
         Ok(Name::from_octets(NameOctets::from_vec(octets), self.is_fqdn.get()))
     }
 
-    /// The name without its first label, its mark kept; of a name without labels that name. Fails only for want of
-    /// memory.
+    /// The name without its first label, as qualified as before; of a name without labels that name. Fails only if an
+    /// allocation fails.
     pub fn base_name(&self) -> Result<Name, AllocError>
         ensures { IfOk result (λ x. x ≡ parent_name self.now) }
     {

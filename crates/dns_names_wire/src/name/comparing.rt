@@ -1,4 +1,4 @@
-//! Names compared without the case of ASCII letters.
+//! Names compared without ASCII case.
 
 ghost use Rattle.std.specs.Prelude.{◌≡◌, ◌↔◌, IsTrue, map};
 ghost use Rattle.std.specs.{Char.to_ascii_lowercase, Cmp.partial_order_from_own_ties, Ordering.as_partial_cmp};
@@ -19,7 +19,7 @@ impl PartialEq for Name {
 
     ghost laws = { Prim.search (comparing, rules) };
 
-    /// Whether the marks are the same, and the labels but for the case of ASCII letters.
+    /// Whether both are fully qualified or both relative, and have the same labels without ASCII case.
     #[inline]
     fn eq(&self, other: &Name) -> bool
         ensures value { result ≡ name_eq self.now other.now }
@@ -72,7 +72,7 @@ impl Ord for Name {
 
     ghost matches_eq = { Prim.search (comparing, rules) };
 
-    /// By the first difference of the canonical octets, and then a relative name first.
+    /// By the first difference of the canonical octets, and then the relative name first.
     fn cmp(&self, other: &Name) -> Ordering {
         compare_lowered(self.octets.as_slice(), other.octets.as_slice()).then(
             self.is_fqdn.get().cmp(&other.is_fqdn.get()),
@@ -85,7 +85,7 @@ impl Hash for Name {
 
     ghost respects_eq = { Prim.search (hashing, rules) };
 
-    /// Feeds the canonical octets at once, and the mark.
+    /// Feeds the canonical octets at once, and whether the name is fully qualified.
     fn hash<H: Hasher>(&self, state: &mut H) {
         hash_lowered(self.octets.as_slice(), state);
         self.is_fqdn.get().hash(state);
@@ -102,8 +102,8 @@ impl Name {
             && self.octets.as_slice() == other.octets.as_slice()
     }
 
-    /// Whether the other name is this one or below it, but for the case of ASCII letters and the marks: its last labels
-    /// are the labels of this one. Takes no memory.
+    /// Whether the other name is this one or below it, without ASCII case: its last labels are the labels of this one,
+    /// fully qualified or not. Allocates nothing.
     pub fn zone_of(&self, name: &Name) -> bool
         ensures { IsTrue result ↔ IsInZone name.now self.now }
     {

@@ -6,8 +6,8 @@ use std::marker::Model;
 
 /// A `bool` that fills a word.
 ///
-/// Behind a `bool` of one octet a name would have seven octets that hold nothing. They are moved with it in two parts that
-/// overlap, and a load of both waits until they are stored: half of the time of a short record.
+/// Behind a `bool` of one octet a name would have seven octets that hold nothing. They are moved with it in two parts
+/// that overlap, and a load of both waits until they are stored: half of the time of a short record.
 #[derive(Drop)]
 pub struct Mark {
     word: u64,

@@ -1,4 +1,4 @@
-//! Texts of names (RFC 1035, 5.1).
+//! Texts of names (RFC 1035, section 5.1).
 
 ghost use Rattle.std.specs.Prelude.{◌≡◌, ◌⊎◌, string_bytes, IfOk, IfErr, MatchResult, Some};
 ghost use Rattle.dns_fields.specs.Labels.{DomainName, IsName};
@@ -15,10 +15,15 @@ use std::fmt;
 impl Name {
     /// The name of a text.
     ///
-    /// A dot is the root, and no text the relative name without labels. Every other text is labels joined by dots,
-    /// with a dot at the end where the name is fully qualified. An octet of a label is a graphic character of ASCII
-    /// but `.` and `\`, or `\` and three digits up to 255, or `\` and a graphic character that is no digit. Every
-    /// other text is refused by [`Message`](ProtoError::Message), which says why. Takes memory once.
+    /// A dot is the root, and no text the relative name without labels. Every other text is labels joined by dots, with
+    /// a dot at the end if the name is fully qualified. An octet of a label is a graphic character of ASCII but `.` and
+    /// `\`, or `\` and three digits up to 255, or `\` and a graphic character that is no digit. Allocates once if the
+    /// name has more than 32 octets.
+    ///
+    /// # Errors
+    ///
+    /// - [`Message`](ProtoError::Message): any other text; the message says why.
+    /// - [`Memory`](ProtoError::Memory): an allocation failed.
     pub fn from_ascii(alloc: Global, text: &str) -> ProtoResult<Name>
         ensures found { IfOk result (λ x. IsNameText x text.now) }
         ensures refused { IfErr result (λ e. IsTextRefusal e ((x : DomainName) → IsNameText x text.now → ⊥)) }
@@ -43,7 +48,7 @@ impl Name {
         Name::from_ascii(alloc, text)
     }
 
-    /// The text, as it is printed. Fails only for want of memory.
+    /// The text, as it is printed. Fails only if an allocation fails.
     pub fn to_ascii(&self) -> Result<String, AllocError>
         ensures { IfOk result (λ text. string_bytes text ≡ name_text self.now) }
     {
@@ -54,8 +59,9 @@ impl Name {
 impl fmt::Display for Name {
     ghost output = { λ n. Some (name_text n) };
 
-    /// The labels joined by dots, with a dot at the end where it is fully qualified. In a label `.` and `\` stand
-    /// behind a `\`, and an octet that is no graphic character of ASCII is `\` and three digits. Takes no memory.
+    /// Prints the labels joined by dots, with a dot at the end if the name is fully qualified. In a label `.` and `\`
+    /// are preceded by `\`, and an octet that is no graphic character of ASCII is `\` and three digits. Allocates
+    /// nothing.
     fn fmt<W: fmt::Write>(&self, f: &mut fmt::Formatter<W>) -> fmt::Result {
         f.write(NameText::new(self.octets.as_slice(), self.is_fqdn.get()))
     }

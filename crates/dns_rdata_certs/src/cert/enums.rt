@@ -184,8 +184,8 @@ impl fmt::Display for CertType {
     }
 }
 
-/// The algorithm of a certificate, with the numbers of DNSSEC's algorithms (RFC 4398, 2; RFC 4034, A.1). Algorithms are ordered by
-/// number, and then as declared here.
+/// The algorithm of a certificate, with the numbers of DNSSEC's algorithms (RFC 4398, 2; RFC 4034, A.1). Algorithms are
+/// ordered by number, and then as declared here.
 #[derive(Clone, Copy, Debug)]
 pub enum Algorithm {
     /// Reserved: `from` gives it for 0, 9 and 11.

@@ -10,7 +10,8 @@ ghost use Rattle.dns_rdata_certs.specs.Enums.{matching_number, matching_variant,
 use std::cmp::Ordering;
 use std::hash::{Hash, Hasher};
 
-/// How a certificate is used (RFC 6698, 2.1.1; names of RFC 7218). Usages are ordered by number, and then as declared here.
+/// How a certificate is used (RFC 6698, 2.1.1; names of RFC 7218). Usages are ordered by number, and then as declared
+/// here.
 #[derive(Clone, Copy, Debug)]
 pub enum CertUsage {
     /// An authority, under the checks of PKIX (0).
@@ -128,8 +129,8 @@ impl Ord for CertUsage {
     }
 }
 
-/// Which part of a certificate is compared (RFC 6698, 2.1.2; names of RFC 7218). Selectors are ordered by number, and then as
-/// declared here.
+/// Which part of a certificate is compared (RFC 6698, 2.1.2; names of RFC 7218). Selectors are ordered by number, and
+/// then as declared here.
 #[derive(Clone, Copy, Debug)]
 pub enum Selector {
     /// The whole certificate (0).
@@ -240,7 +241,8 @@ impl Ord for Selector {
     }
 }
 
-/// How the data is compared (RFC 6698, 2.1.3; names of RFC 7218). Ways are ordered by number, and then as declared here.
+/// How the data is compared (RFC 6698, 2.1.3; names of RFC 7218). Ways are ordered by number, and then as declared
+/// here.
 #[derive(Clone, Copy, Debug)]
 pub enum Matching {
     /// The part as it is (0).

@@ -39,7 +39,7 @@ impl Model for KeyValue {
 impl KeyValue {
     ghost use Rattle.std.specs.String.{string_bytes};
 
-    /// With these texts, which are moved.
+    /// Makes a parameter of these texts, which are moved.
     #[inline]
     pub fn new(key: String, value: String) -> KeyValue
         ensures { result ≡ record { key = string_bytes key; value = string_bytes value } }
@@ -224,14 +224,17 @@ fn read_name(alloc: Global, octets: &[u8]) -> ProtoResult<Option<Name>>
 
 /// The name and the parameters that the value of an issuer property has (RFC 8659, 4.2).
 ///
-/// The octets in front of the first `;`, or all where there is none, are a name by `Name::from_ascii`; no octets are
-/// no name. Behind that `;` stand blanks, which are any number of `;`, spaces and tabs; or blanks and a parameter; or
-/// blanks, a parameter, a `;`, and again such octets. A parameter is a key, `=` and a value: a key one ASCII letter or
-/// digit, or two and then any number of letters, digits and `-`; a value any number of octets 0x21 to 0x3A and 0x3C to
+/// The octets before the first `;`, or all if there is none, are a name by `Name::from_ascii`; no octets are no name.
+/// After that `;` are blanks, which are any number of `;`, spaces and tabs; or blanks and a parameter; or blanks, a
+/// parameter, a `;`, and again such octets. A parameter is a key, `=` and a value: a key is one ASCII letter or digit,
+/// or two and then any number of letters, digits and `-`; a value is any number of octets 0x21 to 0x3A and 0x3C to
 /// 0x7E.
 ///
-/// A name's octets that are not UTF-8 are refused by [`Decode`](ProtoError::Decode) of `Utf8`, anything else by
-/// [`Message`](ProtoError::Message).
+/// # Errors
+///
+/// - [`Decode`](ProtoError::Decode) of `Utf8`: the octets of the name are not UTF-8.
+/// - [`Message`](ProtoError::Message): there is no such name or parameter.
+/// - [`Memory`](ProtoError::Memory): an allocation failed.
 #[tactic(auto, using(crate::proofs::Issuers::issuer_read))]
 pub fn read_issuer(alloc: Global, octets: &[u8]) -> ProtoResult<(Option<Name>, Vec<KeyValue>)>
     ensures read { IfOk result (λ x. IsIssuer octets.now x.0 x.1.items) }
@@ -246,8 +249,8 @@ pub fn read_issuer(alloc: Global, octets: &[u8]) -> ProtoResult<(Option<Name>, V
     Ok((name, pairs))
 }
 
-/// The text of a URL for incident reports (RFC 8659, 4.4), as it is. Refused by [`Decode`](ProtoError::Decode) of
-/// `Utf8` exactly where it is not UTF-8. Takes no memory.
+/// The text of a URL for incident reports (RFC 8659, section 4.4), as it is. Fails with [`Decode`](ProtoError::Decode)
+/// of `Utf8` exactly if it is not UTF-8. Allocates nothing.
 pub fn read_iodef(url: &[u8]) -> ProtoResult<&str>
     ensures read { IfOk result (λ text. (text.now ≡ url.now) × IsUtf8 url.now) }
     ensures refused { IfErr result (λ e. (e ≡ proto.Decode decode.Utf8) × (IsUtf8 url.now → ⊥)) }

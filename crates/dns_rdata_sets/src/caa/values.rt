@@ -31,8 +31,8 @@ fn is_iodef_tag(tag: &[u8]) -> bool
 
 impl CAA {
     /// The issuer that may issue certificates for the domain, and its parameters: tag `issue`, reserved flags 0. The
-    /// value is the name's `to_ascii`, and `; `, key, `=` and value of each parameter; `;` where there is neither. Fails
-    /// only for want of memory.
+    /// value is the name's `to_ascii`, and `; `, key, `=` and value of each parameter; `;` if there is neither. Fails
+    /// only if an allocation fails.
     pub fn new_issue(
         issuer_critical: bool,
         name: Option<Name>,
@@ -81,8 +81,8 @@ impl CAA {
         })
     }
 
-    /// Where incidents are reported: tag `iodef`, reserved flags 0, and the URL's octets, which are moved. Fails only for
-    /// want of memory.
+    /// Where incidents are reported: tag `iodef`, reserved flags 0, and the URL's octets, which are moved. Fails only
+    /// if an allocation fails.
     pub fn new_iodef(issuer_critical: bool, url: String) -> Result<CAA, AllocError>
         ensures made { IfOk result (λ x. x ≡ record { issuer_critical = issuer_critical; reserved_flags = 0; tag = codes "iodef"; value = string_bytes url }) }
     {
@@ -95,9 +95,14 @@ impl CAA {
         })
     }
 
-    /// Sets the value of an issuer, as `new_issue` makes it. A tag other than `issue` and `issuewild`, the case of
-    /// ASCII letters ignored, is refused by [`Message`](ProtoError::Message). After a refusal, for memory too, the
-    /// record is as it was.
+    /// Sets the value of an issuer, as `new_issue` makes it.
+    ///
+    /// # Errors
+    ///
+    /// The record is unchanged then.
+    ///
+    /// - [`Message`](ProtoError::Message): the tag is not `issue` or `issuewild`, in any case.
+    /// - [`Memory`](ProtoError::Memory): an allocation failed.
     #[tactic(auto, using(crate::proofs::Issuers::issuer_written))]
     pub fn set_issuer_value(
         &mut self,
@@ -119,8 +124,14 @@ impl CAA {
         Ok(())
     }
 
-    /// Sets the value of where incidents are reported. A tag other than `iodef`, the case of ASCII letters ignored, is
-    /// refused by [`Message`](ProtoError::Message). After a refusal, for memory too, the record is as it was.
+    /// Sets the URL where incidents are reported.
+    ///
+    /// # Errors
+    ///
+    /// The record is unchanged then.
+    ///
+    /// - [`Message`](ProtoError::Message): the tag is not `iodef`, in any case.
+    /// - [`Memory`](ProtoError::Memory): an allocation failed.
     pub fn set_iodef_value(&mut self, url: &str) -> ProtoResult<()>
         ensures set { OnOk result (self.new ≡ record self.old { value = url.now }) }
         ensures tag { OnOk result (IsIodefTag self.old.tag) }
@@ -135,8 +146,8 @@ impl CAA {
         Ok(())
     }
 
-    /// The issuer's name and parameters, by `read_issuer`. A tag other than `issue` and `issuewild`, the case of ASCII
-    /// letters ignored, is refused by [`Message`](ProtoError::Message).
+    /// The issuer's name and parameters, by `read_issuer`. Fails also with [`Message`](ProtoError::Message) if the tag
+    /// is not `issue` or `issuewild`, in any case.
     pub fn value_as_issue(&self) -> ProtoResult<(Option<Name>, Vec<KeyValue>)>
         ensures read { IfOk result (λ x. IsIssuer self.now.value x.0 x.1.items) }
         ensures tag { OnOk result (IsIssuerTag self.now.tag) }
@@ -148,8 +159,8 @@ impl CAA {
         read_issuer(self.value.allocator(), self.value.as_slice())
     }
 
-    /// The URL where incidents are reported, by `read_iodef`. A tag other than `iodef`, the case of ASCII letters
-    /// ignored, is refused by [`Message`](ProtoError::Message). Takes no memory.
+    /// The URL where incidents are reported, by `read_iodef`. Fails also with [`Message`](ProtoError::Message) if the
+    /// tag is not `iodef`, in any case. Allocates nothing.
     pub fn value_as_iodef(&self) -> ProtoResult<&str>
         ensures read { IfOk result (λ text. (text.now ≡ self.now.value) × IsUtf8 self.now.value) }
         ensures tag { OnOk result (IsIodefTag self.now.tag) }

@@ -12,8 +12,8 @@ use std::alloc::{AllocError, Global};
 // The most octets of a block (RFC 4034, 4.1.2).
 pub(super) const MOST: usize = 32;
 
-// The numbers of the types of blocks: in the order of the bits where the windows rise, as in every bitmap that is written
-// as the RFC asks; else by marking them, so that a window which stands again takes no memory again.
+// The numbers of the types of blocks: in the order of the bits where the windows rise, as in every bitmap that is
+// written as the RFC asks; else by marking them, so that a window which stands again takes no memory again.
 #[tactic(auto, using(crate::proofs::Marks::left_all, crate::proofs::Marks::left_shorter, crate::proofs::Marks::are_blocks))]
 pub(super) fn read_blocks(alloc: Global, octets: &[u8]) -> Result<Vec<u16>, DecodeError>
     ensures read { IfOk result (λ numbers. AreBlocks octets.now (held numbers.items)) }

@@ -25,8 +25,8 @@ impl RecordTypeSet {
     }
 }
 
-/// The first window of numbers that rise, by one pass over them. Its octets, and zeros behind them, come to stand in place of
-/// the 32 that are given.
+/// The first window of numbers that rise, by one pass over them. Its octets, and zeros behind them, come to stand in
+/// place of the 32 that are given.
 #[inline]
 pub fn first_window(numbers: &[u16], octets: &mut [u8; 32]) -> Window
     requires some { 0 < length numbers.now }

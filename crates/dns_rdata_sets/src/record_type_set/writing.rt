@@ -67,8 +67,9 @@ pub(super) fn mark_window(octets: &mut [u8; 32], run: &[u16])
     }
 }
 
-// The bits of the numbers in front that are below 64 in their window, as most are, the first one highest, and how many these
-// numbers are. Octets that are stored one by one are slow to load together, so these are put together in one number.
+// The bits of the numbers in front that are below 64 in their window, as most are, the first one highest, and how many
+// these numbers are. Octets that are stored one by one are slow to load together, so these are put together in one
+// number.
 #[inline]
 #[tactic(auto, using(crate::proofs::Windows::front_more))]
 fn first_word(run: &[u16]) -> (u64, usize)

@@ -10,6 +10,7 @@ use held_data::{Held, record_type};
 use rdata_command::run;
 use replay::octets;
 use std::alloc::Global;
+use std::io;
 
 // Why the data of so many octets is refused, and the place where reading ends.
 fn end(
@@ -148,5 +149,5 @@ pub fn flags(alloc: Global, text: &str) -> Result<String> {
 pub fn little_room(alloc: Global, words: &[String]) -> Result<String> {
     let mut room = [0u8; 5];
     let mut out = &mut room[..];
-    shown(alloc, run(alloc, words, &mut out))
+    shown(alloc, run(alloc, words, &mut out, &mut io::sink()))
 }

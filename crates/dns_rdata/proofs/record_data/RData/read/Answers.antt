@@ -1,4 +1,4 @@
-use Rattle.std.proofs.Common.{refl, arith, ℕ}
+use Rattle.std.proofs.Common.{arith, ℕ}
 use Rattle.std.proofs.lemmas.Result.{err_from_is_err_and}
 use Rattle.std.specs.Prelude.{◌≡◌, ◌+◌, Result, Err, IfOk, IfErr, OnOk}
 use Rattle.std.specs.Result.{IsErrAnd}
@@ -8,16 +8,12 @@ use Rattle.dns_names_wire.specs.{Words.StaysBehind, Words.UnlessMemory, State.Re
 use Rattle.dns_rdata.specs.{Laws.ReadsCanonical, Refusals.IsRefusal, declared.record_data.RData.RData}
 use Rattle.dns_rdata.specs.Data.{Fills, IsEmittable, IsNeverRead, NoValue, type_of}
 use Rattle.dns_types.specs.declared.record_type.RecordType.TheVariants as types
-use Rattle.dns_rdata_base.specs as base
-use Rattle.dns_rdata_certs.specs as certs
-use Rattle.dns_rdata_options.specs as options
-use Rattle.dns_rdata_service.specs as service
-use Rattle.dns_rdata_sets.specs as sets
 use Rattle.dns_rdata.specs.declared.record_data.RData.TheVariants as rdata
 use Rattle.dns_rdata.proofs.DataLaws.{canonical_of, emittable_of}
 use Rattle.dns_rdata.proofs.DataReads.{ReadsCounted, reads_after, reads_behind, reads_found, reads_kind, reads_never, reads_refused, reads_why}
-use Rattle.dns_rdata.proofs.DataReads.{IsNone, row_types, has_no_row, null_counted, of_read, reads_counted, unknown_counted, unread_counted}
-use Rattle.dns_rdata.proofs.DataReads.{zero_counted}
+use Rattle.dns_rdata.proofs.DataReads.{IsNone, row_types, has_no_row, counted_own, unread_counted, zero_counted}
+use Rattle.dns_rdata.proofs.OwnReads.{own_a, own_aaaa, own_aname, own_caa, own_cert, own_cname, own_csync, own_hinfo, own_https, own_mx, own_naptr, own_null}
+use Rattle.dns_rdata.proofs.OwnReads.{own_ns, own_openpgpkey, own_opt, own_ptr, own_smimea, own_soa, own_srv, own_sshfp, own_svcb, own_tlsa, own_txt, own_unknown}
 use Rattle.dns_rdata.proofs.record_data.RData.read.Goals as goal
 
 -- what the clauses say of a type
@@ -57,142 +53,142 @@ fails : {t u : RecordType} {n : ℕ} {e : DecodeError} {old new : Reading} (r : 
 fails r is err h = let p = err_from_is_err_and r err in clauses (rw (is, p.1, p.2) h)
 
 pub returns-in-A : goal.returns-in-A
-returns-in-A c = gives c.in-A.is (reads_counted types.A rdata.A base.A.a_fields (λ h. h) c.index-start.ensures.place c.in_ok-by_length-in-A.ensures c.read_data-data.ensures.window c.read_data-data.ensures.refused (λ x _. record { type = refl; fields = refl; plain = tt }))
+returns-in-A c = gives c.in-A.is (counted_own types.A rdata.A _ c.index-start.ensures.place c.in_ok-by_length-in-A.ensures (own_a _ c.read_data-data.ensures))
 
 pub returns-in_err-by_length-in-A : goal.returns-in_err-by_length-in-A
-returns-in_err-by_length-in-A c = fails c.from_residual.result c.in-A.is c.from_residual.ensures.1 (reads_counted types.A rdata.A base.A.a_fields (λ h. h) c.index-start.ensures.place c.in_err-by_length-in-A.ensures c.read_data-data.ensures.window c.read_data-data.ensures.refused (λ x _. record { type = refl; fields = refl; plain = tt }))
+returns-in_err-by_length-in-A c = fails c.from_residual.result c.in-A.is c.from_residual.ensures.1 (counted_own types.A rdata.A _ c.index-start.ensures.place c.in_err-by_length-in-A.ensures (own_a _ c.read_data-data.ensures))
 
 pub returns-in-AAAA : goal.returns-in-AAAA
-returns-in-AAAA c = gives c.in-AAAA.is (reads_counted types.AAAA rdata.AAAA base.AAAA.aaaa_fields (λ h. h) c.index-start.ensures.place c.in_ok-by_length-in-AAAA.ensures c.read_data-data-in-AAAA.ensures.window c.read_data-data-in-AAAA.ensures.refused (λ x _. record { type = refl; fields = refl; plain = tt }))
+returns-in-AAAA c = gives c.in-AAAA.is (counted_own types.AAAA rdata.AAAA _ c.index-start.ensures.place c.in_ok-by_length-in-AAAA.ensures (own_aaaa _ c.read_data-data-in-AAAA.ensures))
 
 pub returns-in_err-by_length-in-AAAA : goal.returns-in_err-by_length-in-AAAA
-returns-in_err-by_length-in-AAAA c = fails c.from_residual-in_err-by_length-in-AAAA.result c.in-AAAA.is c.from_residual-in_err-by_length-in-AAAA.ensures.1 (reads_counted types.AAAA rdata.AAAA base.AAAA.aaaa_fields (λ h. h) c.index-start.ensures.place c.in_err-by_length-in-AAAA.ensures c.read_data-data-in-AAAA.ensures.window c.read_data-data-in-AAAA.ensures.refused (λ x _. record { type = refl; fields = refl; plain = tt }))
+returns-in_err-by_length-in-AAAA c = fails c.from_residual-in_err-by_length-in-AAAA.result c.in-AAAA.is c.from_residual-in_err-by_length-in-AAAA.ensures.1 (counted_own types.AAAA rdata.AAAA _ c.index-start.ensures.place c.in_err-by_length-in-AAAA.ensures (own_aaaa _ c.read_data-data-in-AAAA.ensures))
 
 pub returns-in-ANAME : goal.returns-in-ANAME
-returns-in-ANAME c = gives c.in-ANAME.is (reads_counted types.ANAME rdata.ANAME base.NameRecords.aname_fields (λ h. h) c.index-start.ensures.place c.in_ok-by_length-in-ANAME.ensures c.read_data-data-in-ANAME.ensures.window c.read_data-data-in-ANAME.ensures.refused (λ x _. record { type = refl; fields = refl; plain = tt }))
+returns-in-ANAME c = gives c.in-ANAME.is (counted_own types.ANAME rdata.ANAME _ c.index-start.ensures.place c.in_ok-by_length-in-ANAME.ensures (own_aname _ c.read_data-data-in-ANAME.ensures))
 
 pub returns-in_err-by_length-in-ANAME : goal.returns-in_err-by_length-in-ANAME
-returns-in_err-by_length-in-ANAME c = fails c.from_residual-in_err-by_length-in-ANAME.result c.in-ANAME.is c.from_residual-in_err-by_length-in-ANAME.ensures.1 (reads_counted types.ANAME rdata.ANAME base.NameRecords.aname_fields (λ h. h) c.index-start.ensures.place c.in_err-by_length-in-ANAME.ensures c.read_data-data-in-ANAME.ensures.window c.read_data-data-in-ANAME.ensures.refused (λ x _. record { type = refl; fields = refl; plain = tt }))
+returns-in_err-by_length-in-ANAME c = fails c.from_residual-in_err-by_length-in-ANAME.result c.in-ANAME.is c.from_residual-in_err-by_length-in-ANAME.ensures.1 (counted_own types.ANAME rdata.ANAME _ c.index-start.ensures.place c.in_err-by_length-in-ANAME.ensures (own_aname _ c.read_data-data-in-ANAME.ensures))
 
 pub returns-in-CAA : goal.returns-in-CAA
-returns-in-CAA c = gives c.in-CAA.is (reads_counted types.CAA rdata.CAA sets.CAA.caa_fields (λ h. h) c.index-start.ensures.place c.in_ok-by_length-in-CAA.ensures c.read_data-data-in-CAA.ensures.window c.read_data-data-in-CAA.ensures.refused (λ x e. record { type = refl; fields = refl; plain = (of_read _ c.read_data-data-in-CAA.ensures.made e).0 }))
+returns-in-CAA c = gives c.in-CAA.is (counted_own types.CAA rdata.CAA _ c.index-start.ensures.place c.in_ok-by_length-in-CAA.ensures (own_caa _ c.read_data-data-in-CAA.ensures))
 
 pub returns-in_err-by_length-in-CAA : goal.returns-in_err-by_length-in-CAA
-returns-in_err-by_length-in-CAA c = fails c.from_residual-in_err-by_length-in-CAA.result c.in-CAA.is c.from_residual-in_err-by_length-in-CAA.ensures.1 (reads_counted types.CAA rdata.CAA sets.CAA.caa_fields (λ h. h) c.index-start.ensures.place c.in_err-by_length-in-CAA.ensures c.read_data-data-in-CAA.ensures.window c.read_data-data-in-CAA.ensures.refused (λ x e. record { type = refl; fields = refl; plain = (of_read _ c.read_data-data-in-CAA.ensures.made e).0 }))
+returns-in_err-by_length-in-CAA c = fails c.from_residual-in_err-by_length-in-CAA.result c.in-CAA.is c.from_residual-in_err-by_length-in-CAA.ensures.1 (counted_own types.CAA rdata.CAA _ c.index-start.ensures.place c.in_err-by_length-in-CAA.ensures (own_caa _ c.read_data-data-in-CAA.ensures))
 
 pub returns-in-CERT : goal.returns-in-CERT
-returns-in-CERT c = gives c.in-CERT.is (reads_counted types.CERT rdata.CERT certs.CERT.cert_fields (λ h. h) c.index-start.ensures.place c.in_ok-by_length-in-CERT.ensures c.read_data-data-in-CERT.ensures.window c.read_data-data-in-CERT.ensures.refused (λ x e. record { type = refl; fields = refl; plain = (of_read _ c.read_data-data-in-CERT.ensures.made e).0 }))
+returns-in-CERT c = gives c.in-CERT.is (counted_own types.CERT rdata.CERT _ c.index-start.ensures.place c.in_ok-by_length-in-CERT.ensures (own_cert _ c.read_data-data-in-CERT.ensures))
 
 pub returns-in_err-by_length-in-CERT : goal.returns-in_err-by_length-in-CERT
-returns-in_err-by_length-in-CERT c = fails c.from_residual-in_err-by_length-in-CERT.result c.in-CERT.is c.from_residual-in_err-by_length-in-CERT.ensures.1 (reads_counted types.CERT rdata.CERT certs.CERT.cert_fields (λ h. h) c.index-start.ensures.place c.in_err-by_length-in-CERT.ensures c.read_data-data-in-CERT.ensures.window c.read_data-data-in-CERT.ensures.refused (λ x e. record { type = refl; fields = refl; plain = (of_read _ c.read_data-data-in-CERT.ensures.made e).0 }))
+returns-in_err-by_length-in-CERT c = fails c.from_residual-in_err-by_length-in-CERT.result c.in-CERT.is c.from_residual-in_err-by_length-in-CERT.ensures.1 (counted_own types.CERT rdata.CERT _ c.index-start.ensures.place c.in_err-by_length-in-CERT.ensures (own_cert _ c.read_data-data-in-CERT.ensures))
 
 pub returns-in-CNAME : goal.returns-in-CNAME
-returns-in-CNAME c = gives c.in-CNAME.is (reads_counted types.CNAME rdata.CNAME base.NameRecords.cname_fields (λ h. h) c.index-start.ensures.place c.in_ok-by_length-in-CNAME.ensures c.read_data-data-in-CNAME.ensures.window c.read_data-data-in-CNAME.ensures.refused (λ x _. record { type = refl; fields = refl; plain = tt }))
+returns-in-CNAME c = gives c.in-CNAME.is (counted_own types.CNAME rdata.CNAME _ c.index-start.ensures.place c.in_ok-by_length-in-CNAME.ensures (own_cname _ c.read_data-data-in-CNAME.ensures))
 
 pub returns-in_err-by_length-in-CNAME : goal.returns-in_err-by_length-in-CNAME
-returns-in_err-by_length-in-CNAME c = fails c.from_residual-in_err-by_length-in-CNAME.result c.in-CNAME.is c.from_residual-in_err-by_length-in-CNAME.ensures.1 (reads_counted types.CNAME rdata.CNAME base.NameRecords.cname_fields (λ h. h) c.index-start.ensures.place c.in_err-by_length-in-CNAME.ensures c.read_data-data-in-CNAME.ensures.window c.read_data-data-in-CNAME.ensures.refused (λ x _. record { type = refl; fields = refl; plain = tt }))
+returns-in_err-by_length-in-CNAME c = fails c.from_residual-in_err-by_length-in-CNAME.result c.in-CNAME.is c.from_residual-in_err-by_length-in-CNAME.ensures.1 (counted_own types.CNAME rdata.CNAME _ c.index-start.ensures.place c.in_err-by_length-in-CNAME.ensures (own_cname _ c.read_data-data-in-CNAME.ensures))
 
 pub returns-in-CSYNC : goal.returns-in-CSYNC
-returns-in-CSYNC c = gives c.in-CSYNC.is (reads_counted types.CSYNC rdata.CSYNC sets.CSYNC.csync_fields (λ h. h) c.index-start.ensures.place c.in_ok-by_length-in-CSYNC.ensures c.read_data-data-in-CSYNC.ensures.window c.read_data-data-in-CSYNC.ensures.refused (λ x e. record { type = refl; fields = refl; plain = (of_read _ c.read_data-data-in-CSYNC.ensures.made e).0 }))
+returns-in-CSYNC c = gives c.in-CSYNC.is (counted_own types.CSYNC rdata.CSYNC _ c.index-start.ensures.place c.in_ok-by_length-in-CSYNC.ensures (own_csync _ c.read_data-data-in-CSYNC.ensures))
 
 pub returns-in_err-by_length-in-CSYNC : goal.returns-in_err-by_length-in-CSYNC
-returns-in_err-by_length-in-CSYNC c = fails c.from_residual-in_err-by_length-in-CSYNC.result c.in-CSYNC.is c.from_residual-in_err-by_length-in-CSYNC.ensures.1 (reads_counted types.CSYNC rdata.CSYNC sets.CSYNC.csync_fields (λ h. h) c.index-start.ensures.place c.in_err-by_length-in-CSYNC.ensures c.read_data-data-in-CSYNC.ensures.window c.read_data-data-in-CSYNC.ensures.refused (λ x e. record { type = refl; fields = refl; plain = (of_read _ c.read_data-data-in-CSYNC.ensures.made e).0 }))
+returns-in_err-by_length-in-CSYNC c = fails c.from_residual-in_err-by_length-in-CSYNC.result c.in-CSYNC.is c.from_residual-in_err-by_length-in-CSYNC.ensures.1 (counted_own types.CSYNC rdata.CSYNC _ c.index-start.ensures.place c.in_err-by_length-in-CSYNC.ensures (own_csync _ c.read_data-data-in-CSYNC.ensures))
 
 pub returns-in-HINFO : goal.returns-in-HINFO
-returns-in-HINFO c = gives c.in-HINFO.is (reads_counted types.HINFO rdata.HINFO base.HINFO.hinfo_fields (λ h. h) c.index-start.ensures.place c.in_ok-by_length-in-HINFO.ensures c.read_data-data-in-HINFO.ensures.window c.read_data-data-in-HINFO.ensures.refused (λ x _. record { type = refl; fields = refl; plain = tt }))
+returns-in-HINFO c = gives c.in-HINFO.is (counted_own types.HINFO rdata.HINFO _ c.index-start.ensures.place c.in_ok-by_length-in-HINFO.ensures (own_hinfo _ c.read_data-data-in-HINFO.ensures))
 
 pub returns-in_err-by_length-in-HINFO : goal.returns-in_err-by_length-in-HINFO
-returns-in_err-by_length-in-HINFO c = fails c.from_residual-in_err-by_length-in-HINFO.result c.in-HINFO.is c.from_residual-in_err-by_length-in-HINFO.ensures.1 (reads_counted types.HINFO rdata.HINFO base.HINFO.hinfo_fields (λ h. h) c.index-start.ensures.place c.in_err-by_length-in-HINFO.ensures c.read_data-data-in-HINFO.ensures.window c.read_data-data-in-HINFO.ensures.refused (λ x _. record { type = refl; fields = refl; plain = tt }))
+returns-in_err-by_length-in-HINFO c = fails c.from_residual-in_err-by_length-in-HINFO.result c.in-HINFO.is c.from_residual-in_err-by_length-in-HINFO.ensures.1 (counted_own types.HINFO rdata.HINFO _ c.index-start.ensures.place c.in_err-by_length-in-HINFO.ensures (own_hinfo _ c.read_data-data-in-HINFO.ensures))
 
 pub returns-in-HTTPS : goal.returns-in-HTTPS
-returns-in-HTTPS c = gives c.in-HTTPS.is (reads_counted types.HTTPS rdata.HTTPS service.HTTPS.https_fields (λ h. h) c.index-start.ensures.place c.in_ok-by_length-in-HTTPS.ensures c.read_data-data-in-HTTPS.ensures.window c.read_data-data-in-HTTPS.ensures.refused (λ x e. record { type = refl; fields = refl; plain = of_read _ c.read_data-data-in-HTTPS.ensures.made e }))
+returns-in-HTTPS c = gives c.in-HTTPS.is (counted_own types.HTTPS rdata.HTTPS _ c.index-start.ensures.place c.in_ok-by_length-in-HTTPS.ensures (own_https _ c.read_data-data-in-HTTPS.ensures))
 
 pub returns-in_err-by_length-in-HTTPS : goal.returns-in_err-by_length-in-HTTPS
-returns-in_err-by_length-in-HTTPS c = fails c.from_residual-in_err-by_length-in-HTTPS.result c.in-HTTPS.is c.from_residual-in_err-by_length-in-HTTPS.ensures.1 (reads_counted types.HTTPS rdata.HTTPS service.HTTPS.https_fields (λ h. h) c.index-start.ensures.place c.in_err-by_length-in-HTTPS.ensures c.read_data-data-in-HTTPS.ensures.window c.read_data-data-in-HTTPS.ensures.refused (λ x e. record { type = refl; fields = refl; plain = of_read _ c.read_data-data-in-HTTPS.ensures.made e }))
+returns-in_err-by_length-in-HTTPS c = fails c.from_residual-in_err-by_length-in-HTTPS.result c.in-HTTPS.is c.from_residual-in_err-by_length-in-HTTPS.ensures.1 (counted_own types.HTTPS rdata.HTTPS _ c.index-start.ensures.place c.in_err-by_length-in-HTTPS.ensures (own_https _ c.read_data-data-in-HTTPS.ensures))
 
 pub returns-in-MX : goal.returns-in-MX
-returns-in-MX c = gives c.in-MX.is (reads_counted types.MX rdata.MX base.NameRecords.mx_facts.fields (λ h. h) c.index-start.ensures.place c.in_ok-by_length-in-MX.ensures c.read_data-data-in-MX.ensures.window c.read_data-data-in-MX.ensures.refused (λ x _. record { type = refl; fields = refl; plain = tt }))
+returns-in-MX c = gives c.in-MX.is (counted_own types.MX rdata.MX _ c.index-start.ensures.place c.in_ok-by_length-in-MX.ensures (own_mx _ c.read_data-data-in-MX.ensures))
 
 pub returns-in_err-by_length-in-MX : goal.returns-in_err-by_length-in-MX
-returns-in_err-by_length-in-MX c = fails c.from_residual-in_err-by_length-in-MX.result c.in-MX.is c.from_residual-in_err-by_length-in-MX.ensures.1 (reads_counted types.MX rdata.MX base.NameRecords.mx_facts.fields (λ h. h) c.index-start.ensures.place c.in_err-by_length-in-MX.ensures c.read_data-data-in-MX.ensures.window c.read_data-data-in-MX.ensures.refused (λ x _. record { type = refl; fields = refl; plain = tt }))
+returns-in_err-by_length-in-MX c = fails c.from_residual-in_err-by_length-in-MX.result c.in-MX.is c.from_residual-in_err-by_length-in-MX.ensures.1 (counted_own types.MX rdata.MX _ c.index-start.ensures.place c.in_err-by_length-in-MX.ensures (own_mx _ c.read_data-data-in-MX.ensures))
 
 pub returns-in-NAPTR : goal.returns-in-NAPTR
-returns-in-NAPTR c = gives c.in-NAPTR.is (reads_counted types.NAPTR rdata.NAPTR base.NAPTR.naptr_fields (λ h. h) c.index-start.ensures.place c.in_ok-by_length-in-NAPTR.ensures c.read_data-data-in-NAPTR.ensures.window c.read_data-data-in-NAPTR.ensures.refused (λ x _. record { type = refl; fields = refl; plain = tt }))
+returns-in-NAPTR c = gives c.in-NAPTR.is (counted_own types.NAPTR rdata.NAPTR _ c.index-start.ensures.place c.in_ok-by_length-in-NAPTR.ensures (own_naptr _ c.read_data-data-in-NAPTR.ensures))
 
 pub returns-in_err-by_length-in-NAPTR : goal.returns-in_err-by_length-in-NAPTR
-returns-in_err-by_length-in-NAPTR c = fails c.from_residual-in_err-by_length-in-NAPTR.result c.in-NAPTR.is c.from_residual-in_err-by_length-in-NAPTR.ensures.1 (reads_counted types.NAPTR rdata.NAPTR base.NAPTR.naptr_fields (λ h. h) c.index-start.ensures.place c.in_err-by_length-in-NAPTR.ensures c.read_data-data-in-NAPTR.ensures.window c.read_data-data-in-NAPTR.ensures.refused (λ x _. record { type = refl; fields = refl; plain = tt }))
+returns-in_err-by_length-in-NAPTR c = fails c.from_residual-in_err-by_length-in-NAPTR.result c.in-NAPTR.is c.from_residual-in_err-by_length-in-NAPTR.ensures.1 (counted_own types.NAPTR rdata.NAPTR _ c.index-start.ensures.place c.in_err-by_length-in-NAPTR.ensures (own_naptr _ c.read_data-data-in-NAPTR.ensures))
 
 pub returns-in-NULL : goal.returns-in-NULL
-returns-in-NULL c = gives c.in-NULL.is (null_counted _ c.index-start.ensures.place c.in_ok-by_length-in-NULL.ensures c.read_data-data-in-NULL.ensures.window c.read_data-data-in-NULL.ensures.refused)
+returns-in-NULL c = gives c.in-NULL.is (counted_own types.NULL rdata.NULL _ c.index-start.ensures.place c.in_ok-by_length-in-NULL.ensures (own_null _ c.read_data-data-in-NULL.ensures))
 
 pub returns-in_err-by_length-in-NULL : goal.returns-in_err-by_length-in-NULL
-returns-in_err-by_length-in-NULL c = fails c.from_residual-in_err-by_length-in-NULL.result c.in-NULL.is c.from_residual-in_err-by_length-in-NULL.ensures.1 (null_counted _ c.index-start.ensures.place c.in_err-by_length-in-NULL.ensures c.read_data-data-in-NULL.ensures.window c.read_data-data-in-NULL.ensures.refused)
+returns-in_err-by_length-in-NULL c = fails c.from_residual-in_err-by_length-in-NULL.result c.in-NULL.is c.from_residual-in_err-by_length-in-NULL.ensures.1 (counted_own types.NULL rdata.NULL _ c.index-start.ensures.place c.in_err-by_length-in-NULL.ensures (own_null _ c.read_data-data-in-NULL.ensures))
 
 pub returns-in-NS : goal.returns-in-NS
-returns-in-NS c = gives c.in-NS.is (reads_counted types.NS rdata.NS base.NameRecords.ns_fields (λ h. h) c.index-start.ensures.place c.in_ok-by_length-in-NS.ensures c.read_data-data-in-NS.ensures.window c.read_data-data-in-NS.ensures.refused (λ x _. record { type = refl; fields = refl; plain = tt }))
+returns-in-NS c = gives c.in-NS.is (counted_own types.NS rdata.NS _ c.index-start.ensures.place c.in_ok-by_length-in-NS.ensures (own_ns _ c.read_data-data-in-NS.ensures))
 
 pub returns-in_err-by_length-in-NS : goal.returns-in_err-by_length-in-NS
-returns-in_err-by_length-in-NS c = fails c.from_residual-in_err-by_length-in-NS.result c.in-NS.is c.from_residual-in_err-by_length-in-NS.ensures.1 (reads_counted types.NS rdata.NS base.NameRecords.ns_fields (λ h. h) c.index-start.ensures.place c.in_err-by_length-in-NS.ensures c.read_data-data-in-NS.ensures.window c.read_data-data-in-NS.ensures.refused (λ x _. record { type = refl; fields = refl; plain = tt }))
+returns-in_err-by_length-in-NS c = fails c.from_residual-in_err-by_length-in-NS.result c.in-NS.is c.from_residual-in_err-by_length-in-NS.ensures.1 (counted_own types.NS rdata.NS _ c.index-start.ensures.place c.in_err-by_length-in-NS.ensures (own_ns _ c.read_data-data-in-NS.ensures))
 
 pub returns-in-OPENPGPKEY : goal.returns-in-OPENPGPKEY
-returns-in-OPENPGPKEY c = gives c.in-OPENPGPKEY.is (reads_counted types.OPENPGPKEY rdata.OPENPGPKEY base.OPENPGPKEY.openpgpkey_fields (λ h. h) c.index-start.ensures.place c.in_ok-by_length-in-OPENPGPKEY.ensures c.read_data-data-in-OPENPGPKEY.ensures.window c.read_data-data-in-OPENPGPKEY.ensures.refused (λ x _. record { type = refl; fields = refl; plain = tt }))
+returns-in-OPENPGPKEY c = gives c.in-OPENPGPKEY.is (counted_own types.OPENPGPKEY rdata.OPENPGPKEY _ c.index-start.ensures.place c.in_ok-by_length-in-OPENPGPKEY.ensures (own_openpgpkey _ c.read_data-data-in-OPENPGPKEY.ensures))
 
 pub returns-in_err-by_length-in-OPENPGPKEY : goal.returns-in_err-by_length-in-OPENPGPKEY
-returns-in_err-by_length-in-OPENPGPKEY c = fails c.from_residual-in_err-by_length-in-OPENPGPKEY.result c.in-OPENPGPKEY.is c.from_residual-in_err-by_length-in-OPENPGPKEY.ensures.1 (reads_counted types.OPENPGPKEY rdata.OPENPGPKEY base.OPENPGPKEY.openpgpkey_fields (λ h. h) c.index-start.ensures.place c.in_err-by_length-in-OPENPGPKEY.ensures c.read_data-data-in-OPENPGPKEY.ensures.window c.read_data-data-in-OPENPGPKEY.ensures.refused (λ x _. record { type = refl; fields = refl; plain = tt }))
+returns-in_err-by_length-in-OPENPGPKEY c = fails c.from_residual-in_err-by_length-in-OPENPGPKEY.result c.in-OPENPGPKEY.is c.from_residual-in_err-by_length-in-OPENPGPKEY.ensures.1 (counted_own types.OPENPGPKEY rdata.OPENPGPKEY _ c.index-start.ensures.place c.in_err-by_length-in-OPENPGPKEY.ensures (own_openpgpkey _ c.read_data-data-in-OPENPGPKEY.ensures))
 
 pub returns-in-OPT : goal.returns-in-OPT
-returns-in-OPT c = gives c.in-OPT.is (reads_counted types.OPT rdata.OPT options.OPT.opt_fields (λ h. h) c.index-start.ensures.place c.in_ok-by_length-in-OPT.ensures c.read_data-data-in-OPT.ensures.window c.read_data-data-in-OPT.ensures.refused (λ x e. record { type = refl; fields = refl; plain = (of_read _ c.read_data-data-in-OPT.ensures.made e).0 }))
+returns-in-OPT c = gives c.in-OPT.is (counted_own types.OPT rdata.OPT _ c.index-start.ensures.place c.in_ok-by_length-in-OPT.ensures (own_opt _ c.read_data-data-in-OPT.ensures))
 
 pub returns-in_err-by_length-in-OPT : goal.returns-in_err-by_length-in-OPT
-returns-in_err-by_length-in-OPT c = fails c.from_residual-in_err-by_length-in-OPT.result c.in-OPT.is c.from_residual-in_err-by_length-in-OPT.ensures.1 (reads_counted types.OPT rdata.OPT options.OPT.opt_fields (λ h. h) c.index-start.ensures.place c.in_err-by_length-in-OPT.ensures c.read_data-data-in-OPT.ensures.window c.read_data-data-in-OPT.ensures.refused (λ x e. record { type = refl; fields = refl; plain = (of_read _ c.read_data-data-in-OPT.ensures.made e).0 }))
+returns-in_err-by_length-in-OPT c = fails c.from_residual-in_err-by_length-in-OPT.result c.in-OPT.is c.from_residual-in_err-by_length-in-OPT.ensures.1 (counted_own types.OPT rdata.OPT _ c.index-start.ensures.place c.in_err-by_length-in-OPT.ensures (own_opt _ c.read_data-data-in-OPT.ensures))
 
 pub returns-in-PTR : goal.returns-in-PTR
-returns-in-PTR c = gives c.in-PTR.is (reads_counted types.PTR rdata.PTR base.NameRecords.ptr_fields (λ h. h) c.index-start.ensures.place c.in_ok-by_length-in-PTR.ensures c.read_data-data-in-PTR.ensures.window c.read_data-data-in-PTR.ensures.refused (λ x _. record { type = refl; fields = refl; plain = tt }))
+returns-in-PTR c = gives c.in-PTR.is (counted_own types.PTR rdata.PTR _ c.index-start.ensures.place c.in_ok-by_length-in-PTR.ensures (own_ptr _ c.read_data-data-in-PTR.ensures))
 
 pub returns-in_err-by_length-in-PTR : goal.returns-in_err-by_length-in-PTR
-returns-in_err-by_length-in-PTR c = fails c.from_residual-in_err-by_length-in-PTR.result c.in-PTR.is c.from_residual-in_err-by_length-in-PTR.ensures.1 (reads_counted types.PTR rdata.PTR base.NameRecords.ptr_fields (λ h. h) c.index-start.ensures.place c.in_err-by_length-in-PTR.ensures c.read_data-data-in-PTR.ensures.window c.read_data-data-in-PTR.ensures.refused (λ x _. record { type = refl; fields = refl; plain = tt }))
+returns-in_err-by_length-in-PTR c = fails c.from_residual-in_err-by_length-in-PTR.result c.in-PTR.is c.from_residual-in_err-by_length-in-PTR.ensures.1 (counted_own types.PTR rdata.PTR _ c.index-start.ensures.place c.in_err-by_length-in-PTR.ensures (own_ptr _ c.read_data-data-in-PTR.ensures))
 
 pub returns-in-SMIMEA : goal.returns-in-SMIMEA
-returns-in-SMIMEA c = gives c.in-SMIMEA.is (reads_counted types.SMIMEA rdata.SMIMEA certs.SMIMEA.smimea_fields (λ h. h) c.index-start.ensures.place c.in_ok-by_length-in-SMIMEA.ensures c.read_data-data-in-SMIMEA.ensures.window c.read_data-data-in-SMIMEA.ensures.refused (λ x e. record { type = refl; fields = refl; plain = (of_read _ c.read_data-data-in-SMIMEA.ensures.made e).0 }))
+returns-in-SMIMEA c = gives c.in-SMIMEA.is (counted_own types.SMIMEA rdata.SMIMEA _ c.index-start.ensures.place c.in_ok-by_length-in-SMIMEA.ensures (own_smimea _ c.read_data-data-in-SMIMEA.ensures))
 
 pub returns-in_err-by_length-in-SMIMEA : goal.returns-in_err-by_length-in-SMIMEA
-returns-in_err-by_length-in-SMIMEA c = fails c.from_residual-in_err-by_length-in-SMIMEA.result c.in-SMIMEA.is c.from_residual-in_err-by_length-in-SMIMEA.ensures.1 (reads_counted types.SMIMEA rdata.SMIMEA certs.SMIMEA.smimea_fields (λ h. h) c.index-start.ensures.place c.in_err-by_length-in-SMIMEA.ensures c.read_data-data-in-SMIMEA.ensures.window c.read_data-data-in-SMIMEA.ensures.refused (λ x e. record { type = refl; fields = refl; plain = (of_read _ c.read_data-data-in-SMIMEA.ensures.made e).0 }))
+returns-in_err-by_length-in-SMIMEA c = fails c.from_residual-in_err-by_length-in-SMIMEA.result c.in-SMIMEA.is c.from_residual-in_err-by_length-in-SMIMEA.ensures.1 (counted_own types.SMIMEA rdata.SMIMEA _ c.index-start.ensures.place c.in_err-by_length-in-SMIMEA.ensures (own_smimea _ c.read_data-data-in-SMIMEA.ensures))
 
 pub returns-in-SOA : goal.returns-in-SOA
-returns-in-SOA c = gives c.in-SOA.is (reads_counted types.SOA rdata.SOA base.SOA.soa_fields (λ h. h) c.index-start.ensures.place c.in_ok-by_length-in-SOA.ensures c.read_data-data-in-SOA.ensures.window c.read_data-data-in-SOA.ensures.refused (λ x e. record { type = refl; fields = refl; plain = of_read _ c.read_data-data-in-SOA.ensures.made e }))
+returns-in-SOA c = gives c.in-SOA.is (counted_own types.SOA rdata.SOA _ c.index-start.ensures.place c.in_ok-by_length-in-SOA.ensures (own_soa _ c.read_data-data-in-SOA.ensures))
 
 pub returns-in_err-by_length-in-SOA : goal.returns-in_err-by_length-in-SOA
-returns-in_err-by_length-in-SOA c = fails c.from_residual-in_err-by_length-in-SOA.result c.in-SOA.is c.from_residual-in_err-by_length-in-SOA.ensures.1 (reads_counted types.SOA rdata.SOA base.SOA.soa_fields (λ h. h) c.index-start.ensures.place c.in_err-by_length-in-SOA.ensures c.read_data-data-in-SOA.ensures.window c.read_data-data-in-SOA.ensures.refused (λ x e. record { type = refl; fields = refl; plain = of_read _ c.read_data-data-in-SOA.ensures.made e }))
+returns-in_err-by_length-in-SOA c = fails c.from_residual-in_err-by_length-in-SOA.result c.in-SOA.is c.from_residual-in_err-by_length-in-SOA.ensures.1 (counted_own types.SOA rdata.SOA _ c.index-start.ensures.place c.in_err-by_length-in-SOA.ensures (own_soa _ c.read_data-data-in-SOA.ensures))
 
 pub returns-in-SRV : goal.returns-in-SRV
-returns-in-SRV c = gives c.in-SRV.is (reads_counted types.SRV rdata.SRV base.NameRecords.srv_facts.fields (λ h. h) c.index-start.ensures.place c.in_ok-by_length-in-SRV.ensures c.read_data-data-in-SRV.ensures.window c.read_data-data-in-SRV.ensures.refused (λ x _. record { type = refl; fields = refl; plain = tt }))
+returns-in-SRV c = gives c.in-SRV.is (counted_own types.SRV rdata.SRV _ c.index-start.ensures.place c.in_ok-by_length-in-SRV.ensures (own_srv _ c.read_data-data-in-SRV.ensures))
 
 pub returns-in_err-by_length-in-SRV : goal.returns-in_err-by_length-in-SRV
-returns-in_err-by_length-in-SRV c = fails c.from_residual-in_err-by_length-in-SRV.result c.in-SRV.is c.from_residual-in_err-by_length-in-SRV.ensures.1 (reads_counted types.SRV rdata.SRV base.NameRecords.srv_facts.fields (λ h. h) c.index-start.ensures.place c.in_err-by_length-in-SRV.ensures c.read_data-data-in-SRV.ensures.window c.read_data-data-in-SRV.ensures.refused (λ x _. record { type = refl; fields = refl; plain = tt }))
+returns-in_err-by_length-in-SRV c = fails c.from_residual-in_err-by_length-in-SRV.result c.in-SRV.is c.from_residual-in_err-by_length-in-SRV.ensures.1 (counted_own types.SRV rdata.SRV _ c.index-start.ensures.place c.in_err-by_length-in-SRV.ensures (own_srv _ c.read_data-data-in-SRV.ensures))
 
 pub returns-in-SSHFP : goal.returns-in-SSHFP
-returns-in-SSHFP c = gives c.in-SSHFP.is (reads_counted types.SSHFP rdata.SSHFP certs.SSHFP.sshfp_fields (λ h. h) c.index-start.ensures.place c.in_ok-by_length-in-SSHFP.ensures c.read_data-data-in-SSHFP.ensures.window c.read_data-data-in-SSHFP.ensures.refused (λ x e. record { type = refl; fields = refl; plain = (of_read _ c.read_data-data-in-SSHFP.ensures.made e).0 }))
+returns-in-SSHFP c = gives c.in-SSHFP.is (counted_own types.SSHFP rdata.SSHFP _ c.index-start.ensures.place c.in_ok-by_length-in-SSHFP.ensures (own_sshfp _ c.read_data-data-in-SSHFP.ensures))
 
 pub returns-in_err-by_length-in-SSHFP : goal.returns-in_err-by_length-in-SSHFP
-returns-in_err-by_length-in-SSHFP c = fails c.from_residual-in_err-by_length-in-SSHFP.result c.in-SSHFP.is c.from_residual-in_err-by_length-in-SSHFP.ensures.1 (reads_counted types.SSHFP rdata.SSHFP certs.SSHFP.sshfp_fields (λ h. h) c.index-start.ensures.place c.in_err-by_length-in-SSHFP.ensures c.read_data-data-in-SSHFP.ensures.window c.read_data-data-in-SSHFP.ensures.refused (λ x e. record { type = refl; fields = refl; plain = (of_read _ c.read_data-data-in-SSHFP.ensures.made e).0 }))
+returns-in_err-by_length-in-SSHFP c = fails c.from_residual-in_err-by_length-in-SSHFP.result c.in-SSHFP.is c.from_residual-in_err-by_length-in-SSHFP.ensures.1 (counted_own types.SSHFP rdata.SSHFP _ c.index-start.ensures.place c.in_err-by_length-in-SSHFP.ensures (own_sshfp _ c.read_data-data-in-SSHFP.ensures))
 
 pub returns-in-SVCB : goal.returns-in-SVCB
-returns-in-SVCB c = gives c.in-SVCB.is (reads_counted types.SVCB rdata.SVCB service.SVCB.svcb_fields (λ h. h) c.index-start.ensures.place c.in_ok-by_length-in-SVCB.ensures c.read_data-data-in-SVCB.ensures.window c.read_data-data-in-SVCB.ensures.refused (λ x e. record { type = refl; fields = refl; plain = of_read _ c.read_data-data-in-SVCB.ensures.made e }))
+returns-in-SVCB c = gives c.in-SVCB.is (counted_own types.SVCB rdata.SVCB _ c.index-start.ensures.place c.in_ok-by_length-in-SVCB.ensures (own_svcb _ c.read_data-data-in-SVCB.ensures))
 
 pub returns-in_err-by_length-in-SVCB : goal.returns-in_err-by_length-in-SVCB
-returns-in_err-by_length-in-SVCB c = fails c.from_residual-in_err-by_length-in-SVCB.result c.in-SVCB.is c.from_residual-in_err-by_length-in-SVCB.ensures.1 (reads_counted types.SVCB rdata.SVCB service.SVCB.svcb_fields (λ h. h) c.index-start.ensures.place c.in_err-by_length-in-SVCB.ensures c.read_data-data-in-SVCB.ensures.window c.read_data-data-in-SVCB.ensures.refused (λ x e. record { type = refl; fields = refl; plain = of_read _ c.read_data-data-in-SVCB.ensures.made e }))
+returns-in_err-by_length-in-SVCB c = fails c.from_residual-in_err-by_length-in-SVCB.result c.in-SVCB.is c.from_residual-in_err-by_length-in-SVCB.ensures.1 (counted_own types.SVCB rdata.SVCB _ c.index-start.ensures.place c.in_err-by_length-in-SVCB.ensures (own_svcb _ c.read_data-data-in-SVCB.ensures))
 
 pub returns-in-TLSA : goal.returns-in-TLSA
-returns-in-TLSA c = gives c.in-TLSA.is (reads_counted types.TLSA rdata.TLSA certs.TLSA.tlsa_fields (λ h. h) c.index-start.ensures.place c.in_ok-by_length-in-TLSA.ensures c.read_data-data-in-TLSA.ensures.window c.read_data-data-in-TLSA.ensures.refused (λ x e. record { type = refl; fields = refl; plain = (of_read _ c.read_data-data-in-TLSA.ensures.made e).0 }))
+returns-in-TLSA c = gives c.in-TLSA.is (counted_own types.TLSA rdata.TLSA _ c.index-start.ensures.place c.in_ok-by_length-in-TLSA.ensures (own_tlsa _ c.read_data-data-in-TLSA.ensures))
 
 pub returns-in_err-by_length-in-TLSA : goal.returns-in_err-by_length-in-TLSA
-returns-in_err-by_length-in-TLSA c = fails c.from_residual-in_err-by_length-in-TLSA.result c.in-TLSA.is c.from_residual-in_err-by_length-in-TLSA.ensures.1 (reads_counted types.TLSA rdata.TLSA certs.TLSA.tlsa_fields (λ h. h) c.index-start.ensures.place c.in_err-by_length-in-TLSA.ensures c.read_data-data-in-TLSA.ensures.window c.read_data-data-in-TLSA.ensures.refused (λ x e. record { type = refl; fields = refl; plain = (of_read _ c.read_data-data-in-TLSA.ensures.made e).0 }))
+returns-in_err-by_length-in-TLSA c = fails c.from_residual-in_err-by_length-in-TLSA.result c.in-TLSA.is c.from_residual-in_err-by_length-in-TLSA.ensures.1 (counted_own types.TLSA rdata.TLSA _ c.index-start.ensures.place c.in_err-by_length-in-TLSA.ensures (own_tlsa _ c.read_data-data-in-TLSA.ensures))
 
 pub returns-in-TXT : goal.returns-in-TXT
-returns-in-TXT c = gives c.in-TXT.is (reads_counted types.TXT rdata.TXT base.TXT.txt_fields (λ h. h) c.index-start.ensures.place c.in_ok-by_length-in-TXT.ensures c.read_data-data-in-TXT.ensures.window c.read_data-data-in-TXT.ensures.refused (λ x _. record { type = refl; fields = refl; plain = tt }))
+returns-in-TXT c = gives c.in-TXT.is (counted_own types.TXT rdata.TXT _ c.index-start.ensures.place c.in_ok-by_length-in-TXT.ensures (own_txt _ c.read_data-data-in-TXT.ensures))
 
 pub returns-in_err-by_length-in-TXT : goal.returns-in_err-by_length-in-TXT
-returns-in_err-by_length-in-TXT c = fails c.from_residual-in_err-by_length-in-TXT.result c.in-TXT.is c.from_residual-in_err-by_length-in-TXT.ensures.1 (reads_counted types.TXT rdata.TXT base.TXT.txt_fields (λ h. h) c.index-start.ensures.place c.in_err-by_length-in-TXT.ensures c.read_data-data-in-TXT.ensures.window c.read_data-data-in-TXT.ensures.refused (λ x _. record { type = refl; fields = refl; plain = tt }))
+returns-in_err-by_length-in-TXT c = fails c.from_residual-in_err-by_length-in-TXT.result c.in-TXT.is c.from_residual-in_err-by_length-in-TXT.ensures.1 (counted_own types.TXT rdata.TXT _ c.index-start.ensures.place c.in_err-by_length-in-TXT.ensures (own_txt _ c.read_data-data-in-TXT.ensures))
 
 pub returns-in-ZERO : goal.returns-in-ZERO
 returns-in-ZERO c = gives c.in-ZERO.is (zero_counted (omega arith) c.index-start.ensures.inside c.index-start.ensures.octets c.index-start.ensures.place c.by_length.ensures)
@@ -203,12 +199,12 @@ returns-in-ANY c = clauses (rw c.into.ensures (unread_counted c.args.record_type
 pub returns-in_default : goal.returns-in_default
 returns-in_default c =
     let none : IsNone c.args.record_type row_types = assumption in
-    clauses (unknown_counted c.args.record_type _ (has_no_row c.args.record_type none) c.index-start.ensures.place c.in_ok-rdata-in_default.ensures
-    c.read_data-data-in_default.ensures.window c.read_data-data-in_default.ensures.refused)
+    clauses (counted_own c.args.record_type (λ x. rdata.Unknown c.args.record_type x) _ c.index-start.ensures.place c.in_ok-rdata-in_default.ensures
+    (own_unknown c.args.record_type (has_no_row c.args.record_type none) _ c.read_data-data-in_default.ensures))
 
 pub returns-in_err-rdata-in_default : goal.returns-in_err-rdata-in_default
 returns-in_err-rdata-in_default c =
     let none : IsNone c.args.record_type row_types = assumption in
     let p = err_from_is_err_and c.from_residual-in_err-rdata-in_default.result c.from_residual-in_err-rdata-in_default.ensures.1 in
-    clauses (rw (p.1, p.2) (unknown_counted c.args.record_type _ (has_no_row c.args.record_type none) c.index-start.ensures.place c.in_err-rdata-in_default.ensures
-    c.read_data-data-in_default.ensures.window c.read_data-data-in_default.ensures.refused))
+    clauses (rw (p.1, p.2) (counted_own c.args.record_type (λ x. rdata.Unknown c.args.record_type x) _ c.index-start.ensures.place c.in_err-rdata-in_default.ensures
+    (own_unknown c.args.record_type (has_no_row c.args.record_type none) _ c.read_data-data-in_default.ensures)))

@@ -1,4 +1,5 @@
 use Rattle.std.proofs.Common.{arith}
+use Rattle.dns_names_wire.proofs.FieldReads.{took_last, took_then}
 use Rattle.dns_rdata_service.proofs.{Splits.is_err, ParameterReads.svcb_took, ParameterReads.svcb_refused, ParameterReads.svcb_passed}
 use Rattle.dns_rdata_service.proofs.svcb.SVCBRecordDataDecodable.read_data.Goals as goal
 
@@ -16,3 +17,17 @@ pub returns-clause-window : goal.returns-clause-window
 returns-clause-window c =
     rw c.unverified-svc_priority.ensures (svcb_took c.args.length _ c.in_ok-read_u16.ensures.taken c.in_ok-target_name.ensures.field (omega arith)
     (omega (arith, c.index-start.ensures.place, c.index.ensures.place, c.if-len-read.false, c.unverified-len.ensures)) c.in_ok-svc_params.ensures.window)
+
+pub returns-clause-made : goal.returns-clause-made
+returns-clause-made c =
+    let place = c.index-start.ensures.place in
+    let len = c.unverified-len.ensures in
+    let params = c.in_ok-svc_params.ensures.taken in
+    record {
+      read = c.in_ok-svc_params.ensures.read;
+      took = rw c.unverified-svc_priority.ensures
+          (took_then c.in_ok-read_u16.ensures.taken (took_then c.in_ok-target_name.ensures.field (took_then params.took (took_last _))));
+      holds = params.texts;
+      within = omega (arith, place, len, params.within);
+      left = omega (arith, place, len, params.left);
+    }

@@ -1,0 +1,209 @@
+#!/usr/bin/env python3
+"""What one must read to believe the headline: every definition that the clauses of some public calls name, directly or
+through other definitions, with its file, line and number of lines.
+
+    tools/statement.py            writes docs/STATEMENT.md
+    tools/statement.py --check    compares it with what would be written; the last line is 'N as wanted, M not'
+
+It follows the imports of the files in crates/*/specs. Blank lines, comments and imports are not counted. What code declares
+(structs, enums and constants) and the words of the kit's standard library are not counted either.
+"""
+import collections
+import pathlib
+import re
+import sys
+
+TOP = pathlib.Path(__file__).resolve().parent.parent
+PAGE = TOP / "docs/STATEMENT.md"
+HEAD = re.compile(
+    r"^(?:pub )?(?:abbrev|unfoldable|data|record|opaque|type_row)\b(?: pub)?\s+([^\s:({]+)|^pub ([a-z_][^\s:({]*)\s*:"
+)
+WORD = re.compile(r"[^\s(){}\[\],;:∷≡×⊎→λ¬+\-*/<>≤≢↦|∥=\"]+")
+
+# The calls of the headline: the file, the line at which the contract begins, and how the page names them.
+CALLS = [
+    ("dns_rdata/src/record_data.rt", "    pub fn read(", "`RData::read`"),
+    ("dns_rdata/src/record_data.rt", "    fn emit(", "`RData::emit`"),
+    ("dns_rdata/src/record_data.rt", "    fn eq(", "`==` of `RData`"),
+    ("dns_rdata/src/order.rt", "    fn cmp(", "`RData::cmp`"),
+]
+
+
+def imports_of(text):
+    """The names that `use` lines bring, each with its full path."""
+    found = {}
+
+    def take(prefix, tree):
+        tree = tree.strip()
+        inner = re.match(r"^([^{},]*?)\.?\{(.*)\}$", tree, re.S)
+        if inner:
+            head = ".".join(part for part in (prefix, inner.group(1).strip()) if part)
+            for part in split(inner.group(2)):
+                take(head, part)
+            return
+        name = re.match(r"^(\S+)(?:\s+as\s+(\S+))?$", tree)
+        if name:
+            path = ".".join(part for part in (prefix, name.group(1)) if part)
+            found[name.group(2) or path.split(".")[-1]] = path
+
+    def split(text):
+        parts, part, depth = [], "", 0
+        for c in text:
+            depth += (c == "{") - (c == "}")
+            if c == "," and depth == 0:
+                parts.append(part)
+                part = ""
+            else:
+                part += c
+        return [it for it in [*parts, part] if it.strip()]
+
+    for tree in re.findall(r"^\s*(?:pub |ghost )?use ([^;\n{]*(?:\{(?:[^{}]|\{[^{}]*\})*\})?[^;\n]*)", text, re.M):
+        take("", tree.rstrip(";"))
+    return found
+
+
+class Specs:
+    """All definitions of the repository."""
+
+    def __init__(self):
+        self.lines = {}  # (crate, module, name) -> (file, line, [lines])
+        self.imports = {}  # (crate, module) -> {name: path}
+        self.owner = {}  # a definition or a constructor -> the definition
+        for file in sorted(TOP.glob("crates/*/specs/**/*.antt")):
+            crate = file.relative_to(TOP / "crates").parts[0]
+            module = ".".join(file.relative_to(TOP / "crates" / crate / "specs").with_suffix("").parts)
+            self.read("" if module == "Lib" else module, crate, file)
+        for (crate, module, name), (_, _, lines) in self.lines.items():
+            self.owner[crate, module, name] = (crate, module, name)
+            if re.match(r"^(?:pub )?data", lines[0]):
+                for line in lines[1:]:
+                    case = re.match(r"^\s+(?:pub )?([^\s:]+)\s*:", line)
+                    if case:
+                        self.owner.setdefault((crate, module, case.group(1)), (crate, module, name))
+
+    def read(self, module, crate, file):
+        text = file.read_text(encoding="utf-8")
+        self.imports[crate, module] = imports_of(text)
+        current, inside = None, False
+        for number, line in enumerate(text.split("\n"), 1):
+            if re.match(r"^(?:pub )?use ", line) or inside:
+                inside = line.count("{") > line.count("}") or (inside and line.count("{") == line.count("}") and "}" not in line)
+                current = None
+                continue
+            head = HEAD.match(line)
+            if head:
+                current = (crate, module, head.group(1) or head.group(2))
+                if current not in self.lines:
+                    self.lines[current] = (file, number, [])
+            elif re.match(r"^(?:pub )?mod ", line):
+                current = None
+            if current and line.strip() and not line.strip().startswith("--"):
+                self.lines[current][2].append(line)
+
+    def at(self, path):
+        """The definition that a full path names."""
+        words = path.split(".")
+        if len(words) < 4 or words[0] != "Rattle" or words[2] != "specs":
+            return None
+        crate, rest = words[1], words[3:]
+        for i in range(len(rest) - 1, -1, -1):
+            module, name = ".".join(rest[:i]), rest[i]
+            if (crate, module, name) in self.owner:
+                return self.owner[crate, module, name]
+            if name in self.imports.get((crate, module), {}):
+                return self.at(self.imports[crate, module][name])
+        return None
+
+    def named_in(self, lines, imports, home=None):
+        """The definitions that these lines name, in their order."""
+        found = []
+        for line in lines:
+            for word in WORD.findall(line):
+                parts = word.strip(".").split(".")
+                hit = None
+                if home and (*home, parts[0]) in self.owner:
+                    hit = self.owner[(*home, parts[0])]
+                elif parts[0] in imports:
+                    hit = self.at(".".join([imports[parts[0]], *parts[1:]]))
+                if hit and hit not in found:
+                    found.append(hit)
+        return found
+
+    def reached(self, starts, seen):
+        """These definitions and what they name, each in front of what it names; those that were seen are left out."""
+        order = []
+        left = list(reversed(starts))
+        while left:
+            key = left.pop()
+            if key in seen:
+                continue
+            seen.add(key)
+            order.append(key)
+            crate, module, _ = key
+            named = self.named_in(self.lines[key][2], self.imports[crate, module], (crate, module))
+            left.extend(reversed([it for it in named if it not in seen]))
+        return order
+
+
+def clauses(file, start):
+    """The lines of the clauses of a function."""
+    text = (TOP / "crates" / file).read_text(encoding="utf-8").split("\n")
+    at = next(i for i, line in enumerate(text) if line.startswith(start))
+    lines = []
+    for line in text[at:]:
+        if line.strip() == "{":
+            break
+        if line.strip().startswith(("ensures", "requires", "×", "⊎")):
+            lines.append(line)
+    return lines, imports_of("\n".join(text))
+
+
+def page():
+    specs, seen, out, total = Specs(), set(), [], 0
+    for file, start, name in CALLS:
+        lines, imports = clauses(file, start)
+        order = specs.reached(specs.named_in(lines, imports), seen)
+        size = sum(len(specs.lines[key][2]) for key in order)
+        total += size
+        by_crate = collections.Counter()
+        for key in order:
+            by_crate[key[0]] += len(specs.lines[key][2])
+        parts = ", ".join(f"`{crate}` {count}" for crate, count in sorted(by_crate.items()))
+        out.append(f"## {name}\n")
+        out.append(f"{len(order)} definitions that were not listed before, {size} lines: {parts or 'none'}.\n")
+        out.append("| Definition | Where | Lines |\n|---|---|---|")
+        for key in order:
+            where, line, text = specs.lines[key]
+            path = where.relative_to(TOP)
+            shown = f"{path.parts[1]}/{'/'.join(path.parts[3:])}"
+            out.append(f"| `{key[2]}` | [`{shown}:{line}`](../{path}#L{line}) | {len(text)} |")
+        out.append("")
+    head = [
+        "# What one must read to believe the headline",
+        "",
+        "Made by `tools/statement.py`; the gate compares.",
+        "",
+        "The prover checks every proof. What it cannot check is whether a contract says what its reader thinks that it says. So a",
+        "reader who wants to believe the promise of README reads the clauses of four calls (`crates/dns_rdata/src/record_data.rt`,",
+        "`order.rt`) and every definition that they name, directly or through other definitions. These are all of them, each in front",
+        "of what it names. [DEFINITIONS](dev/DEFINITIONS.md) reads them aloud.",
+        "",
+        f"**{total} lines in all.** Blank lines, comments and imports are not counted, nor are the types that code declares and the words",
+        "of the kit's standard library.",
+        "",
+    ]
+    return "\n".join(head + out).rstrip() + "\n"
+
+
+def main():
+    made = page()
+    if "--check" not in sys.argv:
+        PAGE.write_text(made, encoding="utf-8")
+        return
+    same = PAGE.exists() and PAGE.read_text(encoding="utf-8") == made
+    if not same:
+        print("docs/STATEMENT.md is not what tools/statement.py writes")
+    print(f"{int(same)} as wanted, {int(not same)} not")
+
+
+main()
