@@ -162,8 +162,8 @@ impl ParseError {
     /// text ends with ` token`: the name is what follows the last ` in ` before that.
     ///
     /// ```rust
-    /// fn is_about_preference(error: &ParseError) -> bool {
-    ///     error.field() == Some("MX preference")
+    /// if let Some(field) = error.field() {
+    ///     println!(rt; "  field {field}")?;
     /// }
     /// ```
     pub fn field(&self) -> Option<&'static str>

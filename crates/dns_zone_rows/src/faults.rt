@@ -21,9 +21,8 @@ use std::ops::Range;
 /// - The text is in the form of unknown data, `\#`, a length and octets.
 ///
 /// ```rust
-/// // `Invalid digit found in MX preference token` for `x mail`: the token is at the offsets 0 to 1.
-/// fn fault_in(text: &[u8], error: &ParseError) -> Option<Range<usize>> {
-///     token_at_fault(RecordType::MX, text, error)
+/// if let Some(token) = token_at_fault(record_type, text.as_bytes(), error) {
+///     println!(rt; "  octets {} to {}", token.start, token.end)?;
 /// }
 /// ```
 pub fn token_at_fault(
