@@ -17,4 +17,3 @@ pub use faults::token_at_fault;
 pub use reading::row_octets;
 pub use row::{ZoneField, ZoneRest, ZoneRow};
 pub use table::row_of;
-

@@ -8,7 +8,8 @@ use std::alloc::Global;
 use std::net::{IpAddr, Ipv4Addr};
 
 // A cookie of a client (RFC 7873), and a subnet of 24 bits (RFC 7871).
-const RDATA: [u8; 23] = *b"\x00\x0a\x00\x08\x0b\x64\xb4\xdc\xd7\xb0\xcc\x8f\x00\x08\x00\x07\x00\x01\x18\x00\xc0\x00\x02";
+const RDATA: [u8; 23] =
+    *b"\x00\x0a\x00\x08\x0b\x64\xb4\xdc\xd7\xb0\xcc\x8f\x00\x08\x00\x07\x00\x01\x18\x00\xc0\x00\x02";
 
 fn print_options(rt: &impl Print, options: &OPT) -> Result<()> {
     for (code, option) in options.iter() {

@@ -49,7 +49,9 @@ fn print_record(rt: &(impl AllocGlobal + Print), decoder: &mut BinDecoder<'_>) -
     let _class = decoder.read_u16()?;
     let ttl = decoder.read_u32()?.unverified();
     let length = decoder.read_u16()?;
-    let next = decoder.index().saturating_add(usize::from(length.unverified()));
+    let next = decoder
+        .index()
+        .saturating_add(usize::from(length.unverified()));
     let text = text_of(rt.alloc(), decoder, record_type, length)?;
     println!(rt; "{owner} {ttl} {record_type} {text}")?;
     Ok(next)

@@ -13,12 +13,7 @@ const LINES: [(RecordType, &str); 4] = [
 ];
 
 // Says which field is wrong, and where in the text its token is.
-fn explain(
-    rt: &impl Print,
-    record_type: RecordType,
-    text: &str,
-    error: &ParseError,
-) -> Result<()> {
+fn explain(rt: &impl Print, record_type: RecordType, text: &str, error: &ParseError) -> Result<()> {
     println!(rt; "{text}: {error}")?;
     if let Some(field) = error.field() {
         println!(rt; "  field {field}")?;
