@@ -78,9 +78,9 @@ impl RData {
         }
     }
 
-    /// Whether the value can be emitted. Each value that was read can; of what a caller built, a string, a tag or a protocol may
-    /// be too long, the keys of parameters may not rise, or a prefix may ask for more octets than its address has. Takes no
-    /// memory.
+    /// Whether the value can be emitted. Each value that was read can; of what a caller built, a string, a tag or a
+    /// protocol may be too long, the keys of parameters may not rise, or a prefix may need more octets than its address
+    /// has. Allocates nothing.
     pub fn is_emittable(&self) -> bool
         ensures { IsTrue result ↔ IsEmittable self.now }
     {
@@ -97,9 +97,10 @@ impl RData {
     }
 
     /// A cursor at the first of the canonical octets: this library's own form, for equality, order and hashing. All
-    /// names are lowercased, options are sorted, and a set of types is in its shortest form. They are **not for DNSSEC**:
-    /// a signer starts from the uncompressed octets with case preserved, which [`emit_whole`](RData::emit_whole)
-    /// appends. Of a value that cannot be emitted, of `Update0` and of `ZERO` there are none. Allocates nothing.
+    /// names are lowercased, options are sorted, and a set of types is in its shortest form. They are **not for
+    /// DNSSEC**: a signer starts from the uncompressed octets with case preserved, which
+    /// [`emit_whole`](RData::emit_whole) appends. Of a value that cannot be emitted, of `Update0` and of `ZERO` there
+    /// are none. Allocates nothing.
     ///
     /// ```rust
     /// fn canonical_start(data: &RData, buffer: &mut [u8]) -> usize {
@@ -119,10 +120,10 @@ impl RData {
         Cursor::new(self, self.is_emittable())
     }
 
-    /// The canonical octet at an offset, and `None` from their number on. Allocates nothing. It goes over the octets before
-    /// the offset one by one, so a loop over all octets is for [`RData::canonical_octets`]. The time is linear in the
-    /// offset; where the options of a record are in no order, each option before the offset takes up to some hundred
-    /// comparisons more, and up to 190 where there are fewer than 96 options.
+    /// The canonical octet at an offset, and `None` from their number on. Allocates nothing. It goes over the octets
+    /// before the offset one by one, so a loop over all octets is for [`RData::canonical_octets`]. The time is linear
+    /// in the offset; where the options of a record are in no order, each option before the offset takes up to some
+    /// hundred comparisons more, and up to 190 where there are fewer than 96 options.
     pub fn octet_at(&self, place: u128) -> Option<u8>
         ensures { result ≡ slice_get (data_octets self.now) place }
     {

@@ -89,8 +89,8 @@ impl RData {
         self.rank().cmp(&other.rank())
     }
 
-    // The order of two values that the fields do not tell without a cursor: by the canonical octets, then by type, then by
-    // variant, then by the fields. A call, so that only such values take the room of two cursors.
+    // The order of two values that the fields do not tell without a cursor: by the canonical octets, then by type, then
+    // by variant, then by the fields. A call, so that only such values take the room of two cursors.
     #[inline(never)]
     fn cmp_octets(&self, other: &RData) -> Ordering
         ensures { result ≡ rdata_cmp self.now other.now }
@@ -146,8 +146,8 @@ impl Ord for RData {
 
     ghost matches_eq = { rdata_ties };
 
-    /// By the canonical octets, a proper beginning before what goes on; then by type, then by variant as declared, then by
-    /// the fields as declared. `Equal` exactly where `==` holds. Takes no memory.
+    /// By the canonical octets: the first one that differs decides, and a beginning of others comes first. Then by
+    /// type, by variant as declared, and by the fields as declared. `Equal` exactly if `==` holds. Allocates nothing.
     fn cmp(&self, other: &RData) -> Ordering
         ensures value { result ≡ rdata_cmp self.now other.now }
         // Two values that were read under one type are ordered by their canonical octets.

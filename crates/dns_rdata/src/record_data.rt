@@ -30,7 +30,7 @@ use std::fmt;
 use std::hash::{Hash, Hasher};
 use std::net::{IpAddr, Ipv4Addr, Ipv6Addr};
 
-/// The data of a record (RFC 1035, 3.2.1 and 3.3). [`RData::read`] takes it from a message, and
+/// The data of a record (RFC 1035, sections 3.2.1 and 3.3). [`RData::read`] reads it from a message, and
 /// [`emit`](BinEncodable::emit) appends it to one; [`RData::try_from_str`] and [`RData::from_tokens`] read its text,
 /// which `Display` writes.
 ///
@@ -68,7 +68,7 @@ pub enum RData {
     MX(MX),
     /// A rule that rewrites a name.
     NAPTR(NAPTR),
-    /// Octets without a form.
+    /// Octets without a format.
     NULL(NULL),
     /// A name server.
     NS(NS),
@@ -92,14 +92,14 @@ pub enum RData {
     TLSA(TLSA),
     /// Character strings.
     TXT(TXT),
-    /// Octets of a type whose data has no form here.
+    /// Octets of a type without a format of its own here.
     Unknown {
         /// The type.
         code: RecordType,
         /// The octets.
         rdata: NULL,
     },
-    /// No data, of a record of this type in an update (RFC 2136, 2.4 and 2.5).
+    /// No data, of a record of this type in an update (RFC 2136, sections 2.4 and 2.5).
     Update0(RecordType),
     /// No data, of type 0.
     ZERO,
@@ -117,7 +117,7 @@ impl RData {
         )
     }
 
-    /// The address of A and AAAA; of other data none.
+    /// The address of A and AAAA; `None` for other types. Allocates nothing.
     pub fn ip_addr(&self) -> Option<IpAddr>
         ensures { result ≡ address_of self.now }
     {
@@ -147,16 +147,18 @@ impl RData {
         }
     }
 
-    /// Reads the data of a record of this type, which is all of the `length` octets from the decoder's place.
+    /// Reads RDATA of this type: all of the `length` octets (RDLENGTH) from the decoder's offset.
     ///
-    /// The first of these that holds refuses it:
+    /// # Errors
     ///
-    /// - [`UnknownRecordTypeValue`](DecodeError::UnknownRecordTypeValue): the type is ANY, AXFR or IXFR, of which no data
-    ///   is read.
-    /// - [`Memory`](DecodeError::Memory): memory ran out.
-    /// - [`IncorrectRDataLengthRead`](DecodeError::IncorrectRDataLengthRead): another number of octets was taken than the
-    ///   length says.
-    /// - What the record itself refuses: [`InsufficientBytes`](DecodeError::InsufficientBytes) (octets are missing),
+    /// The first of these that applies:
+    ///
+    /// - [`UnknownRecordTypeValue`](DecodeError::UnknownRecordTypeValue): the type is ANY, AXFR or IXFR, of which no
+    ///   data is read.
+    /// - [`Memory`](DecodeError::Memory): an allocation failed.
+    /// - [`IncorrectRDataLengthRead`](DecodeError::IncorrectRDataLengthRead): another number of octets was taken than
+    ///   the length says.
+    /// - The record's own error: [`InsufficientBytes`](DecodeError::InsufficientBytes) (octets are missing),
     ///   [`NameInvalid`](DecodeError::NameInvalid), [`BitmapInvalid`](DecodeError::BitmapInvalid) (CSYNC),
     ///   [`CaaTagInvalid`](DecodeError::CaaTagInvalid), [`NaptrFlagsInvalid`](DecodeError::NaptrFlagsInvalid),
     ///   [`UnrecognizedCsyncFlags`](DecodeError::UnrecognizedCsyncFlags),
@@ -164,8 +166,8 @@ impl RData {
     ///   length that it can't have), [`SvcParamMissingValue`](DecodeError::SvcParamMissingValue),
     ///   [`SvcParamsOutOfOrder`](DecodeError::SvcParamsOutOfOrder) or [`Utf8`](DecodeError::Utf8) (SVCB and HTTPS).
     ///
-    /// After a refusal the message is as it was, and the place is not before the one where the call began; after success it
-    /// is behind the length.
+    /// After success the decoder is at the end of the RDATA. On error it may be anywhere from the offset on where the
+    /// call began; use [`BinDecoder::at`] or [`BinDecoder::clone`] to go on with the next record.
     ///
     /// ```rust
     /// fn read_address(alloc: Global, message: &[u8]) -> Result<RData, DecodeError> {
@@ -173,8 +175,8 @@ impl RData {
     ///     RData::read(&mut decoder, RecordType::A, Restrict::new(4))
     /// }
     /// ```
-    // Each type counts the octets of its own record and returns by itself: a value that goes through one place for all of
-    // them is copied there, and so it is where it is handed on by another function.
+    // Each type counts the octets of its own record and returns by itself: a value that goes through one place for all
+    // of them is copied there, and so it is where it is handed on by another function.
     #[inline(never)]
     pub fn read(
         decoder: &mut BinDecoder<'_>,
@@ -210,18 +212,19 @@ impl RData {
         )
     }
 
-    /// What the record itself gives for RDATA of this type: `Ok` if it reads a value, wherever that ends, and its own error
-    /// otherwise. The decoder is then where reading stopped.
+    /// What the record itself gives for RDATA of this type: `Ok` if it reads a value, wherever that ends, and its own
+    /// error otherwise. The decoder is then where reading stopped.
     ///
-    /// [`read`](RData::read) compares the number of octets with `length` before it returns an error of the record, so it rejects
-    /// most damaged RDATA with [`IncorrectRDataLengthRead`](DecodeError::IncorrectRDataLengthRead). This call tells the error that
-    /// the record has: [`CaaTagInvalid`](DecodeError::CaaTagInvalid) for a bad CAA tag with a value after it. `read` accepts the
-    /// RDATA exactly if this call returns `Ok` and the decoder has moved by `length`. Allocates what `read` does, and frees it.
+    /// [`read`](RData::read) compares the number of octets with `length` before it returns an error of the record, so
+    /// it rejects most damaged RDATA with [`IncorrectRDataLengthRead`](DecodeError::IncorrectRDataLengthRead). This
+    /// call tells the error that the record has: [`CaaTagInvalid`](DecodeError::CaaTagInvalid) for a bad CAA tag with a
+    /// value after it. `read` accepts the RDATA exactly if this call returns `Ok` and the decoder has moved by
+    /// `length`. Allocates what `read` does, and frees it.
     ///
     /// # Errors
     ///
-    /// - [`UnknownRecordTypeValue`](DecodeError::UnknownRecordTypeValue): the type is ANY, AXFR or IXFR, of which no data is read.
-    ///   The decoder has not moved.
+    /// - [`UnknownRecordTypeValue`](DecodeError::UnknownRecordTypeValue): the type is ANY, AXFR or IXFR, of which no
+    ///   data is read. The decoder has not moved.
     /// - [`Memory`](DecodeError::Memory): an allocation failed.
     /// - The record's own errors, which [`read`](RData::read) lists.
     #[inline(never)]
@@ -257,10 +260,9 @@ impl RData {
         )
     }
 
-    /// Appends the octets of the value, its names whole and with their letters, whatever the mode of the encoder: no name
-    /// ends by a pointer, so the octets mean the same at any place of any message. Refused as by
-    /// [`emit`](BinEncodable::emit). After a refusal the octets that were there stand, and the encoder is in the mode that it
-    /// was in, refused or not.
+    /// Appends the RDATA with names uncompressed and case preserved, whatever the mode of the encoder, so the octets
+    /// mean the same at any offset of any message. Fails as [`emit`](BinEncodable::emit). The encoder is in its earlier
+    /// mode afterwards; on error the octets that were there before are unchanged.
     ///
     /// ```rust
     /// fn octets_of(alloc: Global, data: &RData, octets: &mut Vec<u8>) -> ProtoResult<()> {
@@ -366,11 +368,16 @@ fn without_value<T: Drop>(outcome: Result<T, DecodeError>) -> Result<(), DecodeE
 impl BinEncodable for RData {
     ghost emits = { λ v r old new. EmitsAs (mode_for old.mode v) (fields_of v).kinds (fields_of v).values r old new };
 
-    /// Appends the octets of the value, its names in the mode of its type. Refused by [`Memory`](ProtoError::Memory);
-    /// by [`MaxBufferSizeExceeded`](ProtoError::MaxBufferSizeExceeded) where the octets would pass the encoder's limit;
-    /// and by [`Message`](ProtoError::Message) where the value has none, as a string of more than 255 octets or
-    /// parameters whose keys do not rise. After a refusal the octets that were there stand, and the encoder is in the
-    /// mode that it was in.
+    /// Appends the RDATA, its names compressed or not as the type says. Reading it again gives an equal value.
+    ///
+    /// # Errors
+    ///
+    /// The octets that were there before are unchanged then, and the encoder is in its earlier mode.
+    ///
+    /// - [`Message`](ProtoError::Message): the value cannot be encoded, as a string of more than 255 octets or
+    ///   parameters whose keys do not rise.
+    /// - [`MaxBufferSizeExceeded`](ProtoError::MaxBufferSizeExceeded): the octets would pass the encoder's limit.
+    /// - [`Memory`](ProtoError::Memory): an allocation failed.
     ///
     /// ```rust
     /// fn emit_mail(alloc: Global, exchange: Name, octets: &mut Vec<u8>) -> ProtoResult<()> {
@@ -464,9 +471,9 @@ impl Hash for RData {
 impl Clone for RData {
     ghost is_clone = { λ a b. b ≡ a };
 
-    /// The same value in memory of its own.
-    // Each type returns by itself, so that it is written where the caller wants it, and where the arms of one value meet
-    // nothing is copied.
+    /// The same value, in memory of its own. Allocates as reading does.
+    // Each type returns by itself, so that it is written where the caller wants it, and where the arms of one value
+    // meet nothing is copied.
     #[inline(never)]
     fn clone(&self) -> Result<RData, AllocError>
         ensures { IfOk result (λ copy. copy ≡ self.now) }
@@ -484,14 +491,14 @@ impl Clone for RData {
 impl fmt::Display for RData {
     ghost output = { data_text };
 
-    /// The text of the record; `UPDATE` for no data of an update, and nothing for no data of type 0. OPT has no text:
-    /// it is refused.
+    /// Prints the text of the record; `UPDATE` for an update without data, and nothing for type 0. OPT has no text:
+    /// printing fails.
     ///
     /// It is for people, as in `hickory-proto`; `dns_rdata_zone::ZoneText` prints the form that name servers read. Some
-    /// texts, read again, are refused or silently give another value: of TXT and HINFO whose strings are empty or have
-    /// blanks, `"`, `;`, `(` or `\`; of CAA and NAPTR with `"` and `\`; of SVCB and HTTPS with keys of no name (`key667=`),
-    /// `no-default-alpn=` or `dohpath=""`; of CERT whose type or algorithm prints a name; of names with a `;` in a label.
-    /// To keep a value, keep its octets (`emit`); `from_tokens` says which texts read back.
+    /// texts, read again, are rejected or silently give another value: of TXT and HINFO whose strings are empty or have
+    /// blanks, `"`, `;`, `(` or `\`; of CAA and NAPTR with `"` and `\`; of SVCB and HTTPS with keys of no name
+    /// (`key667=`), `no-default-alpn=` or `dohpath=""`; of CERT whose type or algorithm prints a name; of names with a
+    /// `;` in a label. To keep a value, keep its octets (`emit`); `from_tokens` says which texts read back.
     fn fmt<W: fmt::Write>(&self, f: &mut fmt::Formatter<W>) -> fmt::Result
         ensures writes { DisplaysOnOk W.write_str_gives f.old result (data_text self.now) f.new }
         ensures styled { DisplaysStyledOnOk W.write_str_gives f.old result None f.new }

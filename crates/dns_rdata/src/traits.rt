@@ -22,7 +22,7 @@ pub trait RecordData: Sized {
     /// The data of this kind in a value, where it has that.
     ghost borrowed: { Data → Option Self };
 
-    /// The data of this kind that the value holds; none where it holds other data.
+    /// The data of this kind that the value holds; `None` if it holds other data.
     fn try_borrow(rdata: &RData) -> Option<&Self>
         ensures { option_copied result ≡ borrowed rdata.now };
 
@@ -44,7 +44,7 @@ pub trait RecordData: Sized {
     fn is_update(&self) -> bool
         ensures { IsTrue result ↔ IsUpdate (wrapped self.now) };
 
-    /// It is lent exactly where the value is the one that holds it.
+    /// It is lent exactly if the value is the one that holds it.
     ghost exactly: { (v : Data) (x : Self) → (borrowed v ≡ Some x) ↔ (wrapped x ≡ v) };
 }
 

@@ -60,19 +60,19 @@ impl RData {
     /// Reads RDATA of this type from its tokens, one by one, as the record's own `from_tokens` does. A relative name is
     /// completed with the origin, if there is one.
     ///
-    /// Tokens after those of the type are not read, with these exceptions: OPENPGPKEY and SSHFP reject a further token, and
-    /// TXT, TLSA, SMIMEA, CSYNC, SVCB and HTTPS read all of them as their last field. Of ZERO no token is read. The iterator
-    /// must end, as every iterator of a list or of a text's parts does.
+    /// Tokens after those of the type are not read, with these exceptions: OPENPGPKEY and SSHFP reject a further token,
+    /// and TXT, TLSA, SMIMEA, CSYNC, SVCB and HTTPS read all of them as their last field. Of ZERO no token is read. The
+    /// iterator must end, as every iterator of a list or of a text's parts does.
     ///
     /// # Errors
     ///
     /// - [`MissingToken`](ParseError::MissingToken): a token is missing; the text names its field.
-    /// - [`Message`](ParseError::Message): a token has none of the field's values, or is one too many. The text says which
-    ///   field; that it is the right field is tested and not proved.
+    /// - [`Message`](ParseError::Message): a token has none of the field's values, or is one too many. The text says
+    ///   which field; that it is the right field is tested and not proved.
     /// - [`AddrParse`](ParseError::AddrParse): a token is no address.
     /// - [`Proto`](ParseError::Proto): a token is no name, no type or no key of a parameter.
-    /// - [`UnsupportedRecordType`](ParseError::UnsupportedRecordType): no text is read for the type, as for every type with
-    ///   an unknown number.
+    /// - [`UnsupportedRecordType`](ParseError::UnsupportedRecordType): no text is read for the type, as for every type
+    ///   with an unknown number.
     /// - [`Memory`](ParseError::Memory): an allocation failed.
     ///
     /// ```rust
@@ -99,10 +99,13 @@ impl RData {
         RData::read_words(alloc, record_type, tokens, origin)
     }
 
-    /// The data of a record of this type from a text (RFC 1035, 5.1), whose words are read as by
-    /// [`RData::from_tokens`], without an origin: a list in parentheses gives its words, character data one, blanks and
-    /// the ends of lines none. A text with another token, or with none that it could have, is refused by
-    /// [`Message`](ParseError::Message); its words as by `from_tokens`, and so is a type without words.
+    /// Reads RDATA of this type from a display text (RFC 1035, section 5.1), without an origin. Its tokens are read as
+    /// by [`RData::from_tokens`]: a list in parentheses gives its tokens, character data one, blanks and line ends
+    /// none.
+    ///
+    /// # Errors
+    ///
+    /// [`Message`](ParseError::Message) if the text is not cut into such tokens; otherwise those of `from_tokens`.
     ///
     /// ```rust
     /// fn parse_mail(alloc: Global) -> Result<RData, ParseError> {
@@ -123,7 +126,7 @@ impl RData {
         RData::try_from_str_with_origin(alloc, record_type, text, None)
     }
 
-    /// The same with an origin, whose labels and mark a relative name in the text gets.
+    /// The same with an origin, which completes relative names.
     ///
     /// ```rust
     /// fn parse_mail_of(alloc: Global, origin: &Name) -> Result<RData, ParseError> {
