@@ -183,6 +183,9 @@ impl Ord for EdnsCode {
     #[inline]
     fn cmp(&self, other: &EdnsCode) -> Ordering {
         let numbers = u16::from(*self).cmp(&u16::from(*other));
-        numbers.then(self.variant().cmp(&other.variant()))
+        if numbers.is_ne() {
+            return numbers;
+        }
+        self.variant().cmp(&other.variant())
     }
 }
