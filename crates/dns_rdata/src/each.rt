@@ -59,8 +59,8 @@ macro_rules! read_each {
     };
 }
 
-// Matches the type of the data: the arms that are given first, and then one for each record, which reads it, keeps no value, and
-// returns.
+// Matches the type of the data: the arms that are given first, and then one for each record, which reads it, keeps no
+// value, and returns.
 macro_rules! own_each {
     (
         ($record_type:expr, $decoder:ident, $length:ident, $($pattern:pat => $other:expr),+; $last:expr)
