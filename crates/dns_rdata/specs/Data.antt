@@ -20,8 +20,8 @@ use Rattle.dns_rdata.specs.declared.record_data.RData.TheVariants as rdata
 pub data TypeRow : Type 1 where
   -- the fields in order, and what is asked of them beside that they stand; of n octets of RDATA why the record itself rejects
   -- them, and up to where it reads a value
-  row : (kinds : List Kind) → (Values kinds → Type 0) → (ℕ → Reading → DecodeError → Reading → Type 0) → (ℕ → Reading → Reading → Type 0)
-      → TypeRow
+  row : (kinds : List Kind) → (Values kinds → Type 0) → (ℕ → Reading → DecodeError → Reading → Type 0)
+      → (ℕ → Reading → Reading → Type 0) → TypeRow
   -- no data is read: a type that only questions have (RFC 1035, 3.2.3; RFC 1995, 2)
   unread : TypeRow
   -- octets of any form

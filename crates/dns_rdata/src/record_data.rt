@@ -212,14 +212,15 @@ impl RData {
         )
     }
 
-    /// What the record itself gives for RDATA of this type: `Ok` if it reads a value, wherever that ends, and its own
-    /// error otherwise. The decoder is then where reading stopped.
+    /// The record's own result for RDATA of this type, before its octets are counted.
     ///
-    /// [`read`](RData::read) compares the number of octets with `length` before it returns an error of the record, so
-    /// it rejects most damaged RDATA with [`IncorrectRDataLengthRead`](DecodeError::IncorrectRDataLengthRead). This
-    /// call tells the error that the record has: [`CaaTagInvalid`](DecodeError::CaaTagInvalid) for a bad CAA tag with a
-    /// value after it. `read` accepts the RDATA exactly if this call returns `Ok` and the decoder has moved by
-    /// `length`. Allocates what `read` does, and frees it.
+    /// It is `Ok` if the record reads a value, wherever that ends, and the record's own error otherwise. The decoder is
+    /// then where reading stopped. [`read`](RData::read) compares the number of octets with `length` before it returns
+    /// an error of the record, so it rejects most damaged RDATA with
+    /// [`IncorrectRDataLengthRead`](DecodeError::IncorrectRDataLengthRead). This call tells the error that the record
+    /// has: [`CaaTagInvalid`](DecodeError::CaaTagInvalid) for a bad CAA tag with a value after it. `read` accepts the
+    /// RDATA exactly if this call returns `Ok` and moves the decoder by `length`. Allocates what `read` does, and frees
+    /// it.
     ///
     /// # Errors
     ///
@@ -241,7 +242,8 @@ impl RData {
         ensures elsewhere { OnOk result (decoder.new.index ≢ decoder.old.index + length →
             NoValue decoder.old.message decoder.old.index length record_type) }
         // Nor have they one after an error, but for memory.
-        ensures refused { IfErr result (λ e. UnlessMemory e (NoValue decoder.old.message decoder.old.index length record_type)) }
+        ensures refused { IfErr result (λ e. UnlessMemory e (
+            NoValue decoder.old.message decoder.old.index length record_type)) }
         ensures never { IsNeverRead record_type → (decoder.new ≡ decoder.old)
             × (result ≡ Err (DecodeError.UnknownRecordTypeValue (number_of record_type))) }
         ensures behind { StaysBehind decoder.old decoder.new }
