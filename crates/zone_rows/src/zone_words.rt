@@ -4,7 +4,7 @@ use anyhow::{Result, bail};
 use dns_names_wire::{BinDecodable, BinDecoder, Name, ParseError};
 use dns_types::{Octets, RecordType, Strings};
 use dns_zone_parameters::put_parameters;
-use dns_zone_rows::{row_octets, row_of};
+use dns_zone_rows::{row_octets, row_of, token_at_fault};
 use dns_zone_words::{
     Field, NameField, StringField, ZoneWords, all_base64, ipv4_of, is_unknown_mark, name_field,
     next_ttl, next_u16, number_field, put_name, put_string, some_word, string_field, type_of,
@@ -30,8 +30,9 @@ fn show<T: fmt::Debug + Drop>(
     }
 }
 
-// The octets in hexadecimal that a text gives as the data of a type, or why it is refused.
-fn row(alloc: Global, record_type: &str, text: &str) -> Result<String> {
+// The octets in hexadecimal that a text gives as the RDATA of a type, or the error. With `fault` in place of the error the
+// offsets of the token that it is about.
+fn row(alloc: Global, record_type: &str, text: &str, fault: bool) -> Result<String> {
     let Ok(record_type) = record_type.parse::<RecordType>() else {
         bail!("no such type");
     };
@@ -42,6 +43,10 @@ fn row(alloc: Global, record_type: &str, text: &str) -> Result<String> {
     let mut words = ZoneWords::new(text.as_bytes());
     match row_octets(alloc, &mut words, Some(&origin), &row) {
         Ok(octets) => Ok(hex::encode(alloc, octets.as_slice())?),
+        Err(e) if fault => {
+            let span = token_at_fault(record_type, text.as_bytes(), &e);
+            Ok(format!(in alloc; "{span:?}")?)
+        }
         Err(e) => Ok(format!(in alloc; "{e}")?),
     }
 }
@@ -84,10 +89,13 @@ fn name(
 }
 
 /// The value of a text's first tokens as a field of a kind, or the error; of `row` and a type, and of `parameters`, the
-/// octets of all its tokens. Names are below `ex`, but for a `name alone`.
+/// octets of all its tokens; of `fault` and a type, where the token is that the error of `row` is about. Names are below `ex`, but for a `name alone`.
 pub fn field(alloc: Global, kind: &str, text: &str) -> Result<String> {
     if let Some(record_type) = kind.strip_prefix("row ") {
-        return row(alloc, record_type, text);
+        return row(alloc, record_type, text, false);
+    }
+    if let Some(record_type) = kind.strip_prefix("fault ") {
+        return row(alloc, record_type, text, true);
     }
     let mut words = ZoneWords::new(text.as_bytes());
     match kind {

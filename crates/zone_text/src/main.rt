@@ -10,10 +10,10 @@
 //!
 //! TYPE is the name of a type in either case, its number, or `TYPE` and its number.
 //!
-//! A line that cannot be used has the result `refused: ` and the reason, and the next line follows. If the reason is about
-//! one token of TEXT, `, at octet ` and a number follow: the offset in the line at which this token starts. At the end of the
-//! input the exit status is 1 if some line was refused, and 0 otherwise. Only if memory runs out, or if standard input or
-//! output fails, the program ends earlier: with status 1, and without a result for the line.
+//! A line that cannot be used has the result `refused: ` and the reason, and the next line follows. If one token of
+//! TEXT is at fault, `, at octet ` and the offset in the line at which this token starts follow the reason. At the end
+//! of the input the exit status is 1 if some line was refused, and 0 otherwise. Only if memory runs out, or if standard
+//! input or output fails, the program ends earlier: with status 1, and without a result for the line.
 #![tactic(auto)]
 
 use anyhow::{Result, bail};
@@ -115,8 +115,8 @@ fn write_data<W: Write>(
     }
 }
 
-// Writes why a text is refused that follows so many octets of its line. A type without fields here has the form of unknown
-// data alone.
+// Writes why a text is refused, which follows `before` octets of its line. A type without fields here has the form of
+// unknown data alone.
 fn refuse_text<W: Write>(
     out: &mut W,
     kind: RecordType,
