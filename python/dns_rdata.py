@@ -11,6 +11,9 @@ environment's DNS_RDATA_LIBRARY names.
     >>> check(message, 13, 3, MX)
     Traceback (most recent call last):
     dns_rdata.Refused: LENGTH: 4 octets were read, of 3
+    >>> check(bytes.fromhex("000ac00400"), 0, 4, MX)
+    Traceback (most recent call last):
+    dns_rdata.Refused: LENGTH: 2 octets were read, of 4: NAME at offset 2
     >>> parse("10 mail", MX, b"\\7example\\0").hex()
     '000a046d61696c076578616d706c6500'
 
@@ -66,7 +69,10 @@ class Status(enum.IntEnum):
 class Refusal(ctypes.Structure):
     """The numbers of a refusal; those that a status has nothing to say of are 0."""
 
-    _fields_ = [("read", ctypes.c_size_t), ("len", ctypes.c_size_t), ("number", ctypes.c_uint32)]
+    _fields_ = [
+        ("read", ctypes.c_size_t), ("len", ctypes.c_size_t), ("number", ctypes.c_uint32), ("cause", ctypes.c_uint32),
+        ("offset", ctypes.c_size_t),
+    ]
 
 
 class Parts(ctypes.Structure):
@@ -76,14 +82,19 @@ class Parts(ctypes.Structure):
 
 
 class Refused(ValueError):
-    """Why a call gives no answer: `status`, and of `check` the numbers `read` and `len` (LENGTH) or `number`."""
+    """Why a call gives no answer: `status`, and of `check` the numbers `read` and `len` (LENGTH) or `number`. The number of octets is
+    tested before the record's own error, so damaged data mostly gives LENGTH; `cause` is the status of the record's own error, OK if
+    it has none, and `offset` is where in the message reading stopped."""
 
     def __init__(self, status, why=None):
         self.status = Status(status)
         self.read, self.len, self.number = (why.read, why.len, why.number) if why else (0, 0, 0)
+        self.cause, self.offset = (Status(why.cause), why.offset) if why else (None, None)
         text = self.status.name
         if why and status == Status.LENGTH:
             text += f": {self.read} octets were read, of {self.len}"
+            if self.cause not in (Status.OK, Status.LENGTH):
+                text += f": {self.cause.name} at offset {self.offset}"
         elif why and status in (Status.NEVER, Status.CSYNC_FLAGS, Status.ADDRESS_FAMILY):
             text += f": {self.number}"
         super().__init__(text)

@@ -32,6 +32,19 @@ class Calls(unittest.TestCase):
         self.assertEqual(self.refused(lib.Status.NEVER, lib.check, b"", 0, 0, 255).number, 255)
         self.refused(lib.Status.MISSING_OCTETS, lib.check, b"\x0a\0\0\1", 5, 4, lib.A)
 
+    def test_causes(self):
+        status, length = lib.Status, lib.Status.LENGTH
+        for octets, size, number, cause, offset in [
+            ("c00002", 4, lib.A, status.MISSING_OCTETS, 3),  # the message ends inside the RDATA
+            ("000ac00400", 4, lib.MX, status.NAME, 2),  # a compression pointer forward
+            ("0005697373752d6361", 9, 257, status.CAA_TAG, 7),  # "-" in a CAA tag, and a value
+            ("000000010004000140", 9, 62, status.CSYNC_FLAGS, 6),  # unknown CSYNC flags, and a bitmap
+            ("c000020100", 5, lib.A, status.OK, 4),  # RDATA longer than the record
+        ]:
+            why = self.refused(length, lib.check, bytes.fromhex(octets), 0, size, number)
+            self.assertEqual((why.cause, why.offset, why.read, why.len), (cause, offset, offset, size))
+            self.assertEqual(why.number, 4 if cause == status.CSYNC_FLAGS else 0)
+
     def test_octets(self):
         self.assertEqual(lib.wire(MESSAGE, 17, 4, lib.MX), b"\x00\x0a\x03WWW\x07example\x03com\x00")
         self.assertEqual(lib.canonical(MESSAGE, 17, 4, lib.MX), b"\x00\x0a\x03www\x07example\x03com\x00")

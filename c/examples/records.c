@@ -52,10 +52,10 @@ static int print_name(struct reader *message) {
 static void print_refusal(const struct reader *message, uint16_t length, uint16_t type) {
     struct dns_rdata_refusal why;
     dns_rdata_status status = dns_rdata_check(message->octets, message->length, message->place, length, type, &why);
-    if (status == DNS_RDATA_LENGTH)
+    if (status == DNS_RDATA_LENGTH && why.cause == DNS_RDATA_OK)
         printf("refused: %zu octets in place of %zu\n", why.read, why.len);
     else
-        printf("refused: status %u\n", (unsigned)status);
+        printf("refused: status %u at offset %zu\n", (unsigned)why.cause, why.offset);
 }
 
 /* Prints the data at the reader's place: 1 where it is data of its type. */

@@ -95,21 +95,31 @@ enum {
 struct dns_rdata_refusal {
     size_t read;     /* DNS_RDATA_LENGTH: the octets that were read */
     size_t len;      /* DNS_RDATA_LENGTH: the octets that there should have been */
-    uint32_t number; /* DNS_RDATA_NEVER, DNS_RDATA_CSYNC_FLAGS, DNS_RDATA_ADDRESS_FAMILY: the type, the flags, the family */
+    uint32_t number; /* cause DNS_RDATA_NEVER, DNS_RDATA_CSYNC_FLAGS, DNS_RDATA_ADDRESS_FAMILY: the type, the flags, the family */
+    uint32_t cause;  /* the status of the record's own error, DNS_RDATA_OK if it has none */
+    size_t offset;   /* the offset in the message where reading stopped */
 };
 
 /*
  * Checks whether the `length` octets at `place` of the message are the RDATA of a record of this type. Returns DNS_RDATA_OK exactly
  * if they are, unless memory runs out. Otherwise it returns the first reason why they are not and sets *why to the numbers of that
- * reason; with DNS_RDATA_MEMORY all numbers are 0. DNS_RDATA_OK leaves *why as it was.
+ * reason. DNS_RDATA_OK leaves *why as it was.
  *
- * The number of octets is tested before the record's own error. With DNS_RDATA_LENGTH the record usually stopped at the offset
- * place + why->read. These give DNS_RDATA_LENGTH and not the status that one may expect:
+ * The number of octets is tested before the record's own error, so damaged RDATA mostly gives DNS_RDATA_LENGTH. why->cause is the
+ * record's own error: the status that would be returned if the number of octets were not tested. why->offset is where in the
+ * message reading stopped. To tell a user what is wrong with the RDATA, look at these two:
  *
- *  - a message that ends inside the RDATA (not DNS_RDATA_MISSING_OCTETS);
- *  - MX whose name has a compression pointer forward (not DNS_RDATA_NAME);
- *  - CAA whose tag has an octet that is no letter and no digit, unless that octet ends the RDATA (not DNS_RDATA_CAA_TAG);
- *  - CSYNC with unknown flags and a bitmap after them (not DNS_RDATA_CSYNC_FLAGS).
+ *     RDATA                                               status            cause                     offset
+ *     the message ends inside the RDATA                   DNS_RDATA_LENGTH  DNS_RDATA_MISSING_OCTETS  at most the message's length
+ *     MX, a compression pointer forward in its name       DNS_RDATA_LENGTH  DNS_RDATA_NAME            where the name begins
+ *     CAA, "-" in its tag, and a value                    DNS_RDATA_LENGTH  DNS_RDATA_CAA_TAG         after the "-"
+ *     CSYNC, unknown flags, and a bitmap                  DNS_RDATA_LENGTH  DNS_RDATA_CSYNC_FLAGS     after the flags
+ *     longer than the record, as five octets of A         DNS_RDATA_LENGTH  DNS_RDATA_OK              where the record ends
+ *
+ * With DNS_RDATA_LENGTH because of the number of octets, why->read is why->offset - place and why->len is `length`. If a part inside
+ * RDATA of the right length has a wrong length, they are those of the part, and the cause is DNS_RDATA_LENGTH as well. With every
+ * other status the cause is the status. If `place` is past the end of the message, nothing is read: the status and the cause are
+ * DNS_RDATA_MISSING_OCTETS, and the offset is `place`. With DNS_RDATA_MEMORY the cause is DNS_RDATA_MEMORY, and all else is 0.
  */
 DNS_RDATA_NONNULL dns_rdata_status dns_rdata_check(const uint8_t *message, size_t message_length, size_t place,
                                                    uint16_t length, uint16_t type, struct dns_rdata_refusal *why);

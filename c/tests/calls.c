@@ -42,20 +42,49 @@ static int by_octets(const void *a, const void *b) {
     return dns_rdata_compare_canonical(x->octets, x->count, y->octets, y->count);
 }
 
-/* The number of octets is tested before the record's own error, which is returned only if it is found at the end of the RDATA. */
+/* Checks octets that are the whole message, and compares the status, the record's own error, and where reading stopped. */
+static struct dns_rdata_refusal rejection(const uint8_t *octets, size_t count, size_t place, uint16_t length, uint16_t type,
+                                          dns_rdata_status status, dns_rdata_status cause, size_t offset, const char *what) {
+    struct dns_rdata_refusal why = {9, 9, 9, 9, 9};
+    want(dns_rdata_check(octets, count, place, length, type, &why) == status, what);
+    want(why.cause == cause && why.offset == offset, what);
+    if (status == DNS_RDATA_LENGTH && cause != DNS_RDATA_LENGTH)
+        want(why.read == offset - place && why.len == length, what);
+    else if (status != DNS_RDATA_LENGTH)
+        want(why.read == 0 && why.len == 0, what);
+    return why;
+}
+
+/* The number of octets is tested before the record's own error, which is the cause. */
 static void rejected(void) {
     static const uint8_t address[] = {192, 0, 2};
+    static const uint8_t addresses[] = {192, 0, 2, 1, 0};
     static const uint8_t mail[] = {0, 10, 0xc0, 4, 0}; /* a compression pointer forward */
     static const uint8_t issuer[] = {0, 5, 'i', 's', 's', 'u', '-', 'c', 'a'}; /* "-" ends the tag, and a value follows */
     static const uint8_t sync[] = {0, 0, 0, 1, 0, 4, 0, 1, 0x40}; /* an unknown flag, then a bitmap */
-    struct dns_rdata_refusal why = {9, 9, 9};
-    want(dns_rdata_check(address, 3, 0, 4, 1, &why) == DNS_RDATA_LENGTH && why.read != 4 && why.len == 4, "the message ends inside an A");
-    want(dns_rdata_check(mail, 5, 0, 4, 15, &why) == DNS_RDATA_LENGTH && why.read != 4 && why.len == 4, "a pointer forward in MX");
-    want(dns_rdata_check(issuer, 9, 0, 9, 257, &why) == DNS_RDATA_LENGTH && why.read != 9 && why.len == 9, "a bad tag in CAA");
-    want(dns_rdata_check(sync, 9, 0, 9, 62, &why) == DNS_RDATA_LENGTH && why.read != 9 && why.len == 9, "an unknown flag in CSYNC");
-    want(dns_rdata_check(issuer, 9, 0, 7, 257, &why) == DNS_RDATA_CAA_TAG, "a bad tag at the end of CAA");
-    want(dns_rdata_check(sync, 9, 0, 6, 62, &why) == DNS_RDATA_CSYNC_FLAGS && why.number == 4, "an unknown flag at the end of CSYNC");
-    want(dns_rdata_check(address, 3, 4, 4, 1, &why) == DNS_RDATA_MISSING_OCTETS, "an offset past the end of the message");
+    static const uint8_t service[] = {0, 1, 0, 0, 3, 0, 2, 1, 187, 0}; /* port 443, and one octet */
+    static const uint8_t strings[] = {3, 'a', 'b', 'c'};
+    static const uint8_t options[] = {0, 8, 0, 4, 0, 3, 0, 0}; /* a client subnet of family 3 */
+    static const uint8_t certificate[] = {1, 2, 3, 4};
+    struct dns_rdata_refusal why;
+    rejection(address, 3, 0, 4, 1, DNS_RDATA_LENGTH, DNS_RDATA_MISSING_OCTETS, 3, "the message ends inside an A");
+    rejection(mail, 5, 0, 4, 15, DNS_RDATA_LENGTH, DNS_RDATA_NAME, 2, "a pointer forward in MX");
+    rejection(issuer, 9, 0, 9, 257, DNS_RDATA_LENGTH, DNS_RDATA_CAA_TAG, 7, "a bad tag in CAA");
+    why = rejection(sync, 9, 0, 9, 62, DNS_RDATA_LENGTH, DNS_RDATA_CSYNC_FLAGS, 6, "an unknown flag in CSYNC");
+    want(why.number == 4, "the unknown flag");
+    rejection(addresses, 5, 0, 5, 1, DNS_RDATA_LENGTH, DNS_RDATA_OK, 4, "five octets of A");
+    rejection(addresses, 5, 1, 3, 1, DNS_RDATA_LENGTH, DNS_RDATA_OK, 5, "three octets of A");
+    rejection(service, 10, 0, 10, 64, DNS_RDATA_LENGTH, DNS_RDATA_OK, 9, "an octet after the parameters of SVCB");
+    rejection(strings, 4, 0, 3, 16, DNS_RDATA_LENGTH, DNS_RDATA_OK, 4, "a string that passes the length");
+    why = rejection(options, 8, 0, 8, 41, DNS_RDATA_ADDRESS_FAMILY, DNS_RDATA_ADDRESS_FAMILY, 8, "an unknown family");
+    want(why.number == 3, "the unknown family");
+    rejection(certificate, 4, 0, 4, 37, DNS_RDATA_LENGTH, DNS_RDATA_LENGTH, 0, "a CERT without room for a certificate");
+    rejection(issuer, 9, 0, 7, 257, DNS_RDATA_CAA_TAG, DNS_RDATA_CAA_TAG, 7, "a bad tag at the end of CAA");
+    why = rejection(sync, 9, 0, 6, 62, DNS_RDATA_CSYNC_FLAGS, DNS_RDATA_CSYNC_FLAGS, 6, "an unknown flag at the end of CSYNC");
+    want(why.number == 4, "the unknown flag");
+    rejection(address, 3, 4, 4, 1, DNS_RDATA_MISSING_OCTETS, DNS_RDATA_MISSING_OCTETS, 4, "an offset past the end of the message");
+    why = rejection(address, 3, 1, 2, 255, DNS_RDATA_NEVER, DNS_RDATA_NEVER, 1, "ANY");
+    want(why.number == 255, "the number of ANY");
 }
 
 /* 16,000 options without octets, in time linear in their number. */
@@ -102,7 +131,7 @@ int main(void) {
     uint8_t octets[512];
     size_t count = 0;
     uint16_t type = 0;
-    struct dns_rdata_refusal why = {0, 0, 0};
+    struct dns_rdata_refusal why = {0, 0, 0, 0, 0};
     int32_t order = 7;
     dns_rdata_status status;
 

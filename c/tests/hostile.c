@@ -149,7 +149,7 @@ int main(int argc, char **argv) {
         uint16_t type = below(16) ? types[below(sizeof types / sizeof *types)] : (uint16_t)next();
         parts_by_cursor(message, size, place, length, type);
         any_cursor(message, size);
-        struct dns_rdata_refusal why = {1, 2, 3};
+        struct dns_rdata_refusal why = {1, 2, 3, 4, 5};
         dns_rdata_status status = dns_rdata_check(message, size, place, length, type, &why);
         size_t count = 77, again = 78, need;
         WANT(status != DNS_RDATA_MEMORY);
@@ -222,6 +222,13 @@ int main(int argc, char **argv) {
             release(octets);
         } else {
             char text[4];
+            /* the record's own error, and where reading stopped */
+            WANT(why.cause == status || status == DNS_RDATA_LENGTH);
+            WANT(why.cause == DNS_RDATA_OK || why.cause >= DNS_RDATA_REFUSED);
+            WANT(place > size ? why.offset == place : why.offset >= place && why.offset <= size);
+            if (status == DNS_RDATA_LENGTH && why.cause != DNS_RDATA_LENGTH)
+                WANT(why.read == why.offset - place && why.len == length && why.read != length);
+            if (status != DNS_RDATA_LENGTH && status != DNS_RDATA_NEVER && place <= size) WANT(why.offset == place + length);
             WANT(dns_rdata_display_text(message, size, place, length, type, text, sizeof text, &count) == status && count == 77);
             WANT(dns_rdata_canonical(message, size, place, length, type, (uint8_t *)text, sizeof text, &count) == status && count == 77);
             WANT(dns_rdata_wire(message, size, place, length, type, (uint8_t *)text, sizeof text, &count) == status && count == 77);

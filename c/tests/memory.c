@@ -85,6 +85,8 @@ int main(void) {
             refuse = k;
             memset(out, 0xee, sizeof out);
             dns_rdata_status status = call(n);
+            if (n == 0 && status == DNS_RDATA_MEMORY && (why.cause != DNS_RDATA_MEMORY || why.read || why.len || why.number || why.offset))
+                failed = 1, printf("what the check tells where memory ran out\n");
             int same = status == wanted && count == first_count && memcmp(out, first, count) == 0;
             without += same;
             if ((status != DNS_RDATA_MEMORY && !same) || held != 0) failed = 1, printf("call %d, request %lu: %u, %ld held\n", n, k, status, held);

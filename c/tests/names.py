@@ -1,5 +1,5 @@
 """Compares c/include/dns_rdata.h, rust/src/lib.rs and python/dns_rdata.py with crates/dns_rdata_c/src: the numbers of statuses with
-their names, the fields of a refusal, and each call with the types of what it takes and answers. Status 0 where all are the same."""
+their names, the fields of structs, and each call with the types of what it takes and answers. Status 0 where all are the same."""
 
 import pathlib
 import re
@@ -78,6 +78,16 @@ def header_fields(header, name):
     return [(field, kind) for kind, field in re.findall(r"(\w+) (\w+);", body)]
 
 
+def rust_fields(source, name):
+    body = re.search(rf"^struct {name} \{{(.*?)\n\}}", source, re.S | re.M).group(1)
+    return [(field, {"usize": "size_t", "u32": "uint32_t"}[kind]) for field, kind in re.findall(r"(\w+): (\w+),", body)]
+
+
+def python_fields(source, name):
+    body = re.search(rf"^class {name}\(ctypes\.Structure\):.*?_fields_ = \[(.*?)\]\n", source, re.S | re.M).group(1)
+    return [(field, {"size_t": "size_t", "uint32": "uint32_t"}[kind]) for field, kind in re.findall(r'"(\w+)", ctypes\.c_(\w+)\)', body)]
+
+
 def numbers(text, pattern):
     return {name: int(number) for name, number in re.findall(pattern, text, re.M)}
 
@@ -94,7 +104,10 @@ def main():
     of_rust = numbers(rust, r"^const (\w+): u32 = (\d+);")
     want_same("Rust's status", {name: of_crate.get(name) for name in of_rust}, of_rust)
     for file, of_crate, of_header in [("check.rt", "Refusal", "dns_rdata_refusal"), ("parts_cursor.rt", "PartsCursor", "dns_rdata_parts")]:
-        want_same("the fields of", {of_header: crate_fields(file, of_crate)}, {of_header: header_fields(header, of_header)})
+        fields = {of_header: crate_fields(file, of_crate)}
+        want_same("the fields of", fields, {of_header: header_fields(header, of_header)})
+        want_same("in Rust the fields of", fields, {of_header: rust_fields(rust, "Raw" + of_crate.removesuffix("Cursor"))})
+        want_same("in Python the fields of", fields, {of_header: python_fields(python, of_crate.removesuffix("Cursor"))})
     calls = crate_calls()
     want_same("call", calls, header_calls(header))
     want_same("Rust's call", calls, rust_calls(rust))

@@ -22,6 +22,8 @@ struct RawRefusal {
     read: usize,
     len: usize,
     number: u32,
+    cause: u32,
+    offset: usize,
 }
 
 #[repr(C)]
@@ -240,6 +242,38 @@ impl fmt::Display for Error {
 
 impl std::error::Error for Error {}
 
+/// Why octets are not the RDATA of a record, with the record's own error and the offset where reading stopped.
+///
+/// The number of octets is tested before the record's own error, so damaged RDATA mostly gives [`Error::Length`]. To tell a
+/// user what is wrong with the RDATA, look at the cause and the offset.
+#[derive(Clone, Copy, Debug, PartialEq, Eq, Hash)]
+pub struct Rejection {
+    /// The error that [`Data::check`] returns.
+    pub error: Error,
+    /// The record's own error: the one that would be returned if the number of octets were not tested. `None` if the record has
+    /// no error and takes another number of octets than the length.
+    pub cause: Option<Error>,
+    /// The offset in the message where reading stopped; 0 with [`Error::Memory`].
+    pub offset: usize,
+}
+
+impl fmt::Display for Rejection {
+    fn fmt(&self, f: &mut fmt::Formatter<'_>) -> fmt::Result {
+        match self.cause {
+            Some(cause) if cause != self.error => write!(f, "{}: {cause} at offset {}", self.error, self.offset),
+            _ => write!(f, "{}", self.error),
+        }
+    }
+}
+
+impl std::error::Error for Rejection {}
+
+impl From<Rejection> for Error {
+    fn from(rejection: Rejection) -> Error {
+        rejection.error
+    }
+}
+
 /// The type of a record, by its number.
 #[derive(Clone, Copy, Debug, PartialEq, Eq, PartialOrd, Ord, Hash)]
 pub struct RecordType(pub u16);
@@ -392,12 +426,32 @@ fn filled(
 impl<'a> Data<'a> {
     /// The `length` octets from a place of the message, where they are the data of a record of this type.
     pub fn check(message: &'a [u8], place: usize, length: u16, record_type: RecordType) -> Result<Data<'a>, Error> {
+        Ok(Data::check_with_cause(message, place, length, record_type)?)
+    }
+
+    /// The same, and if they are not, with the record's own error and the offset where reading stopped.
+    ///
+    /// ```
+    /// use dns_rdata::{Data, Error, RecordType};
+    ///
+    /// // MX with a compression pointer forward
+    /// let rejection = Data::check_with_cause(&[0, 10, 0xc0, 4, 0], 0, 4, RecordType::MX).unwrap_err();
+    /// assert_eq!(rejection.error, Error::Length { read: 2, len: 4 });
+    /// assert_eq!((rejection.cause, rejection.offset), (Some(Error::Name), 2));
+    /// ```
+    pub fn check_with_cause(
+        message: &'a [u8], place: usize, length: u16, record_type: RecordType,
+    ) -> Result<Data<'a>, Rejection> {
         let mut why = RawRefusal::default();
         // SAFETY: the message's pointer and length are a slice's, which is borrowed for the call.
         let status = unsafe { dns_rdata_check(message.as_ptr(), message.len(), place, length, record_type.0, &mut why) };
         match status {
             OK => Ok(Data { message, place, length, record_type }),
-            _ => Err(Error::of(status, record_type, &why)),
+            _ => Err(Rejection {
+                error: Error::of(status, record_type, &why),
+                cause: (why.cause != OK).then(|| Error::of(why.cause, record_type, &why)),
+                offset: why.offset,
+            }),
         }
     }
 

@@ -1,4 +1,4 @@
-use dns_rdata::{parse, parse_display_text, Data, Error, Part, RecordType};
+use dns_rdata::{parse, parse_display_text, Data, Error, Part, RecordType, Rejection};
 use std::cmp::Ordering;
 use std::collections::HashSet;
 
@@ -25,6 +25,26 @@ fn data_is_checked() {
     assert_eq!(Data::check(&[10, 0, 0, 1], 0, 4, RecordType(255)).unwrap_err(), Error::Never(RecordType(255)));
     assert!(Data::check(&[], 0, 0, OPT).is_ok());
     assert!(Data::check(&[], 0, 0, RecordType(0)).is_ok());
+}
+
+#[test]
+fn causes_are_told() {
+    let rejection = |octets: &[u8], length, number| Data::check_with_cause(octets, 0, length, RecordType(number)).unwrap_err();
+    let told = |octets: &[u8], length: u16, number, cause, offset| {
+        let error = Error::Length { read: offset, len: usize::from(length) };
+        assert_eq!(rejection(octets, length, number), Rejection { error, cause, offset });
+    };
+    told(&[192, 0, 2], 4, 1, Some(Error::MissingOctets), 3); // the message ends inside the RDATA
+    told(&[0, 10, 0xc0, 4, 0], 4, 15, Some(Error::Name), 2); // a compression pointer forward
+    told(b"\x00\x05issu-ca", 9, 257, Some(Error::CaaTag), 7);
+    told(&[0, 0, 0, 1, 0, 4, 0, 1, 0x40], 9, 62, Some(Error::CsyncFlags(4)), 6);
+    told(&[192, 0, 2, 1, 0], 5, 1, None, 4); // RDATA longer than the record
+    assert_eq!(
+        rejection(&[0, 10, 0xc0, 4, 0], 4, 15).to_string(),
+        "incorrect length of record data: read 2, length 4: invalid domain name at offset 2"
+    );
+    let never = Error::Never(RecordType(255));
+    assert_eq!(rejection(&[1], 1, 255), Rejection { error: never, cause: Some(never), offset: 0 });
 }
 
 #[test]

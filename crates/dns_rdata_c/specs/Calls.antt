@@ -1,5 +1,6 @@
 -- What the calls give.
 use Rattle.std.specs.Prelude.{◌≡◌, ◌⊎◌, ℕ, ◌<◌, ◌≤◌, ℤ, pos, negsuc, Option, Some, None, List, [], length, false}
+use Rattle.std.specs.Prelude.{Result, Ok, Err}
 use Rattle.std.specs.{Ordering.nat_cmp, Cmp.Lexicographic.slice_cmp, declared.cmp.Ordering.Ordering}
 use Rattle.std.specs.declared.cmp.Ordering.TheVariants.{Less, Equal, Greater}
 use Rattle.dns_fields.specs.{Labels.DomainName, Names.IsNameIn, Fields.canonical, Fields.all_emittable}
@@ -12,25 +13,56 @@ use Rattle.dns_types.specs.declared.error.ParseError.TheVariants as parse
 use Rattle.dns_rdata.specs.{declared.record_data.RData.RData, DataWords.IsDataTextAt, DataWords.GivesNoneAt, DataWords.HasNoWords, Texts.data_text, WholeOctets.whole_data}
 use Rattle.dns_rdata.specs.Data.{Fills, NoValue, fields_of, data_octets, IsEmittable}
 use Rattle.dns_rdata_zone.specs.{ZoneGives.GivesValue, ZoneGives.GivesNone, ZoneFaults.ZoneFault, ZoneTexts.zone_text}
-use Rattle.dns_rdata_c.specs.{declared.check.Refusal.Refusal, Reading.IsCause, Reading.HasData, Status.decode_status, Status.parse_status}
+use Rattle.dns_rdata_c.specs.{declared.check.Refusal.Refusal, Reading.IsCauseAt, Reading.HasData}
+use Rattle.dns_rdata_c.specs.Status.{decode_status, parse_status}
 use Rattle.dns_rdata_c.specs.Buffers.{IsPut, IsTooMany, IsTextPut, IsTextTooLong}
 
 -- ---- why octets are refused
 
--- the numbers of a refusal
-abbrev pub numbers_of : DecodeError → Refusal
-numbers_of (decode.IncorrectRDataLengthRead read len) = record { read = read; len = len; number = 0 }
-numbers_of (decode.UnknownRecordTypeValue number) = record { read = 0; len = 0; number = number }
-numbers_of (decode.UnrecognizedCsyncFlags flags) = record { read = 0; len = 0; number = flags }
-numbers_of (decode.UnknownAddressFamily family) = record { read = 0; len = 0; number = family }
-numbers_of e = record { read = 0; len = 0; number = 0 }
+-- the octets that were read, and those that there should have been
+abbrev pub read_in : DecodeError → ℕ
+read_in (decode.IncorrectRDataLengthRead read len) = read
+read_in e = 0
 
--- the status and the numbers are those of the cause by which the data is refused
+abbrev pub len_in : DecodeError → ℕ
+len_in (decode.IncorrectRDataLengthRead read len) = len
+len_in e = 0
+
+-- the status of a record's own result, and the number that its error has: a type, flags or a family
+abbrev pub own_status : Result (Unit {0}) DecodeError → ℕ
+own_status (Ok x) = 0
+own_status (Err e) = decode_status e
+
+abbrev pub own_number : Result (Unit {0}) DecodeError → ℕ
+own_number (Err (decode.UnknownRecordTypeValue number)) = number
+own_number (Err (decode.UnrecognizedCsyncFlags flags)) = flags
+own_number (Err (decode.UnknownAddressFamily family)) = family
+own_number own = 0
+
+-- the offset where reading stopped, which is not told where memory ran out
+abbrev pub stop_in : DecodeError → ℕ → ℕ
+stop_in decode.Memory offset = 0
+stop_in e offset = offset
+
+-- the numbers of an error, of the record's own result, and of the offset where reading stopped
+abbrev pub numbers_of : DecodeError → Result (Unit {0}) DecodeError → ℕ → Refusal
+numbers_of e own offset = record {
+  read = read_in e;
+  len = len_in e;
+  number = own_number own;
+  cause = own_status own;
+  offset = stop_in e offset;
+}
+
+-- The status and the numbers are those of the error by which the octets are rejected, of the record's own result, and of
+-- the offset where reading stopped.
 pub record IsWhy (m : List ℕ) (p n : ℕ) (t : RecordType) (status : ℕ) (why : Refusal) : Type 0 where
   pub error : DecodeError
+  pub own : Result (Unit {0}) DecodeError
+  pub offset : ℕ
   pub told : status ≡ decode_status error
-  pub numbers : why ≡ numbers_of error
-  pub cause : IsCause m p n t error
+  pub numbers : why ≡ numbers_of error own offset
+  pub cause : IsCauseAt m p n t error own offset
 
 -- ---- texts
 

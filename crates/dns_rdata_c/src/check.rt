@@ -1,13 +1,15 @@
-//! Whether octets are record data, and why they are not.
+//! Whether octets are RDATA of a type, and why they are not.
 
-ghost use Rattle.std.specs.Prelude.{◌≡◌, ◌≢◌, ◌≤◌, ◌⊎◌};
+ghost use Rattle.std.specs.Prelude.{◌≡◌, ◌≢◌, ◌≤◌, ◌⊎◌, IfErr, OnOk};
 ghost use Rattle.dns_types.specs.RecordTypes.{record_type_of};
-ghost use Rattle.dns_rdata.specs.Data.{NoValue};
-ghost use Rattle.dns_rdata_c.specs.{Reading.HasData, Calls.IsWhy, Calls.numbers_of};
+ghost use Rattle.dns_names_wire.specs.Words.{UnlessMemory};
+ghost use Rattle.dns_rdata.specs.Data.{HasValue, NoValue};
+ghost use Rattle.dns_rdata_c.specs.{Reading.HasData, Reading.IsCauseAt, Calls.IsWhy, Calls.numbers_of};
+ghost use Rattle.dns_rdata_c.specs.Calls.{own_number, own_status};
 
-use crate::reading::decode_at;
 use crate::status::{MEMORY, OK, REFUSED, status_of};
-use dns_rdata::{DecodeError, RecordType};
+use dns_rdata::{BinDecoder, DecodeError, RData, RecordType, Restrict};
+use dns_rdata_base::counted::by_length;
 use std::alloc::Global;
 
 /// The numbers of a refusal. Those that a status has nothing to say of are 0.
@@ -18,37 +20,97 @@ pub struct Refusal {
     pub read: usize,
     /// Octets that there should have been, of `LENGTH`.
     pub len: usize,
-    /// The number of the type of `NEVER`, the flags of `CSYNC_FLAGS`, the family of `ADDRESS_FAMILY`.
+    /// The number of the type of `NEVER`, the flags of `CSYNC_FLAGS`, the family of `ADDRESS_FAMILY`, by the cause.
     pub number: u32,
+    /// The status of the record's own error, which is returned if the record takes exactly `length` octets; `OK` if it
+    /// has none.
+    pub cause: u32,
+    /// The offset in the message where reading stopped.
+    pub offset: usize,
+}
+
+// Why octets are rejected: the error, the result of the record by itself, and the offset where reading stopped.
+#[derive(Clone, Copy)]
+struct Cause {
+    error: DecodeError,
+    own: Result<(), DecodeError>,
+    offset: usize,
 }
 
 // The numbers of a refusal.
-fn numbers(error: DecodeError) -> Refusal
-    ensures { result ≡ numbers_of error }
+fn numbers(cause: &Cause) -> Refusal
+    ensures { result ≡ numbers_of cause.now.error cause.now.own cause.now.offset }
 {
-    match error {
-        DecodeError::IncorrectRDataLengthRead { read, len } => Refusal {
-            read,
-            len,
-            number: 0,
-        },
-        DecodeError::UnknownRecordTypeValue(number)
-        | DecodeError::UnrecognizedCsyncFlags(number)
-        | DecodeError::UnknownAddressFamily(number) => Refusal {
-            read: 0,
-            len: 0,
-            number: u32::from(number),
-        },
-        _ => Refusal {
-            read: 0,
-            len: 0,
-            number: 0,
-        },
+    let number = number_in(cause.own);
+    let (read, len, offset) = match cause.error {
+        DecodeError::Memory => (0, 0, 0),
+        DecodeError::IncorrectRDataLengthRead { read, len } => (read, len, cause.offset),
+        _ => (0, 0, cause.offset),
+    };
+    Refusal {
+        read,
+        len,
+        number,
+        cause: status_in(cause.own),
+        offset,
     }
 }
 
-/// Tells whether the `length` octets from a place of the message are the data of a record of the type of this number, and, where
-/// they are not, the first reason with its numbers.
+// The number that the record's own error has.
+fn number_in(own: Result<(), DecodeError>) -> u32
+    ensures { result ≡ own_number own }
+{
+    match own {
+        Err(
+            DecodeError::UnknownRecordTypeValue(number)
+            | DecodeError::UnrecognizedCsyncFlags(number)
+            | DecodeError::UnknownAddressFamily(number),
+        ) => u32::from(number),
+        _ => 0,
+    }
+}
+
+// The status of the record's own result.
+fn status_in(own: Result<(), DecodeError>) -> u32
+    ensures { result ≡ own_status own }
+{
+    match own {
+        Ok(()) => OK,
+        Err(error) => status_of(error),
+    }
+}
+
+// Reads the octets as RDATA of the type and keeps no value.
+fn check_at(
+    alloc: Global,
+    message: &[u8],
+    place: usize,
+    length: u16,
+    record_type: RecordType,
+) -> Result<(), Cause>
+    ensures found { OnOk result (HasValue message.now place length record_type) }
+    ensures refused { IfErr result (λ c. UnlessMemory c.error (NoValue message.now place length record_type)) }
+    ensures cause { IfErr result (λ c. IsCauseAt message.now place length record_type c.error c.own c.offset) }
+{
+    let Ok(mut decoder) = BinDecoder::at(alloc, message, place) else {
+        let error = DecodeError::InsufficientBytes;
+        return Err(Cause {
+            error,
+            own: Err(error),
+            offset: place,
+        });
+    };
+    let length = Restrict::new(length);
+    let own = RData::own_result(&mut decoder, record_type, length);
+    let offset = decoder.index();
+    match by_length(own, &decoder, place, length) {
+        Ok(()) => Ok(()),
+        Err(error) => Err(Cause { error, own, offset }),
+    }
+}
+
+/// Tells whether the `length` octets from an offset of the message are RDATA of a record of the type of this number, and,
+/// if they are not, the first reason with its numbers, the record's own error, and the offset where reading stopped.
 #[unsafe(no_mangle)]
 pub extern "C" fn dns_rdata_check(
     alloc: Global,
@@ -66,11 +128,11 @@ pub extern "C" fn dns_rdata_check(
     ensures status { (result ≡ OK) ⊎ (result ≡ MEMORY) ⊎ (REFUSED ≤ result) }
     ensures untold { result ≡ OK → why.new ≡ why.old }
 {
-    match decode_at(alloc, message, place, length, RecordType::from(type_number)) {
-        Ok(_) => return OK,
-        Err(error) => {
-            *why = numbers(error);
-            return status_of(error);
+    match check_at(alloc, message, place, length, RecordType::from(type_number)) {
+        Ok(()) => return OK,
+        Err(cause) => {
+            *why = numbers(&cause);
+            return status_of(cause.error);
         }
     }
 }
