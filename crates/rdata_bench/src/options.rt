@@ -21,13 +21,18 @@ enum Body {
 }
 
 impl Body {
-    // The most octets of RDATA that an option of this kind takes.
-    fn width(self) -> usize {
+    // How many octets the option has after its code and length.
+    fn length(self) -> usize {
         match self {
-            Body::Empty => 4,
-            Body::Subnet(address) => 8 + address as usize,
-            Body::Alike(same) => same.min(65535) + 6,
+            Body::Empty => 0,
+            Body::Subnet(address) => 4 + address as usize,
+            Body::Alike(same) => same.min(65535) + 2,
         }
+    }
+
+    // How many octets of RDATA the option takes.
+    fn width(self) -> usize {
+        self.length().saturating_add(4)
     }
 
     // Appends an option's octets with this number. An option that is made to be the last has a code of its own.
@@ -39,8 +44,8 @@ impl Body {
             Body::Alike(_) => 20,
         };
         octets.extend_from_slice(&code.to_be_bytes())?;
-        let length = self.width() - 4;
-        octets.extend_from_slice(&(length.min(65535) as u16).to_be_bytes())?;
+        let length = self.length().min(65535) as u16;
+        octets.extend_from_slice(&length.to_be_bytes())?;
         let [high, low] = number.to_be_bytes();
         match self {
             Body::Empty => {}
@@ -204,9 +209,9 @@ pub fn measure_options(rt: &(impl Clock + AllocGlobal + Print), count: u16) -> R
     Ok(())
 }
 
-/// Prints the same for options in no order: client subnets of 24, 10 and 8 octets, options of one code with one octet more
-/// than these have in common, options that are alike in their first 60 octets, and options without octets; each in several
-/// numbers, the last as many as fit.
+/// Prints the same for options in no order: client subnets of 24, 10 and 8 octets, options of one code that are alike in their
+/// first 60 octets, options of one code that hold two octets, and options without octets. Each kind comes in several numbers,
+/// the last of which is as many as fit.
 pub fn measure_mixed(rt: &(impl Clock + AllocGlobal + Print)) -> Result<()> {
     print_head(rt)?;
     let shapes = [
@@ -218,7 +223,7 @@ pub fn measure_mixed(rt: &(impl Clock + AllocGlobal + Print)) -> Result<()> {
         ("empty", Body::Empty),
     ];
     for (name, body) in shapes {
-        let most = 65535 / body.width();
+        let most = 65535 / body.width().max(1);
         for count in [24, 95, 120, 170, 512, 1023, 2048, most] {
             if count <= most {
                 measure(rt, name, "mixed", body, count as u16)?;
