@@ -1,5 +1,4 @@
 //! Copies records into another message, with names compressed there, after the two octets of its length for TCP.
-#![tactic(auto)]
 
 use anyhow::Result;
 use dns_rdata::{BinEncodable, BinEncoder, Name, ProtoResult, RData, RecordType};
@@ -33,7 +32,8 @@ fn emit_answers(alloc: Global, encoder: &mut BinEncoder<'_>) -> Result<()> {
     Ok(())
 }
 
-fn main(rt: HostRuntime) -> Result<()> {
+/// The program.
+pub fn main(rt: &(impl AllocGlobal + Print)) -> Result<()> {
     let mut octets = Vec::new(rt.alloc());
     octets.extend_from_slice(&[0, 0])?;
     // The message begins where the vector ends, so pointers count from its first octet.

@@ -1,5 +1,4 @@
 //! Builds an HTTPS record (RFC 9460), and prints it as in a zone file.
-#![tactic(auto)]
 
 use anyhow::Result;
 use dns_rdata::a::A;
@@ -20,7 +19,8 @@ fn service(alloc: Global) -> Result<SVCB> {
     Ok(service)
 }
 
-fn main(rt: HostRuntime) -> Result<()> {
+/// The program.
+pub fn main(rt: &(impl AllocGlobal + Print)) -> Result<()> {
     let data = RData::from(HTTPS(service(rt.alloc())?));
     println!(rt; "{}", ZoneText::new(&data))?;
     Ok(())

@@ -1,5 +1,4 @@
 //! Prints the name that each of some records points to, and whether it is in a zone.
-#![tactic(auto)]
 
 use anyhow::Result;
 use dns_rdata::{Name, RData, RecordType};
@@ -23,11 +22,12 @@ fn print_target(rt: &impl Print, zone: &Name, data: &RData) -> Result<()> {
     Ok(())
 }
 
-fn main(rt: HostRuntime) -> Result<()> {
+/// The program.
+pub fn main(rt: &(impl AllocGlobal + Print)) -> Result<()> {
     let zone = Name::from_ascii(rt.alloc(), "Example.COM.")?;
     for (record_type, text) in RECORDS.iter() {
         let data = from_zone_text(rt.alloc(), *record_type, text.as_bytes(), Some(&zone))?;
-        print_target(&rt, &zone, &data)?;
+        print_target(rt, &zone, &data)?;
     }
     Ok(())
 }

@@ -1,5 +1,4 @@
 //! Reads lines of a zone file, prints each as it is written there, and says what is wrong with a line that is not read.
-#![tactic(auto)]
 
 use anyhow::{Result, bail};
 use dns_rdata::{Name, ParseError, RecordType};
@@ -38,10 +37,11 @@ fn read_line(
     Ok(())
 }
 
-fn main(rt: HostRuntime) -> Result<()> {
+/// The program.
+pub fn main(rt: &(impl AllocGlobal + Print)) -> Result<()> {
     let origin = Name::from_ascii(rt.alloc(), "example.com.")?;
     for (record_type, text) in LINES.iter() {
-        read_line(&rt, *record_type, *text, &origin)?;
+        read_line(rt, *record_type, *text, &origin)?;
     }
     Ok(())
 }

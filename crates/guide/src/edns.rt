@@ -1,5 +1,4 @@
 //! Reads the options of an OPT record (RFC 6891), changes them, and writes them again.
-#![tactic(auto)]
 
 use anyhow::Result;
 use dns_rdata::opt::{ClientSubnet, EdnsCode, EdnsOption, OPT};
@@ -31,10 +30,11 @@ fn emitted(alloc: Global, options: &OPT) -> Result<Vec<u8>> {
     Ok(octets)
 }
 
-fn main(rt: HostRuntime) -> Result<()> {
+/// The program.
+pub fn main(rt: &(impl AllocGlobal + Print)) -> Result<()> {
     let mut decoder = BinDecoder::new(rt.alloc(), &RDATA);
     let mut options = OPT::read_data(&mut decoder, Restrict::new(23))?;
-    print_options(&rt, &options)?;
+    print_options(rt, &options)?;
 
     // What a resolver sends on: a longer subnet in place of the client's, and no cookie.
     let subnet = ClientSubnet::new(IpAddr::V4(Ipv4Addr::new(198, 51, 100, 7)), 32, 0);

@@ -1,5 +1,4 @@
 //! Sorts a record set, drops records that occur twice, and hashes what is left.
-#![tactic(auto)]
 
 use anyhow::Result;
 use dns_rdata::{RData, RecordType};
@@ -30,7 +29,8 @@ fn hash_of(data: &RData) -> u64 {
     state.finish()
 }
 
-fn main(rt: HostRuntime) -> Result<()> {
+/// The program.
+pub fn main(rt: &(impl AllocGlobal + Print)) -> Result<()> {
     let mut records = read_all(rt.alloc())?;
     if let [_, lower, upper, ..] = records.as_slice() {
         println!(rt; "{}", hash_of(lower) == hash_of(upper))?;

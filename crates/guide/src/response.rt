@@ -1,5 +1,4 @@
 //! Prints every record of a DNS response, and goes on after a record whose RDATA is damaged.
-#![tactic(auto)]
 
 use anyhow::{Result, bail};
 use dns_rdata::{BinDecodable, BinDecoder, DecodeError, Name, RData, RecordType, Restrict};
@@ -57,11 +56,12 @@ fn print_record(rt: &(impl AllocGlobal + Print), decoder: &mut BinDecoder<'_>) -
     Ok(next)
 }
 
-fn main(rt: HostRuntime) -> Result<()> {
+/// The program.
+pub fn main(rt: &(impl AllocGlobal + Print)) -> Result<()> {
     let mut decoder = BinDecoder::new(rt.alloc(), &RESPONSE);
     let records = skip_questions(&mut decoder)?;
     for _ in 0..records {
-        let next = print_record(&rt, &mut decoder)?;
+        let next = print_record(rt, &mut decoder)?;
         decoder = decoder.clone(next)?;
     }
     Ok(())
