@@ -41,7 +41,9 @@ pub fn main(rt: &(impl AllocGlobal + Print)) -> Result<()> {
     emit_answers(rt.alloc(), &mut encoder)?;
     let length = encoder.len();
     encoder.into_bytes();
-    octets[..2].copy_from_slice(&(length as u16).to_be_bytes());
+    if octets.len() >= 2 {
+        octets[..2].copy_from_slice(&(length as u16).to_be_bytes());
+    }
     println!(rt; "{}", hex::encode(rt.alloc(), octets.as_slice())?)?;
     Ok(())
 }

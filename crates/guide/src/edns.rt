@@ -16,7 +16,7 @@ fn print_options(rt: &impl Print, options: &OPT) -> Result<()> {
             EdnsOption::Subnet(subnet) => {
                 println!(rt; "subnet {}/{}", subnet.addr(), subnet.source_prefix())?
             }
-            other => println!(rt; "{code:?} of {} octets", other.len())?,
+            _ => println!(rt; "{code:?}")?,
         }
     }
     Ok(())
@@ -41,6 +41,7 @@ pub fn main(rt: &(impl AllocGlobal + Print)) -> Result<()> {
     options.replace(EdnsOption::Subnet(subnet))?;
     options.remove(EdnsCode::Cookie);
     println!(rt; "cookie: {}", options.contains(EdnsCode::Cookie))?;
+    println!(rt; "{options}")?;
     let octets = emitted(rt.alloc(), &options)?;
     println!(rt; "{}", hex::encode(rt.alloc(), octets.as_slice())?)?;
     Ok(())
