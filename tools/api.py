@@ -9,7 +9,8 @@ alone; otherwise `may`.
 """
 import pathlib
 import re
-import sys
+
+from made import write_or_check
 
 TOP = pathlib.Path(__file__).resolve().parent.parent
 PAGE = TOP / "docs/API.md"
@@ -162,15 +163,4 @@ def page():
     return re.sub(r"\n{3,}", "\n\n", "\n".join(out)).rstrip() + "\n"
 
 
-def main():
-    made = page()
-    if "--check" not in sys.argv:
-        PAGE.write_text(made, encoding="utf-8")
-        return
-    same = PAGE.exists() and PAGE.read_text(encoding="utf-8") == made
-    if not same:
-        print("docs/API.md is not what tools/api.py writes")
-    print(f"{int(same)} as wanted, {int(not same)} not")
-
-
-main()
+write_or_check(PAGE, page())

@@ -10,7 +10,8 @@ than ten end at ten.
 import collections
 import math
 import pathlib
-import sys
+
+from made import write_or_check
 
 TOP = pathlib.Path(__file__).resolve().parent.parent
 CELLS, PICTURE = TOP / "docs/speed.tsv", TOP / "docs/speed.svg"
@@ -69,15 +70,4 @@ def picture():
     return "\n".join([*head, *out, "</svg>"]) + "\n"
 
 
-def main():
-    made = picture()
-    if "--check" not in sys.argv:
-        PICTURE.write_text(made, encoding="utf-8")
-        return
-    same = PICTURE.exists() and PICTURE.read_text(encoding="utf-8") == made
-    if not same:
-        print("docs/speed.svg is not what tools/speed_picture.py draws")
-    print(f"{int(same)} as wanted, {int(not same)} not")
-
-
-main()
+write_or_check(PICTURE, picture())

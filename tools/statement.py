@@ -11,7 +11,8 @@ It follows the imports of the files in crates/*/specs. Blank lines, comments and
 import collections
 import pathlib
 import re
-import sys
+
+from made import write_or_check
 
 TOP = pathlib.Path(__file__).resolve().parent.parent
 PAGE = TOP / "docs/STATEMENT.md"
@@ -195,15 +196,4 @@ def page():
     return "\n".join(head + out).rstrip() + "\n"
 
 
-def main():
-    made = page()
-    if "--check" not in sys.argv:
-        PAGE.write_text(made, encoding="utf-8")
-        return
-    same = PAGE.exists() and PAGE.read_text(encoding="utf-8") == made
-    if not same:
-        print("docs/STATEMENT.md is not what tools/statement.py writes")
-    print(f"{int(same)} as wanted, {int(not same)} not")
-
-
-main()
+write_or_check(PAGE, page())
