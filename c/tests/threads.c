@@ -1,4 +1,7 @@
-/* Four threads on small stacks make every call side by side, and each finds as much data as it would alone. */
+/*
+ * Four threads on small stacks make every call side by side, and each finds as much data as it would alone. RDATA of thousands of
+ * options in no order needs no more stack.
+ */
 #include "dns_rdata.h"
 
 #include <pthread.h>
@@ -12,6 +15,7 @@ static const uint16_t types[] = {1, 5, 6, 13, 15, 16, 28, 33, 35, 37, 41, 62, 64
 struct work {
     uint64_t seed;
     unsigned long good;
+    uint8_t out[65536];
 };
 
 /* Makes each call on the data, and counts those that are as wanted. */
@@ -38,9 +42,32 @@ static unsigned long calls(const uint8_t *message, uint16_t length, uint16_t typ
     return good;
 }
 
+/* RDATA of OPT: so many options without octets in no order, and the same options from the last one on. */
+enum { FEW = 2048, MOST = 16383, OPT = 41 };
+static uint8_t few[2][FEW * 4], most[2][MOST * 4];
+
+static void fill(uint8_t *octets, unsigned count, int turned) {
+    for (unsigned i = 0; i < count; i++) {
+        unsigned code = (turned ? count - 1 - i : i) * 5003 % 16384 + 100;
+        octets[4 * i] = (uint8_t)(code >> 8);
+        octets[4 * i + 1] = (uint8_t)code;
+    }
+}
+
+/* Compares both and makes the canonical octets of the first, into a buffer of the caller's. */
+static unsigned long many(const uint8_t *one, const uint8_t *other, uint16_t length, uint8_t *out) {
+    size_t count = 0;
+    int32_t order = 5, equal = 5;
+    unsigned long good = dns_rdata_compare(one, length, 0, length, other, length, 0, length, OPT, &order) == DNS_RDATA_OK && order == 0;
+    good += dns_rdata_equal(one, length, 0, length, other, length, 0, length, OPT, &equal) == DNS_RDATA_OK && equal == 1;
+    good += dns_rdata_canonical(one, length, 0, length, OPT, out, length, &count) == DNS_RDATA_OK && count == length;
+    return good;
+}
+
 static void *run(void *given) {
     struct work *work = (struct work *)given;
     uint8_t message[SIZE];
+    work->good += many(few[0], few[1], sizeof few[0], work->out) + many(most[0], most[1], sizeof most[0], work->out);
     for (int round = 0; round < ROUNDS; round++) {
         for (int i = 0; i < SIZE; i++) {
             work->seed = work->seed * 6364136223846793005u + 1442695040888963407u;
@@ -54,9 +81,13 @@ static void *run(void *given) {
 }
 
 int main(void) {
-    struct work works[THREADS], alone[THREADS];
+    static struct work works[THREADS], alone[THREADS];
     pthread_t threads[THREADS];
     pthread_attr_t attributes;
+    for (int turned = 0; turned < 2; turned++) {
+        fill(few[turned], FEW, turned);
+        fill(most[turned], MOST, turned);
+    }
     pthread_attr_init(&attributes);
     if (pthread_attr_setstacksize(&attributes, STACK) != 0)
         return 2;
