@@ -19,6 +19,8 @@ from damaged import stored_rows
 from zone_texts import CRATE, ORIGIN, stored_texts
 
 MEMORY = (b"memory\n", 3)
+# What `rdata` prints of data that it rejects; the reason goes to standard error.
+REFUSED = b"refused\n"
 # `zone_text` gives no answer.
 NOTHING = (b"", 1)
 # How many runs of one command and type have each of their requests refused alone.
@@ -26,11 +28,16 @@ ALONE = 40
 
 
 def answer(run, **environment):
-    """What a run, a program's words and its standard input, prints, and its status, with these variables."""
+    """What a run, a program's words and its standard input, prints, and its status, with these variables.
+
+    `rdata` writes a reason to standard error if it prints `refused`, and nothing otherwise: else that is added to what it prints.
+    """
     words, line = run
-    errors = subprocess.STDOUT if line is None else subprocess.DEVNULL
+    errors = subprocess.PIPE if line is None else subprocess.DEVNULL
     source = {"stdin": subprocess.DEVNULL} if line is None else {"input": line}
     done = subprocess.run(words, stdout=subprocess.PIPE, stderr=errors, env=environment, close_fds=False, **source)
+    if line is None and bool(done.stderr) != (done.stdout == REFUSED):
+        return done.stdout + b"standard error: " + done.stderr, done.returncode
     return done.stdout, done.returncode
 
 
