@@ -9,10 +9,10 @@ use arrayvec::ArrayVec;
 use std::alloc::{AllocError, Global};
 use std::marker::Model;
 
-/// The most octets that a name has before the 0 at its end (RFC 1035, 3.1).
+/// The most octets that a name has before its last one, the 0 of the root (RFC 1035, section 3.1).
 pub(crate) const MAX_OCTETS: usize = 254;
 
-/// At most as many octets as a name has.
+/// A buffer for the octets of one name.
 #[derive(Drop)]
 pub(crate) struct NameBuffer {
     octets: ArrayVec<u8, MAX_OCTETS>,
@@ -27,7 +27,7 @@ impl Model for NameBuffer {
 }
 
 impl NameBuffer {
-    /// Without an octet.
+    /// Makes an empty buffer.
     pub(crate) fn new() -> Self
         ensures { result ≡ [] }
     {
@@ -36,7 +36,7 @@ impl NameBuffer {
         }
     }
 
-    /// How many octets there are.
+    /// Returns how many octets there are.
     pub(crate) fn len(&self) -> usize
         ensures value { result ≡ length self.now }
         ensures room { length self.now ≤ 254 }
@@ -44,7 +44,7 @@ impl NameBuffer {
         self.octets.len()
     }
 
-    /// Adds octets at the end.
+    /// Appends octets.
     pub(crate) fn extend(&mut self, part: &[u8])
         requires { length self.old + length part.now ≤ 254 }
         ensures { self.new ≡ self.old ++ part.now }
@@ -52,8 +52,8 @@ impl NameBuffer {
         let _ = self.octets.try_extend_from_slice(part);
     }
 
-    /// Adds octets at the end, and answers whether each stands for itself in a label's text; where one does not, what
-    /// there is afterwards is of no use.
+    /// Appends octets, and returns whether each is written as it is in a label's text. If one is not, the buffer holds
+    /// nothing of use afterwards.
     pub(crate) fn extend_plain(&mut self, part: &[u8]) -> bool
         requires { length self.old + length part.now ≤ 254 }
         ensures added { OnTrue result (self.new ≡ self.old ++ part.now) }
@@ -68,7 +68,7 @@ impl NameBuffer {
         true
     }
 
-    /// Adds an octet at the end.
+    /// Appends an octet.
     pub(crate) fn push(&mut self, octet: u8)
         requires { length self.old < 254 }
         ensures { self.new ≡ self.old ++ octet ∷ [] }
@@ -76,7 +76,7 @@ impl NameBuffer {
         self.octets.push(octet);
     }
 
-    /// Writes the octet at a place.
+    /// Sets the octet at an index.
     pub(crate) fn set(&mut self, place: usize, octet: u8)
         requires { place < length self.old }
         ensures { self.new ≡ slice_set self.old place octet }
@@ -84,14 +84,14 @@ impl NameBuffer {
         self.octets.as_mut_slice()[place] = octet;
     }
 
-    /// The octets in a vector of just their size.
+    /// Copies the octets to a vector without spare capacity.
     pub(crate) fn to_vec(&self, alloc: Global) -> Result<Vec<u8>, AllocError>
         ensures { IfOk result (λ v. v.items ≡ self.now) }
     {
         Vec::from_slice(alloc, self.as_slice())
     }
 
-    /// The octets, lent.
+    /// The octets.
     pub(crate) fn as_slice(&self) -> &[u8]
         ensures { result.now ≡ self.now }
     {

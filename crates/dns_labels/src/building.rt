@@ -7,10 +7,10 @@ ghost use Rattle.dns_labels.specs.Labels.{labels_of, AreNameOctets};
 use crate::buffer::MAX_OCTETS;
 use crate::error::NameError;
 
-/// Puts a label behind a name's labels.
+/// Appends a label to a name's labels.
 ///
-/// The error is [`Invalid`](NameError::Invalid) where the label has no octet or more than 63, or where there would be
-/// more than 255 octets with the 0 at the end. After an error the octets are as before.
+/// Returns [`Invalid`](NameError::Invalid) if the label has no octets or more than 63, or if the name would have more
+/// than 255 octets with the 0 at its end. After an error the octets are unchanged.
 #[tactic(auto, using(crate::proofs::Built::label_joined, crate::proofs::Built::label_fits))]
 pub fn append_label(octets: &mut Vec<u8>, label: &[u8]) -> Result<(), NameError>
     requires { AreNameOctets octets.old.items }
@@ -30,10 +30,10 @@ pub fn append_label(octets: &mut Vec<u8>, label: &[u8]) -> Result<(), NameError>
     Ok(())
 }
 
-/// Puts a name's labels behind another name's.
+/// Appends a name's labels to another name's.
 ///
-/// The error is [`Invalid`](NameError::Invalid) where there would be more than 255 octets with the 0 at the end. After
-/// an error the octets are as before.
+/// Returns [`Invalid`](NameError::Invalid) if there would be more than 255 octets with the 0 at the end. After an error
+/// the octets are unchanged.
 #[tactic(auto, using(crate::proofs::Built::octets_joined, crate::proofs::Built::octets_fit))]
 pub fn append_octets(octets: &mut Vec<u8>, other: &[u8]) -> Result<(), NameError>
     requires octets { AreNameOctets octets.old.items }

@@ -7,9 +7,9 @@ ghost use Rattle.dns_labels.specs.Comparing.{lowered_octets};
 use std::cmp::Ordering;
 use std::hash::Hasher;
 
-/// The first difference decides, with A to Z lowered, and a beginning is less.
+/// Compares octets by the first that differs once A to Z are lowercased; a proper prefix is less.
 ///
-/// A length octet is less than `A`, so this orders names' octets as their canonical octets.
+/// A length octet is less than `A`, so this orders the octets of names as their canonical octets.
 #[tactic(auto, using(crate::proofs::ComparingSteps::ended, crate::proofs::ComparingSteps::past_shorter))]
 pub fn compare_lowered(a: &[u8], b: &[u8]) -> Ordering
     ensures { result ≡ slice_cmp nat_cmp (map to_ascii_lowercase a.now) (map to_ascii_lowercase b.now) }
@@ -25,7 +25,7 @@ pub fn compare_lowered(a: &[u8], b: &[u8]) -> Ordering
     a.len().cmp(&b.len())
 }
 
-/// Whether the octets are the same with A to Z lowered.
+/// Returns whether the octets are the same once A to Z are lowercased.
 #[inline]
 pub fn equal_lowered(a: &[u8], b: &[u8]) -> bool
     ensures { IsTrue result ↔ (map to_ascii_lowercase a.now ≡ map to_ascii_lowercase b.now) }
@@ -33,7 +33,7 @@ pub fn equal_lowered(a: &[u8], b: &[u8]) -> bool
     a.eq_ignore_ascii_case(b)
 }
 
-/// Feeds a name's canonical octets at once: its octets with A to Z lowered, and the 0 at the end.
+/// Feeds a name's canonical octets at once: its octets with A to Z lowercased, and the 0 at the end.
 pub fn hash_lowered<H: Hasher>(octets: &[u8], state: &mut H)
     requires { length octets.now ≤ 254 }
     ensures { state.new ≡ H.write state.old (lowered_octets octets.now) }

@@ -5,13 +5,13 @@ ghost use Rattle.std.specs.Prelude.{◌≡◌};
 use std::alloc::{AllocError, AllocFailed};
 use thiserror::Error;
 
-/// Why no name was read.
+/// Why octets or a text are not a name.
 #[derive(Clone, Copy, Debug, PartialEq, Eq, Error)]
 pub enum NameError {
     /// A request for memory was refused.
     #[error("out of memory")]
     Memory,
-    /// The octets or the text are no name.
+    /// The octets or the text are not a name.
     #[error("invalid domain name")]
     Invalid,
 }
@@ -36,13 +36,13 @@ impl<T: Drop> From<AllocFailed<T>> for NameError {
     }
 }
 
-/// Why no name was read from its text.
+/// Why a text is not a name.
 #[derive(Clone, Copy, Debug, PartialEq, Eq, Error)]
 pub enum NameTextError {
     /// A request for memory was refused.
     #[error("out of memory")]
     Memory,
-    /// The text is none of a name; this one says why.
+    /// The text is not a name; this says why.
     #[error("{0}")]
     Invalid(&'static str),
 }
@@ -57,13 +57,13 @@ impl From<AllocError> for NameTextError {
     }
 }
 
-/// Why no name was written.
+/// Why a name was not written.
 #[derive(Clone, Copy, Debug, PartialEq, Eq, Error)]
 pub enum WriteError {
     /// A request for memory was refused.
     #[error("out of memory")]
     Memory,
-    /// There are fewer octets free than the name needs.
+    /// The name needs more octets than are left.
     #[error("maximum buffer size exceeded")]
     Buffer,
 }

@@ -45,14 +45,14 @@ const FACTOR: u64 = 0x9e37_79b9_7f4a_7c15;
 
 /// The hash of a name's octets.
 ///
-/// It is a sum of them: eight at a time from the name's end as a number, and the up to seven that are left in front as one
-/// more, each by the weight of its distance from the end. So the hash of a tail is that of the name without a part that
-/// the octets in front of it decide, and no product waits for another.
+/// It is a sum of numbers, each of eight octets counted from the name's end and times a weight of its distance from
+/// there; up to seven octets at the front are one more. So the hash of a suffix is that of the name minus a part that
+/// only the octets before it decide, and no product waits for another.
 pub(crate) fn name_hash(name: &[u8]) -> u64 {
     eights_hash(name, 0, name.len() / 8).wrapping_add(front_hash(name, 0))
 }
 
-/// By how much the hash of the octets from the first place on is greater than of those from the second.
+/// Returns by how much the hash of the octets from the first offset on is greater than that from the second.
 #[inline]
 pub(crate) fn label_hash(name: &[u8], start: usize, end: usize) -> u64
     requires order { start ≤ end }
@@ -64,7 +64,7 @@ pub(crate) fn label_hash(name: &[u8], start: usize, end: usize) -> u64
         .wrapping_sub(front_hash(name, end))
 }
 
-/// The part of a hash that whole eights have, counted from the name's end.
+/// The part of a hash that whole groups of eight have, counted from the name's end.
 #[inline]
 fn eights_hash(name: &[u8], first: usize, last: usize) -> u64
     requires { last ≤ length name.now / 8 }
@@ -78,7 +78,7 @@ fn eights_hash(name: &[u8], first: usize, last: usize) -> u64
     hash
 }
 
-/// The part of a hash that the octets from a place on have which are no whole eight.
+/// The part of a hash that the octets from an offset on have which are no whole group of eight.
 #[inline]
 fn front_hash(name: &[u8], at: usize) -> u64
     requires { at ≤ length name.now }
@@ -90,7 +90,7 @@ fn front_hash(name: &[u8], at: usize) -> u64
     WEIGHTS[len / 8 % 32].wrapping_mul(word_at(name, at, len % 8))
 }
 
-/// Up to eight octets from a place on as a number, the first one lowest.
+/// Up to eight octets from an offset on as a number, the first one lowest.
 #[inline]
 fn word_at(name: &[u8], at: usize, count: usize) -> u64
     requires count { (0 < count) × (count ≤ 8) }

@@ -24,7 +24,7 @@ impl<'a> Model for LabelIter<'a> {
 }
 
 impl<'a> LabelIter<'a> {
-    /// The labels of a name's octets.
+    /// Iterates over the labels of a name's octets.
     #[tactic(auto, using(crate::proofs::Octets::count_labels))]
     pub fn new(octets: &'a [u8]) -> Self
         requires { AreNameOctets octets.now }
@@ -53,7 +53,7 @@ impl<'a> Iterator for LabelIter<'a> {
     }
 }
 
-/// How many labels a name's octets are.
+/// Returns how many labels a name's octets are.
 pub fn count_labels(octets: &[u8]) -> usize
     requires { AreNameOctets octets.now }
     ensures { result ≡ length (labels_of octets.now) }

@@ -6,7 +6,7 @@ ghost use Rattle.dns_fields.specs.{declared.RDataEncoding.RDataEncoding, Names.I
 ghost use Rattle.dns_fields.specs.Labels.{DomainName, full_name, IsName, lowname};
 ghost use Rattle.dns_labels.specs.Text.{IsNameText, HasOctets, name_text};
 
-/// Names that stand in messages, that were written, and that are compared.
+/// What holds of names in messages, of written names, and of their order.
 #[tactic(auto, using(crate::proofs::Wrote::name_laws))]
 pub fn names_hold()
     // from one place stands at most one name, and it has one end
@@ -26,7 +26,7 @@ pub fn names_hold()
         ↔ (map (map to_ascii_lowercase) x.labels ≡ map (map to_ascii_lowercase) y.labels) }
 {}
 
-/// A text is that of one name, and what is printed of a name is a text of it.
+/// A text is the text of at most one name, and the printed text of a name is read as that name.
 #[tactic(auto, using(crate::proofs::NameTexts::one_name, crate::proofs::NameTexts::name_reads))]
 pub fn texts_hold()
     ensures one { (text : List ℕ) (x y : DomainName) → IsNameText x text → IsNameText y text → x ≡ y }

@@ -20,5 +20,5 @@ pub use error::{NameError, NameTextError, WriteError};
 pub use message::MessageOctets;
 pub use places::Places;
 
-/// The octets of one name: up to 32 of them stand in the value itself.
+/// The octets of one name. Up to 32 are kept in the value itself, without an allocation.
 pub type NameOctets = SmallOctets<32>;

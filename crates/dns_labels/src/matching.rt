@@ -7,8 +7,8 @@ ghost use Rattle.dns_fields.specs.Labels.{AreLabels, wire};
 
 use dns_types::comparing::{same_middle, same_octets};
 
-/// How many of the octets stand as labels in the message, up to an octet 0 or a pointer, and the pointer's
-/// place.
+/// Returns how many of the octets the message has there as labels, up to a 0 or a compression pointer, and the
+/// pointer's target.
 #[tactic(auto, using(crate::proofs::WritingSteps::one_matched))]
 fn match_run(message: &[u8], place: usize, octets: &[u8]) -> Option<(usize, Option<usize>)>
     requires place { place ≤ length message.now }
@@ -48,8 +48,8 @@ fn match_run(message: &[u8], place: usize, octets: &[u8]) -> Option<(usize, Opti
     }
 }
 
-/// Whether the octets, which are labels, stand in the message from that place as they are, with an octet 0 behind them: so
-/// most tails stand that are found.
+/// Returns whether the message has these octets, which are labels, at that offset, followed by a 0. Most suffixes that
+/// are found are of this form.
 #[inline]
 #[tactic(auto, using(crate::proofs::Tails::tail_whole))]
 pub(crate) fn stands_whole(message: &[u8], place: usize, octets: &[u8]) -> bool
@@ -69,7 +69,7 @@ pub(crate) fn stands_whole(message: &[u8], place: usize, octets: &[u8]) -> bool
     true
 }
 
-/// Whether as many octets are the same, without a call where they are as many as most names have.
+/// Returns whether these octets are the same, without a call for lengths that are usual.
 #[inline]
 fn same_labels(a: &[u8], b: &[u8]) -> bool
     requires { length a.now ≡ length b.now }
@@ -81,8 +81,8 @@ fn same_labels(a: &[u8], b: &[u8]) -> bool
     same_octets(a, b)
 }
 
-/// Whether so many of the octets, which are labels, stand from that place, and behind them a pointer to where the others stand
-/// whole: so most names stand that share a tail.
+/// Returns whether the message has the first of these octets, which are labels, at that offset, followed by a pointer
+/// to where the others are uncompressed. Most names that share a suffix are of this form.
 #[inline]
 pub(crate) fn stands_in_two(message: &[u8], place: usize, octets: &[u8], front: usize) -> bool
     requires short { length octets.now ≤ 254 }
@@ -110,7 +110,7 @@ pub(crate) fn stands_in_two(message: &[u8], place: usize, octets: &[u8], front: 
     )
 }
 
-/// Whether a label ends where so many of the octets, which are labels, are in front.
+/// Returns whether a label ends after so many of the octets, which are labels.
 #[inline]
 #[tactic(auto, using(crate::proofs::CutSteps::cut_start, crate::proofs::CutSteps::cut_more))]
 fn is_cut(octets: &[u8], front: usize) -> bool
@@ -126,7 +126,7 @@ fn is_cut(octets: &[u8], front: usize) -> bool
     cut == front
 }
 
-/// Whether the octets' labels are a name that stands in the message from that place.
+/// Returns whether these labels are the name at that offset of the message.
 pub(crate) fn stands_at(message: &[u8], place: usize, octets: &[u8]) -> bool
     requires { length octets.now ≤ 254 }
     ensures { OnTrue result (StandsFor message.now place octets.now) }

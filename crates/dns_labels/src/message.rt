@@ -31,7 +31,7 @@ impl<'a> Model for MessageOctets<'a> {
 }
 
 impl<'a> MessageOctets<'a> {
-    /// The message that begins at this offset of the vector.
+    /// Makes the message that begins at this offset of the vector.
     #[inline]
     pub fn new(start: usize, octets: &'a mut Vec<u8>) -> MessageOctets<'a>
         requires { start ≤ length octets.old.items }
@@ -50,7 +50,7 @@ impl<'a> MessageOctets<'a> {
         octets
     }
 
-    /// How many octets the message has.
+    /// Returns how many octets the message has.
     #[inline]
     pub fn len(&self) -> usize
         ensures value { result ≡ length self.now.items }
@@ -60,7 +60,7 @@ impl<'a> MessageOctets<'a> {
         self.octets.len() - self.start
     }
 
-    /// Whether the message has no octets.
+    /// Returns whether the message has no octets.
     #[inline]
     pub fn is_empty(&self) -> bool
         ensures { IsTrue result ↔ (self.now.items ≡ []) }
@@ -76,7 +76,7 @@ impl<'a> MessageOctets<'a> {
         &self.octets.as_slice()[self.start..]
     }
 
-    /// Makes room for so many octets more. On error the octets are unchanged.
+    /// Makes room for further octets. On error the octets are unchanged.
     #[inline]
     pub fn reserve(&mut self, additional: usize) -> Result<(), AllocError>
         ensures items { self.new.items ≡ self.old.items }
@@ -99,7 +99,7 @@ impl<'a> MessageOctets<'a> {
         self.octets.extend_from_slice(other)
     }
 
-    /// Keeps the first octets of the message, so many of them.
+    /// Truncates the message to its first octets.
     #[inline]
     pub fn truncate(&mut self, len: usize)
         requires { len ≤ length self.old.items }
@@ -109,7 +109,7 @@ impl<'a> MessageOctets<'a> {
         self.octets.truncate(self.start + len);
     }
 
-    /// Replaces two octets of the message by a number, its higher octet first (RFC 1035, section 2.3.2).
+    /// Replaces two octets of the message by a number in network order (RFC 1035, section 2.3.2).
     pub fn replace_u16(&mut self, index: usize, number: u16)
         requires { index + 2 ≤ length self.old.items }
         ensures items { self.new.items ≡ take index self.old.items ++ (bytes_high_first 2 number ++ drop (index + 2) self.old.items) }

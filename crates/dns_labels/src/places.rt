@@ -10,7 +10,7 @@ use crate::matching::{stands_at, stands_in_two, stands_whole};
 use smallvec::SmallVec;
 use std::alloc::{AllocError, Global};
 
-/// A pointer has 14 bits for a place (RFC 1035, 4.1.4).
+/// A compression pointer has 14 bits for an offset (RFC 1035, section 4.1.4).
 const PLACES: usize = 16384;
 
 // Stands for no entry.
@@ -22,7 +22,7 @@ const FEW: usize = 16;
 // At most so many entries of a chain are looked at. Only names that were chosen for it make a longer chain.
 const TRIES: usize = 64;
 
-/// A place where a label begins, a hash of the name's octets from there on, and the next entry of its
+/// An offset where a label begins, a hash of the name's octets from there on, and the next entry of its
 /// bucket.
 #[derive(Clone, Copy, Default)]
 struct Entry {
@@ -38,7 +38,7 @@ struct Bucket {
     last: u16,
 }
 
-/// The place of a name, and how many of its octets stand there: all, or some with a pointer behind them; 0 where that is not
+/// The offset of a name, and how many of its octets are there: all, or some that a pointer follows; 0 if that is not
 /// known.
 #[derive(Clone, Copy)]
 struct Standing {
@@ -89,9 +89,9 @@ fn begins_alike(message: &[u8], place: usize, octets: &[u8]) -> bool {
     last < octets.len() && last < message.len() - place && message[place + last] == octets[last]
 }
 
-/// The places below 16384 where labels of names begin that were written, from the least to the greatest.
+/// The offsets below 16384 where labels of written names begin, from the least to the greatest.
 ///
-/// They are hints: a place is used only where the octets that stand there are the name's.
+/// They are hints: an offset is used only if the octets there are the name's.
 #[derive(Drop)]
 pub struct Places {
     // The first eight entries stand in the value itself.
@@ -108,7 +108,7 @@ pub struct Places {
 }
 
 impl Places {
-    /// Without a place; takes no memory.
+    /// Makes an empty list. Allocates nothing.
     pub fn new(alloc: Global) -> Self {
         Places {
             entries: SmallVec::new(alloc),
@@ -120,7 +120,7 @@ impl Places {
         }
     }
 
-    /// Whether no name is noted, and none is deferred.
+    /// Returns whether no name is noted, and none is deferred.
     #[inline]
     pub(crate) fn is_empty(&self) -> bool {
         self.entries.len() == 0 && self.deferred_len == 0
@@ -132,8 +132,8 @@ impl Places {
         self.recent = standing;
     }
 
-    /// The place of one of the two names that were noted or found last, where the octets stand there, too: a record often
-    /// has the names of the one before it.
+    /// Returns the offset of one of the two names that were noted or found last, if the octets are there. Records often
+    /// have the names of the record before them.
     #[inline]
     pub(crate) fn stands_recently(&self, message: &[u8], octets: &[u8]) -> Option<usize>
         requires short { length octets.now ≤ 254 }
@@ -169,7 +169,7 @@ impl Places {
         None
     }
 
-    /// The entry that a search for this hash begins with.
+    /// Returns the entry with which a search for this hash begins.
     fn first(&self, hash: u32) -> usize {
         let count = self.buckets.len();
         if count == 0 {
@@ -178,7 +178,7 @@ impl Places {
         self.buckets[bucket_of(hash, count)].first as usize
     }
 
-    /// The least place at which the octets stand as a name, of those that are looked at.
+    /// Returns the least of the offsets looked at where the octets are a name.
     #[inline]
     fn find(&self, message: &[u8], octets: &[u8], hash: u32) -> Option<Standing>
         requires short { length octets.now ≤ 254 }
@@ -212,7 +212,7 @@ impl Places {
         None
     }
 
-    /// Where the longest tail of a name begins that stands in the message already, and its place.
+    /// Returns where the longest suffix of a name begins that the message already has, and its offset there.
     #[inline]
     #[tactic(auto, using(crate::proofs::CutSteps::cut_whole, crate::proofs::CutSteps::whole_found))]
     pub(crate) fn longest_tail(
@@ -257,7 +257,7 @@ impl Places {
         (cut, None)
     }
 
-    /// Remembers where the first name was written, without a hash. `note_deferred` notes it.
+    /// Remembers where the first name was written, without a hash. `note_deferred` notes it later.
     #[inline]
     pub(crate) fn defer(&mut self, start: usize, written: usize) {
         if start < PLACES && written > 0 && written < 256 {
@@ -290,7 +290,7 @@ impl Places {
         Ok(())
     }
 
-    /// Notes where labels begin that were written from a place on, so many octets of the name of this hash.
+    /// Notes the labels that were written from an offset on: the first octets of the name of this hash.
     pub(crate) fn note(
         &mut self,
         start: usize,
@@ -336,7 +336,7 @@ impl Places {
         Ok(())
     }
 
-    /// Whether a name of this hash stands at a place that was noted.
+    /// Returns whether the name with this hash is at an offset that was noted.
     pub(crate) fn stands(&mut self, message: &[u8], name: &[u8], hash: u64) -> bool
         requires { AreNameOctets name.now }
     {
@@ -349,7 +349,7 @@ impl Places {
         }
     }
 
-    /// Adds a place behind the others.
+    /// Appends an offset.
     fn push(&mut self, place: u16, hash: u32) -> Result<(), AllocError> {
         let count = self.entries.len();
         if count >= NONE as usize {
@@ -368,7 +368,7 @@ impl Places {
         Ok(())
     }
 
-    /// Makes twice as many buckets as there are entries, and links these.
+    /// Makes twice as many buckets as there are entries, and links the entries.
     fn grow(&mut self, count: usize) -> Result<(), AllocError>
         requires { count < 65535 }
     {
@@ -386,7 +386,7 @@ impl Places {
         Ok(())
     }
 
-    /// Puts an entry at the end of its bucket, where there are buckets.
+    /// Puts an entry at the end of its bucket, if there are buckets.
     fn link(&mut self, at: usize) {
         let count = self.buckets.len();
         let entries = self.entries.as_mut_slice();

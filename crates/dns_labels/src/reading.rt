@@ -9,15 +9,14 @@ use crate::buffer::{MAX_OCTETS, NameBuffer};
 use crate::error::NameError;
 use std::alloc::Global;
 
-/// Where labels end that stand one behind the other: at an octet 0, or at a pointer to where the others
-/// stand.
+/// How a run of labels ends: with a 0, or with a compression pointer to the further labels.
 #[derive(Clone, Copy)]
 struct Run {
     end: usize,
     next: Option<usize>,
 }
 
-/// Reads labels up to an octet 0 or a pointer.
+/// Reads labels up to a 0 or a compression pointer.
 #[tactic(auto, using(crate::proofs::ReadingSteps::at_pointer, crate::proofs::ReadingSteps::so_far_none))]
 fn read_run(message: &[u8], place: usize, octets: &mut NameBuffer) -> Option<Run>
     requires { place ≤ length message.now }
@@ -60,7 +59,7 @@ fn read_run(message: &[u8], place: usize, octets: &mut NameBuffer) -> Option<Run
     }
 }
 
-/// Reads the octets of a name, and answers where it ends.
+/// Reads the octets of a name, and returns where it ends.
 #[tactic(auto, using(crate::proofs::ReadingRuns::first_run, crate::proofs::ReadingRuns::next_run, crate::proofs::ReadingRuns::not_before))]
 fn read_runs(message: &[u8], start: usize, octets: &mut NameBuffer) -> Option<usize>
     requires start { start ≤ length message.now }
@@ -87,7 +86,7 @@ fn read_runs(message: &[u8], start: usize, octets: &mut NameBuffer) -> Option<us
     Some(end)
 }
 
-/// The octets of labels that stand whole up to an octet 0; none where a pointer ends them, or where no name stands.
+/// Returns the octets of an uncompressed name; `None` if it has a pointer, or if no name is there.
 #[inline]
 fn plain_octets(message: &[u8], start: usize) -> Option<&[u8]>
     requires { start ≤ length message.now }
@@ -110,13 +109,13 @@ fn plain_octets(message: &[u8], start: usize) -> Option<&[u8]>
     }
 }
 
-/// The octets of the name that stands in a message from a place, and where what stands for it ends.
+/// Reads the name at an offset of a message, and returns its octets and the offset after it there.
 ///
-/// The letters are kept. A name is labels, each a length of 1 to 63 and its octets, and then a 0; or, in place of the
-/// 0, two octets with the two highest bits set, whose other 14 bits are an earlier place, from which the rest stands in
-/// what is before this part (RFC 1035, 4.1.4). With the 0 it has at most 255 octets. The error is
-/// [`Invalid`](NameError::Invalid) where no name stands, without a request for memory, and there is one request for a
-/// name.
+/// The case of letters is preserved. A name is labels, each a length of 1 to 63 and its octets, and then a 0; or,
+/// instead of the 0, a compression pointer: two octets with the two highest bits set, whose other 14 bits are the
+/// offset of the rest, which must be before this part of the name (RFC 1035, section 4.1.4). Uncompressed it has at
+/// most 255 octets. If no name is there, this returns [`Invalid`](NameError::Invalid) and allocates nothing; otherwise
+/// it allocates at most once.
 #[tactic(auto, using(crate::proofs::Found::octets_found, crate::proofs::Found::name_found))]
 pub fn read_octets(
     alloc: Global,

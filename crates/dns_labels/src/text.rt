@@ -16,7 +16,7 @@ use std::alloc::Global;
 use std::marker::Model;
 use std::{fmt, str};
 
-/// The most octets of a label (RFC 1035, 3.1).
+/// The most octets of a label (RFC 1035, section 3.1).
 const MAX_LABEL: usize = 63;
 
 const EMPTY_LABEL: &str = "empty label in a domain name";
@@ -27,7 +27,7 @@ const LONG_NAME: &str = "domain name past 255 octets";
 
 const CHARACTER: &str = "character or escape that no label of a domain name has";
 
-/// The octet whose text begins the text, and that one's length.
+/// Returns the first octet of a text and how many characters it takes there.
 #[tactic(auto, using(crate::proofs::TextSteps::read_plain, crate::proofs::TextSteps::read_quoted, crate::proofs::TextSteps::read_decimal))]
 fn read_octet(text: &[u8]) -> Option<(u8, usize)>
     ensures length { IfSome result (λ r. (1 ≤ r.1) × (r.1 ≤ length text.now)) }
@@ -69,8 +69,8 @@ fn read_octet(text: &[u8]) -> Option<(u8, usize)>
     Some((value as u8, 4))
 }
 
-/// Reads the octets of a label up to a dot or the text's end, and answers how much of the text they take, or why it is
-/// no label.
+/// Reads the octets of a label up to a dot or the end of the text, and returns how many characters they take, or why it
+/// is not a label.
 #[tactic(auto, using(crate::proofs::LabelSteps::label_none))]
 fn read_octets(text: &[u8], octets: &mut NameBuffer) -> Result<usize, &'static str>
     ensures some { IfOk result (λ taken. AddsOctets text.now taken octets.old octets.new) }
@@ -100,8 +100,8 @@ fn read_octets(text: &[u8], octets: &mut NameBuffer) -> Result<usize, &'static s
     Ok(at)
 }
 
-/// Reads a label up to a dot or the text's end, with its length octet, and answers how much of the text it
-/// takes, or why it is no label.
+/// Reads a label up to a dot or the end of the text, with its length octet, and returns how many characters it takes,
+/// or why it is not a label.
 #[tactic(auto, using(crate::proofs::NameSteps::label_set, crate::proofs::NameSteps::label_empty))]
 fn read_label(text: &[u8], octets: &mut NameBuffer) -> Result<usize, &'static str>
     ensures some { IfOk result (λ taken. AddsLabel text.now taken octets.old octets.new) }
@@ -123,7 +123,7 @@ fn read_label(text: &[u8], octets: &mut NameBuffer) -> Result<usize, &'static st
     Ok(taken)
 }
 
-/// Reads the octets of a name, and answers whether it is fully qualified, or why the text is none of a name.
+/// Reads the octets of a name, and returns whether it is fully qualified, or why the text is not a name.
 #[tactic(auto, using(crate::proofs::NameSteps::name_none, crate::proofs::NameSteps::reads_nothing, crate::proofs::NameSteps::reads_root))]
 fn read_name(text: &[u8], octets: &mut NameBuffer) -> Result<bool, &'static str>
     requires { octets.old ≡ [] }
@@ -150,14 +150,13 @@ fn read_name(text: &[u8], octets: &mut NameBuffer) -> Result<bool, &'static str>
     }
 }
 
-/// The octets of the name whose text this is, and whether it is fully qualified.
+/// Reads a name from its text, and returns its octets and whether it is fully qualified.
 ///
-/// A dot is the root, and no text the relative name without labels. Every other text is labels joined by dots, with a
-/// dot at the end where the name is fully qualified. An octet of a label is a graphic character of ASCII but `.` and
-/// `\`, or `\` and three digits up to 255, or `\` and a graphic character that is no digit. A label has 1 to 63 octets,
-/// and the labels, each with its length octet, and one octet more are at most 255. The error is
-/// [`Invalid`](NameTextError::Invalid) for any other text, with a text that says why, without a request for memory, and
-/// there is one request for a name.
+/// A dot is the root, and an empty text the relative name without labels. Every other text is labels joined by dots,
+/// with a dot at the end if the name is fully qualified. In a label an octet is a graphic character of ASCII other than
+/// `.` and `\`, or `\` and three digits up to 255, or `\` and a graphic character that is no digit. A label has 1 to 63
+/// octets, and a name at most 255 on the wire. For any other text this returns [`Invalid`](NameTextError::Invalid) with
+/// the reason and allocates nothing; otherwise it allocates at most once.
 #[tactic(auto, using(crate::proofs::NameTexts::one_name, crate::proofs::NameTexts::name_reads))]
 pub fn parse_octets(alloc: Global, text: &[u8]) -> Result<(Vec<u8>, bool), NameTextError>
     ensures ok { IfOk result (λ r. IsNameText (name_of r.0.items r.1) text.now) }
@@ -176,7 +175,7 @@ pub fn parse_octets(alloc: Global, text: &[u8]) -> Result<(Vec<u8>, bool), NameT
     Ok((octets, is_fqdn))
 }
 
-/// Whether an octet stands for itself in a label's text: a graphic character of ASCII but `.` and `\`.
+/// Returns whether an octet is written as it is in a label's text: a graphic character of ASCII other than `.` and `\`.
 #[inline]
 pub(crate) fn is_plain(octet: u8) -> bool
     ensures { OnTrue result (printed octet ≡ octet ∷ []) }
@@ -184,7 +183,7 @@ pub(crate) fn is_plain(octet: u8) -> bool
     33 <= octet && octet <= 126 && octet != 46 && octet != 92
 }
 
-/// Whether each of a label's octets stands for itself in its text.
+/// Returns whether each of a label's octets is written as it is in its text.
 #[inline]
 pub(crate) fn is_plain_label(label: &[u8]) -> bool
     ensures { OnTrue result (label_text label.now ≡ label.now) }
@@ -239,12 +238,10 @@ impl fmt::Display for OctetText {
     }
 }
 
-/// A name that prints as its text: its labels joined by dots, with a dot at the end where it is fully
-/// qualified.
+/// A name that prints as its text: its labels joined by dots, with a dot at the end if it is fully qualified.
 ///
-/// In a label `.` and `\` stand behind a `\`, and an octet that is no graphic character of ASCII is `\` and
-/// three digits. The root prints a dot, the relative name without labels nothing. Read again, the text is
-/// that name.
+/// In a label `.` and `\` are escaped by a `\`, and an octet that is not a graphic character of ASCII is `\` and three
+/// digits. The root prints as a dot, the relative name without labels as nothing. The text is read back as that name.
 #[derive(Drop)]
 pub struct NameText<'a> {
     octets: &'a [u8],
@@ -263,7 +260,7 @@ impl<'a> Model for NameText<'a> {
 }
 
 impl<'a> NameText<'a> {
-    /// The text of the name of these octets.
+    /// Makes a value that prints the name of these octets.
     pub fn new(octets: &'a [u8], is_fqdn: bool) -> Self
         requires { AreNameOctets octets.now }
         ensures { result ≡ name_of octets.now is_fqdn }

@@ -14,15 +14,15 @@ use std::alloc::AllocError;
 /// How a name is noted.
 #[derive(Clone, Copy)]
 enum Note {
-    /// Not at all: it stands at an earlier place that was noted, and so do its tails, and the least place serves.
+    /// Not at all: it is at an earlier offset that was noted, and so are its suffixes, and the least offset is used.
     Nothing,
     /// As the first one, which waits until another is sought.
     First,
-    /// By this hash.
+    /// With this hash.
     Hash(u64),
 }
 
-/// What is written of a name's octets, where the rest stands already, and how the name is noted.
+/// How many of a name's octets are written, where the message already has the rest, and how the name is noted.
 #[derive(Clone, Copy)]
 struct Cut {
     written: usize,
@@ -30,7 +30,8 @@ struct Cut {
     note: Note,
 }
 
-/// Where a name is cut: only `StandardRecord` leaves a tail out. Fails only for want of memory to note the first name.
+/// Decides where a name is cut: only `StandardRecord` omits a suffix. Fails only if an allocation to note the first
+/// name fails.
 #[inline]
 #[tactic(auto, using(crate::proofs::CutSteps::cut_whole))]
 fn cut_for(
@@ -76,7 +77,7 @@ fn cut_for(
     }
 }
 
-/// How many octets end labels: one, or a pointer's two.
+/// Returns how many octets end the labels: one, or a pointer's two.
 fn stop_len(target: Option<usize>) -> usize
     ensures { result ≡ length (stop_octets target) }
 {
@@ -86,7 +87,7 @@ fn stop_len(target: Option<usize>) -> usize
     }
 }
 
-/// Appends octets that most often are none, since all of a name stands already.
+/// Appends octets. Most often there are none, since the message already has all of a name.
 #[inline]
 fn append_front(out: &mut MessageOctets<'_>, front: &[u8]) -> Result<(), AllocError>
     ensures items { OnOk result (out.new.items ≡ out.old.items ++ front.now) }
@@ -102,13 +103,13 @@ fn append_front(out: &mut MessageOctets<'_>, front: &[u8]) -> Result<(), AllocEr
     Ok(())
 }
 
-/// Writes a name's octets behind others, and notes where.
+/// Appends a name's octets, and notes where.
 ///
-/// It is written as labels, each a length octet and its octets, and a 0 (RFC 1035, 3.1). In the mode `StandardRecord`
-/// the longest tail with a label that was noted in the same octets at a place below 16384 is left out, and two octets
-/// that point to the least such place end the name (4.1.4); only of names that were chosen to share one hash by the
-/// dozen, a tail may be written again. The error is [`Buffer`](WriteError::Buffer) where what is to be written passes
-/// the limit, and so does the whole name; after an error the octets are as before.
+/// It is written as labels, each a length octet and its octets, and a 0 (RFC 1035, section 3.1). In the mode
+/// `StandardRecord` the longest non-empty suffix that was noted with the same octets at an offset below 16384 is
+/// replaced by a compression pointer to the least such offset (section 4.1.4); only if dozens of names were chosen to
+/// share one hash, a suffix may be written again. Returns [`Buffer`](WriteError::Buffer) if what is to be written
+/// passes the limit, and the uncompressed name does so too. After an error the octets are unchanged.
 #[inline(never)]
 pub fn write_name(
     places: &mut Places,
@@ -131,8 +132,8 @@ pub fn write_name(
     }
 }
 
-/// The same of a name that stands at this place, which was noted, and so were its tails: the least place serves, so nothing
-/// is noted.
+/// Does the same for a name that is at this offset, which was noted as were its suffixes. The least offset is used, so
+/// nothing is noted.
 #[inline]
 #[tactic(auto, using(crate::proofs::Wrote::pointer_wrote))]
 fn write_again(
@@ -174,7 +175,7 @@ fn write_again(
     }
 }
 
-/// The same as `write_name`, of a name that stands at neither of the two places that are looked at first.
+/// Does the same as `write_name` for a name that is at neither of the two offsets that are tried first.
 #[inline(never)]
 #[tactic(auto, using(crate::proofs::Wrote::cut_wrote))]
 fn write_new(

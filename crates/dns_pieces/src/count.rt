@@ -4,7 +4,7 @@ ghost use Rattle.std.specs.Borrow.{ftrue};
 
 use std::marker::{Model, PhantomData};
 
-/// A whole number without a greatest value, of which clauses speak and no code.
+/// A natural number for contracts only: no code computes with it.
 #[derive(Drop)]
 pub struct Count {
     marker: PhantomData<u8>,
@@ -16,7 +16,7 @@ impl Model for Count {
 }
 
 impl Count {
-    /// From 0 on.
+    /// Starts at 0.
     pub fn new() -> Count
         ensures { result.n ≡ 0 }
     {
@@ -25,13 +25,13 @@ impl Count {
         }
     }
 
-    /// One more.
+    /// Counts one more.
     #[inline]
     pub fn tick(&mut self)
         ensures { self.new.n ≡ self.old.n + 1 }
     {}
 
-    /// So many more.
+    /// Counts so many more.
     #[inline]
     pub fn add(&mut self, n: usize)
         ensures { self.new.n ≡ self.old.n + n }

@@ -24,7 +24,7 @@ pub trait Stepped {
     /// What a cursor meets in the data.
     ghost course: { Self → Course Self.Kept };
 
-    /// The step behind a place of the data.
+    /// Returns the step after a position in the data.
     fn step<'a>(
         &'a self,
         step: usize,
@@ -46,7 +46,7 @@ pub trait Stepped {
         ensures end { IfNone result ((course self.now).keeps step part kept.new) };
 }
 
-/// What is left of the canonical octets of some data. It keeps its place, and takes no memory.
+/// An iterator over the canonical octets of a value. It keeps its position and never allocates.
 #[derive(Drop)]
 pub struct Cursor<'a, T: Stepped> {
     data: Option<&'a T>,
@@ -140,7 +140,7 @@ macro_rules! refill_or {
 }
 
 impl<'a, T: Stepped> Cursor<'a, T> {
-    /// A cursor at the first of the octets. Of data that cannot be emitted there are none.
+    /// Starts at the first octet. A value that cannot be emitted has no canonical octets.
     #[inline]
     pub fn new(value: &'a T, can_emit: bool) -> Cursor<'a, T>
         requires at { IsTrue can_emit → (T.course value.now).at 0 0 0 }
@@ -161,8 +161,8 @@ impl<'a, T: Stepped> Cursor<'a, T> {
         }
     }
 
-    /// The next octet. A call that gives one counts it. Options are compared only where one begins, at most twice as often
-    /// as there are options; and a set of types is gone over only where a window of it begins, once.
+    /// Returns the next octet, or `None` at the end. Only where an option begins are options compared, at most twice as
+    /// often as there are options; only where a window of a type bitmap begins is the set of types read, once.
     pub fn next(&mut self) -> Option<u8>
         ensures octets { MatchOption result ((self.old.octets ≡ []) × (self.new.octets ≡ [])) (λ x. self.old.octets ≡ x ∷ self.new.octets) }
         ensures few { self.new.taken ≤ self.old.taken + 1 }
@@ -181,9 +181,9 @@ impl<'a, T: Stepped> Cursor<'a, T> {
         }
     }
 
-    /// Copies the next octets to the front of the buffer, as many as there are and fit, and answers how many these are. Behind
-    /// them the buffer is as it was, and the cursor gives what follows them: where the buffer was filled, there may be more.
-    /// What lies in one piece is copied at once.
+    /// Copies as many of the next octets as fit to the front of the buffer, and returns their number. The rest of the
+    /// buffer is unchanged, and the cursor is after what was copied: if the buffer is full, there may be more. Octets
+    /// that are contiguous are copied at once.
     pub fn copy_to(&mut self, buffer: &mut [u8]) -> usize
         ensures octets { Copies result self.old.octets self.new.octets buffer.old buffer.new }
         ensures taken { self.new.taken ≡ self.old.taken + result }
@@ -212,8 +212,8 @@ impl<'a, T: Stepped> Cursor<'a, T> {
         other.taken.add(n);
     }
 
-    /// The order of what the two still give, by the first difference, a proper beginning before what goes on. From each at
-    /// most one octet is taken past their common beginning; what is behind the octets that were taken is still given.
+    /// Compares the octets that are left in both, by the first that differs; a proper prefix is less. From each at most
+    /// one octet after their common prefix is taken. Both cursors can be used further.
     #[tactic(auto, using(crate::proofs::Cursors::chooses_both))]
     pub fn compare(&mut self, other: &mut Cursor<'_, T>) -> Ordering
         ensures order { result ≡ slice_cmp nat_cmp self.old.octets other.old.octets }
@@ -242,7 +242,7 @@ impl<'a, T: Stepped> Iterator for Cursor<'a, T> {
 
     ghost remaining = { item_count (λ c. c.octets) };
 
-    /// The next octet, as the call of this name that is no trait's.
+    /// Returns the next octet, as the method `next` of the cursor itself does.
     #[inline]
     fn next(&mut self) -> Option<u8> {
         Cursor::next(self)

@@ -31,7 +31,7 @@ impl Head {
         }
     }
 
-    /// Without octets again.
+    /// Removes all octets.
     #[inline]
     pub fn clear(&mut self)
         ensures { self.new ≡ [] }
@@ -39,7 +39,7 @@ impl Head {
         self.octets.clear();
     }
 
-    /// The octets, lent.
+    /// The octets.
     #[inline]
     pub fn as_slice(&self) -> &[u8]
         ensures value { result.now ≡ self.now }
@@ -48,7 +48,7 @@ impl Head {
         self.octets.as_slice()
     }
 
-    /// How many octets there are.
+    /// Returns how many octets there are.
     #[inline]
     pub fn len(&self) -> usize
         ensures value { result ≡ length self.now }
@@ -96,7 +96,7 @@ impl Head {
         self.octets(&n.to_be_bytes());
     }
 
-    /// Adds a string's length; its octets are the tail.
+    /// Appends a string's length; its octets are the tail.
     #[inline]
     #[tactic(auto, unfolding(dns_fields::specs::Fields::field_octets))]
     pub fn text<'a>(&mut self, text: &'a [u8]) -> Tail<'a>

@@ -9,8 +9,8 @@ use crate::tail::Tail;
 use dns_names_wire::Name;
 use std::cmp::Ordering;
 
-/// How two lists of octets are ordered by the next octet of each, where these tell it: a list that has ended comes before
-/// one that goes on. `None` where both give the same octet.
+/// Returns the order of two lists by the next octet of each: a list that has ended is less than one that goes on.
+/// `None` if both have the same next octet.
 #[inline(always)]
 pub fn next_order(a: Option<u8>, b: Option<u8>) -> Option<Ordering>
     ensures { result ≡ next_order a b }
@@ -23,7 +23,7 @@ pub fn next_order(a: Option<u8>, b: Option<u8>) -> Option<Ordering>
     }
 }
 
-/// By the first octet that differs, a proper beginning before what goes on: what `cmp` of slices answers, quicker.
+/// Compares slices as their `cmp` does, but faster: by the first octet that differs; a proper prefix is less.
 #[inline]
 pub fn octets_cmp(a: &[u8], b: &[u8]) -> Ordering
     ensures { result ≡ slice_cmp nat_cmp a.now b.now }
@@ -88,7 +88,7 @@ fn half(octets: &[u8]) -> u32
     u32::from_be_bytes([octets[0], octets[1], octets[2], octets[3]])
 }
 
-/// The same, behind octets that were compared so.
+/// Compares these slices if what came before them is equal.
 #[inline]
 pub fn slices_behind(first: Ordering, a: &[u8], b: &[u8]) -> Ordering
     ensures { result ≡ ordering_then first (slice_cmp nat_cmp a.now b.now) }
@@ -99,7 +99,7 @@ pub fn slices_behind(first: Ordering, a: &[u8], b: &[u8]) -> Ordering
     octets_cmp(a, b)
 }
 
-/// A number of one octet, behind fields that were compared so.
+/// Compares a number of one octet if the fields before it are equal.
 #[inline]
 #[tactic(auto, using(crate::proofs::Fronts::number_then))]
 pub fn one_behind(first: Ordering, a: u8, b: u8) -> Ordering
@@ -108,7 +108,7 @@ pub fn one_behind(first: Ordering, a: u8, b: u8) -> Ordering
     first.then(a.cmp(&b))
 }
 
-/// A number of two octets, behind fields that were compared so.
+/// Compares a number of two octets if the fields before it are equal.
 #[inline]
 #[tactic(auto, using(crate::proofs::Fronts::number_then))]
 pub fn two_behind(first: Ordering, a: u16, b: u16) -> Ordering
@@ -117,7 +117,7 @@ pub fn two_behind(first: Ordering, a: u16, b: u16) -> Ordering
     first.then(a.cmp(&b))
 }
 
-/// A number of four octets, behind fields that were compared so.
+/// Compares a number of four octets if the fields before it are equal.
 #[inline]
 #[tactic(auto, using(crate::proofs::Fronts::number_then))]
 pub fn four_behind(first: Ordering, a: u32, b: u32) -> Ordering
@@ -126,7 +126,7 @@ pub fn four_behind(first: Ordering, a: u32, b: u32) -> Ordering
     first.then(a.cmp(&b))
 }
 
-/// A character string, behind fields that were compared so: its length is its first octet.
+/// Compares a character string, whose first octet is its length, if the fields before it are equal.
 #[inline]
 #[tactic(auto, using(crate::proofs::Fronts::text_then))]
 pub fn text_behind(first: Ordering, a: &[u8], b: &[u8]) -> Ordering
@@ -136,7 +136,7 @@ pub fn text_behind(first: Ordering, a: &[u8], b: &[u8]) -> Ordering
     slices_behind(lengths, a, b)
 }
 
-/// Octets that go on to the end, behind fields that were compared so.
+/// Compares octets up to the end of the record if the fields before them are equal.
 #[inline]
 #[tactic(auto, unfolding(dns_fields::specs::Fields::field_octets))]
 pub fn rest_behind(first: Ordering, a: &[u8], b: &[u8]) -> Ordering
@@ -145,7 +145,7 @@ pub fn rest_behind(first: Ordering, a: &[u8], b: &[u8]) -> Ordering
     slices_behind(first, a, b)
 }
 
-/// A name, behind fields that were compared so.
+/// Compares a name if the fields before it are equal.
 #[inline]
 pub fn name_behind(first: Ordering, a: &Name, b: &Name) -> Ordering
     ensures order { result ≡ ordering_then first (slice_cmp nat_cmp (field_octets NameKind a.now) (field_octets NameKind b.now)) }

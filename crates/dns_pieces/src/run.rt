@@ -43,7 +43,7 @@ impl Run<'static> {
 }
 
 impl<'a> Run<'a> {
-    /// The next octet.
+    /// Returns the next octet.
     #[inline]
     pub fn next(&mut self) -> Option<u8>
         ensures { MatchOption result ((self.old ≡ []) × (self.new ≡ [])) (λ x. self.old ≡ x ∷ self.new) }
@@ -56,7 +56,7 @@ impl<'a> Run<'a> {
         self.tail.next()
     }
 
-    /// Takes octets that both begin with, as many as are at hand in one piece, and answers how many these are.
+    /// Takes octets that are equal at the front of both and contiguous, and returns how many it took.
     #[inline]
     #[tactic(auto, using(crate::proofs::Sharing::shares_both))]
     pub fn skip_common(&mut self, other: &mut Run<'_>) -> usize
@@ -94,7 +94,7 @@ impl<'a> Run<'a> {
         self.tail.skip_common(&mut other.tail)
     }
 
-    /// Copies octets to the front of the buffer, as many as are at hand and fit, and answers how many these are.
+    /// Copies as many octets as there are and fit to the front of the buffer, and returns their number.
     #[inline]
     pub fn copy_to(&mut self, buffer: &mut [u8]) -> usize
         ensures { Copies result self.old self.new buffer.old buffer.new }
@@ -104,7 +104,7 @@ impl<'a> Run<'a> {
         kept + self.tail.copy_to(&mut buffer[kept..])
     }
 
-    /// The order of the two by their first difference, a proper beginning before what goes on.
+    /// Compares the two by the first octet that differs; a proper prefix is less.
     #[tactic(auto, using(crate::proofs::Comparing::told_at))]
     pub fn compare(&mut self, other: &mut Run<'_>) -> Ordering
         ensures { result ≡ slice_cmp nat_cmp self.old other.old }

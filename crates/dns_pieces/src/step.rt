@@ -8,7 +8,7 @@ use crate::head::Head;
 use crate::tail::Tail;
 use dns_names_wire::Record;
 
-/// What comes next behind the octets of a head, and the place behind them.
+/// What follows the octets of a head, and the position after that.
 #[derive(Drop)]
 pub struct Step<'a> {
     pub tail: Tail<'a>,
@@ -18,7 +18,7 @@ pub struct Step<'a> {
 }
 
 impl<'a> Step<'a> {
-    /// This tail, and then the step of this number.
+    /// Makes a step of this tail, after which the step with this number comes.
     #[inline]
     pub fn to(tail: Tail<'a>, step: usize) -> Step<'a>
         ensures { result ≡ record { tail = tail.entry; step = step; part = 0; item = 0 } }
@@ -32,9 +32,9 @@ impl<'a> Step<'a> {
     }
 }
 
-/// A record whose canonical octets are a few that are kept, and a tail behind them.
+/// A record whose canonical octets are a few that are kept, and then a tail.
 pub trait AtOnce: Record {
-    /// Adds those in front of the tail to an empty head, and lends the tail.
+    /// Appends the octets before the tail to an empty head, and returns the tail.
     fn at_once<'a>(&'a self, head: &mut Head) -> Tail<'a>
         requires empty { head.old ≡ [] }
         ensures { canonical Self.facts.kinds (Self.facts.fields self.now) ≡ head.new ++ result };

@@ -11,7 +11,7 @@ use dns_names_wire::Name;
 use std::cmp::Ordering;
 use std::marker::Model;
 
-/// A slice, or the octets of a name's labels, which are given in lower case, and a 0 behind them.
+/// A slice, or the octets of a name's labels in lower case and a 0 after them.
 #[derive(Drop)]
 pub struct Tail<'a> {
     octets: &'a [u8],
@@ -62,7 +62,7 @@ impl<'a> Tail<'a> {
         }
     }
 
-    /// The next octet.
+    /// Returns the next octet.
     #[inline]
     pub fn next(&mut self) -> Option<u8>
         ensures { MatchOption result ((self.old ≡ []) × (self.new ≡ [])) (λ x. self.old ≡ x ∷ self.new) }
@@ -84,7 +84,7 @@ impl<'a> Tail<'a> {
         None
     }
 
-    /// Takes octets that both begin with, where both are names or neither is, and answers how many these are.
+    /// If both are names or neither is, takes octets that are equal at the front of both, and returns how many it took.
     #[inline]
     pub fn skip_common(&mut self, other: &mut Tail<'_>) -> usize
         ensures shares { Shares result self.old self.new other.old other.new }
@@ -105,7 +105,7 @@ impl<'a> Tail<'a> {
         n
     }
 
-    /// Copies octets to the front of the buffer, as many as there are and fit, and answers how many these are.
+    /// Copies as many octets as there are and fit to the front of the buffer, and returns their number.
     #[inline]
     pub fn copy_to(&mut self, buffer: &mut [u8]) -> usize
         ensures { Copies result self.old self.new buffer.old buffer.new }
@@ -126,7 +126,7 @@ impl<'a> Tail<'a> {
         n + 1
     }
 
-    /// The order of the two by their first difference, a proper beginning before what goes on.
+    /// Compares the two by the first octet that differs; a proper prefix is less.
     #[inline]
     pub fn compare(&mut self, other: &mut Tail<'_>) -> Ordering
         ensures { result ≡ slice_cmp nat_cmp self.old other.old }

@@ -8,7 +8,7 @@ ghost use Rattle.dns_rdata_options.specs.{declared.opt.subnet.ClientSubnet.Clien
 
 use crate::opt::{ClientSubnet, EdnsCode, EdnsOption, NSIDPayload};
 
-/// How `cmp` orders codes, subnets, payloads and options, whatever the places in their declarations.
+/// How `cmp` orders codes, subnets, payloads and options, in terms of their fields.
 #[tactic(auto, using(crate::proofs::OptionOrders::subnet_is, crate::proofs::OptionOrders::option_is))]
 pub fn orders_hold()
     // codes by number, and of two with one number the one with a name before `Unknown`

@@ -35,10 +35,15 @@ use std::marker::Model;
 use std::slice;
 pub use subnet::ClientSubnet;
 
-/// The options of EDNS with their codes (RFC 6891, 6.1.2), which contracts see as the list of pairs. Each option stands
-/// as its code and its length in two octets each, and so many octets; they fill the record's length.
+/// The options of EDNS with their codes (RFC 6891, section 6.1.2). Contracts see the record as the list of these pairs.
 ///
-/// Two records are equal where every pair stands equally often in both, in whatever order.
+/// ```text
+/// +--+--+--+--+  +--+--+--+--+  +-- ..
+/// |OPTION-CODE|  |OPTION-LEN |  | OPTION-DATA     .. and so on, to the end of RDLENGTH
+/// +--+--+--+--+  +--+--+--+--+  +-- ..
+/// ```
+///
+/// Code and length have two octets each. Two records are equal if each pair occurs equally often in both, in any order.
 ///
 /// ```rust
 /// fn server_of(options: &OPT) -> Option<&[u8]> {
@@ -50,7 +55,7 @@ pub use subnet::ClientSubnet;
 /// ```
 #[derive(Debug, Drop)]
 pub struct OPT {
-    /// The options, in order; a code may stand more than once.
+    /// The options in order. A code may occur more than once.
     pub options: Vec<(EdnsCode, EdnsOption)>,
 }
 
@@ -67,7 +72,7 @@ impl OPT {
     ghost use Rattle.std.specs.Borrow.{sem};
     ghost use Rattle.dns_rdata_options.specs.Lent.{LendsOptions};
 
-    /// With these options, which are moved.
+    /// Makes a record of these options. Allocates nothing.
     #[inline]
     pub fn new(options: Vec<(EdnsCode, EdnsOption)>) -> OPT
         ensures { result ≡ options.items }
@@ -75,7 +80,7 @@ impl OPT {
         OPT { options }
     }
 
-    /// Without options. Takes no memory.
+    /// Makes a record without options. Allocates nothing.
     #[inline]
     pub fn default(alloc: Global) -> OPT
         ensures { result ≡ [] }
@@ -85,7 +90,7 @@ impl OPT {
         }
     }
 
-    /// The first option with this code.
+    /// Returns the first option with this code, or `None`. Allocates nothing.
     pub fn get(&self, code: EdnsCode) -> Option<&EdnsOption>
         ensures { option_copied result ≡ slice_get (options_of code self.now) 0 }
     {
@@ -97,7 +102,7 @@ impl OPT {
         None
     }
 
-    /// All options with this code, in order. Fails only for want of memory.
+    /// Returns all options with this code, in order. Fails only if an allocation fails.
     pub fn get_all(&self, code: EdnsCode) -> Result<Vec<&EdnsOption>, AllocError>
         ensures { IfOk result (λ found. map (λ option. option.now) found.items ≡ options_of code self.now) }
     {
@@ -110,7 +115,7 @@ impl OPT {
         Ok(found)
     }
 
-    /// Appends an option, with the code of its own. Fails only for want of memory: the options then stay as they were.
+    /// Appends an option under its own code. Fails only if an allocation fails; the options are unchanged then.
     pub fn insert(&mut self, option: EdnsOption) -> Result<(), AllocError>
         ensures ok { OnOk result (self.new ≡ self.old ++ (code_of option, option) ∷ []) }
         ensures err { OnErr result (self.new ≡ self.old) }
@@ -120,7 +125,7 @@ impl OPT {
         Ok(())
     }
 
-    /// The options with their codes, in order. Allocates nothing.
+    /// Iterates over the codes and options, in order. Allocates nothing.
     #[inline]
     pub fn iter(&self) -> slice::Iter<'_, (EdnsCode, EdnsOption)>
         ensures items { iter_rest result ≡ self.now }
@@ -130,15 +135,15 @@ impl OPT {
         self.options.as_slice().iter()
     }
 
-    /// Whether there is an option with this code. Allocates nothing.
+    /// Returns whether there is an option with this code. Allocates nothing.
     pub fn contains(&self, code: EdnsCode) -> bool
         ensures { IsTrue result ↔ (0 < length (options_of code self.now)) }
     {
         self.get(code).is_some()
     }
 
-    /// Puts an option at the end, with the code of its own, and takes out every earlier one with that code. Fails only if
-    /// an allocation fails; the options are unchanged then.
+    /// Appends an option under its own code and removes every earlier option with that code. Fails only if an
+    /// allocation fails; the options are unchanged then.
     pub fn replace(&mut self, option: EdnsOption) -> Result<(), AllocError>
         ensures ok { OnOk result (self.new ≡ without (code_of option) self.old ++ (code_of option, option) ∷ []) }
         ensures err { OnErr result (self.new ≡ self.old) }
@@ -151,14 +156,14 @@ impl OPT {
         Ok(())
     }
 
-    /// Takes all options with this code away; the others keep their order.
+    /// Removes all options with this code. The others keep their order. Allocates nothing.
     pub fn remove(&mut self, code: EdnsCode)
         ensures { self.new ≡ without code self.old }
     {
         self.options.retain(|pair| code != pair.0);
     }
 
-    /// The options with their codes, lent.
+    /// The codes and options as a slice.
     #[inline]
     pub fn as_ref(&self) -> &[(EdnsCode, EdnsOption)]
         ensures { result.now ≡ self.now }
@@ -166,7 +171,7 @@ impl OPT {
         self.options.as_slice()
     }
 
-    /// The list of options with their codes, lent for change: the record then has what is left in it.
+    /// The list of codes and options, to be changed in place.
     #[inline]
     pub fn as_mut(&mut self) -> &mut Vec<(EdnsCode, EdnsOption)>
         ensures* writes_back { sem 𝓛 (LendsOptions self.entry result) }
@@ -181,15 +186,19 @@ impl Record for OPT {
 }
 
 impl RecordDataDecodable for OPT {
-    /// Reads options to the end of the length, and keeps their order. A record that ends behind a code, or behind a
-    /// code, a length of at most the record's and fewer octets, is cut: it has no options, and takes no memory. Else
-    /// memory is asked for once for the list, and once for each option that is no subnet.
+    /// Reads options up to RDLENGTH and keeps their order. If RDLENGTH ends right after a code, or within the octets of
+    /// an option whose length is at most RDLENGTH, the record is truncated: the result has no options, and nothing is
+    /// allocated. Otherwise this allocates once for the list, and once for each option that is not a client subnet.
     ///
-    /// It is refused for the first of these: by [`InsufficientBytes`](DecodeError::InsufficientBytes) where the message
-    /// ends within a code, a length or the octets of an option, of which those that are there are taken; by
-    /// [`IncorrectRDataLengthRead`](DecodeError::IncorrectRDataLengthRead) of what is taken and the record's length,
-    /// where a code or a length goes past the record's end; by `IncorrectRDataLengthRead` of the record's length and
-    /// the option's, where the option's is greater; as `EdnsOption::try_from`, behind the option's octets.
+    /// # Errors
+    ///
+    /// The first of these that is met, from the front:
+    ///
+    /// - [`InsufficientBytes`](DecodeError::InsufficientBytes): the message ends within a code, a length or the octets
+    ///   of an option. The decoder is then at the end of the message.
+    /// - [`IncorrectRDataLengthRead`](DecodeError::IncorrectRDataLengthRead), with the octets read and RDLENGTH: a code
+    ///   or a length goes past RDLENGTH. With RDLENGTH and the option's length: the option's is greater.
+    /// - What `EdnsOption::try_from` returns. The decoder is then after the option's octets.
     #[inline(always)]
     fn read_data(decoder: &mut BinDecoder<'_>, length: Restrict<u16>) -> Result<OPT, DecodeError> {
         let _start = decoder.index();
@@ -221,9 +230,16 @@ fn emit_pair(
 impl BinEncodable for OPT {
     ghost emits = { λ x r old new. Emits opt_shape (opt_fields x) r old new };
 
-    /// Appends the options in their order, each its code, its length and its octets. An option of more than 65535
-    /// octets and a subnet whose prefix asks for more octets than its address has are refused by
-    /// [`Message`](ProtoError::Message); the options before it may then stand behind the start.
+    /// Appends the options in their order: for each its code, its length and its octets.
+    ///
+    /// # Errors
+    ///
+    /// Options before the one that fails may then be in the encoder.
+    ///
+    /// - [`Message`](ProtoError::Message): an option has more than 65535 octets, or the source prefix of a subnet needs
+    ///   more octets than its address has.
+    /// - [`MaxBufferSizeExceeded`](ProtoError::MaxBufferSizeExceeded): the octets pass the encoder's limit.
+    /// - [`Memory`](ProtoError::Memory): an allocation failed.
     fn emit(&self, encoder: &mut BinEncoder<'_>) -> Result<(), ProtoError> {
         for pair in self.options.as_slice() {
             emit_pair(encoder, pair.0, &pair.1)?;
@@ -241,7 +257,7 @@ impl PartialEq for OPT {
 
     ghost laws = { partial_equiv_from_equiv opt_equiv };
 
-    /// Whether every pair stands equally often in both. Takes no memory; linear in the options that stand in one order.
+    /// Returns whether each pair occurs equally often in both. Allocates nothing. Linear if both have the same order.
     #[inline(never)]
     fn eq(&self, other: &OPT) -> bool
         ensures answer { result ≡ opt_eq self.now other.now }
@@ -289,7 +305,7 @@ impl Ord for OPT {
 
     ghost matches_eq = { opt_ties };
 
-    /// The order of the pairs in rising order, by the first that differs. Takes no memory.
+    /// Compares the sorted lists of pairs, by the first pair that differs. Allocates nothing.
     fn cmp(&self, other: &OPT) -> Ordering {
         sorted_cmp(self.as_ref(), other.as_ref())
     }
@@ -305,7 +321,7 @@ impl Hash for OPT {
     ghost respects_eq = { (on_Alike risen (items_Alike
         (and-Alike (on_Alike (λ (t : Pair). t.0) (record { fed = code_fed })) (on_Alike (λ (t : Pair). t.1) (record { fed = option_fed }))))).fed };
 
-    /// Feeds the number of the pairs, and the pairs in rising order. Takes no memory.
+    /// Feeds the number of pairs and then the pairs, sorted. Allocates nothing.
     fn hash<H: Hasher>(&self, state: &mut H) {
         hash_sorted(self.options.as_slice(), state);
     }
@@ -314,7 +330,7 @@ impl Hash for OPT {
 impl Clone for OPT {
     ghost is_clone = { λ a b. b ≡ a };
 
-    /// The same options in the same order, in memory of their own.
+    /// Copies the options, in the same order.
     #[inline]
     fn clone(&self) -> Result<OPT, AllocError>
         ensures { IfOk result (λ copy. copy ≡ self.now) }

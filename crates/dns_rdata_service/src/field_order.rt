@@ -83,7 +83,7 @@ fn parameters_cmp(a: &[Parameter], b: &[Parameter]) -> Ordering
     a.len().cmp(&b.len())
 }
 
-/// By priority, target and parameters: each by its key's number and variant, its value's variant, and what that holds.
+/// By priority, target and parameters: each by its key's number and variant, its value's variant, and its data.
 #[tactic(auto, using(dns_pieces::proofs::Comparing::then_equal))]
 pub fn svcb_cmp(a: &SVCB, b: &SVCB) -> Ordering
     ensures { result ≡ values_cmp svcb_key_shape (svcb_keys a.now) (svcb_keys b.now) }

@@ -10,7 +10,7 @@ use dns_pieces::order::octets_cmp;
 use dns_rdata_base::{A, AAAA};
 use std::cmp::Ordering;
 
-/// An address of so many octets.
+/// An address of `N` octets.
 pub(crate) trait Address<const N: usize>: Sized {
     /// Its octets.
     ghost octets: { Self → List ℕ };
@@ -38,7 +38,7 @@ impl Address<16> for AAAA {
     }
 }
 
-/// The order of two lists, address by address.
+/// Compares two lists, address by address.
 #[inline]
 pub(crate) fn hints_cmp<const N: usize, T: Address<N>>(a: &[T], b: &[T]) -> Ordering
     requires { (0 < N) × (N ≤ 16) }
@@ -54,7 +54,7 @@ pub(crate) fn hints_cmp<const N: usize, T: Address<N>>(a: &[T], b: &[T]) -> Orde
     a.len().cmp(&b.len())
 }
 
-/// The order of two lists behind their length in octets.
+/// Compares two lists by their length in octets, and then address by address.
 #[inline]
 #[tactic(auto, using(crate::proofs::SvcbFronts::items_first, crate::proofs::SvcbFronts::items_alike, crate::proofs::SvcbFronts::lists_tie, crate::proofs::SvcbFronts::then_ties))]
 pub(crate) fn hints_order<const N: usize, T: Address<N>>(a: &[T], b: &[T]) -> Option<Ordering>
@@ -70,7 +70,7 @@ pub(crate) fn hints_order<const N: usize, T: Address<N>>(a: &[T], b: &[T]) -> Op
     Some(sizes.then(order))
 }
 
-/// How many octets the addresses have, if at most 65535.
+/// Returns how many octets the addresses have, if at most 65535.
 #[inline]
 pub(crate) fn hints_size<const N: usize, T: Address<N>>(addresses: &[T]) -> Option<u16>
     requires { (0 < N) × (N ≤ 16) }

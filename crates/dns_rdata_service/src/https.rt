@@ -13,12 +13,12 @@ use std::alloc::AllocError;
 use std::fmt;
 use std::ops::Deref;
 
-/// How a web service is reached (RFC 9460, 9): the fields of SVCB.
+/// How a web service is reached (RFC 9460, section 9): the fields of SVCB.
 #[derive(Debug, Drop, Eq, Hash, PartialEq)]
 pub struct HTTPS(pub SVCB);
 
 impl HTTPS {
-    /// Sorts the parameters by the numbers of their keys, as `SVCB::sort_params`. Takes no memory.
+    /// Sorts the parameters by the numbers of their keys, as `SVCB::sort_params` does. Allocates nothing.
     #[inline]
     pub fn sort_params(&mut self)
         ensures permutation { IsPermutation self.old.0.svc_params self.new.0.svc_params }
@@ -37,7 +37,7 @@ impl Record for HTTPS {
 }
 
 impl RecordDataDecodable for HTTPS {
-    /// Reads the data of an SVCB, and is refused as that.
+    /// Reads the fields of an SVCB. The errors are those of `SVCB`.
     #[inline]
     fn read_data(
         decoder: &mut BinDecoder<'_>,
@@ -50,12 +50,12 @@ impl RecordDataDecodable for HTTPS {
 impl EncodesFields for HTTPS {
     ghost use Rattle.dns_fields.specs.declared.RDataEncoding.TheVariants as modes;
 
-    /// The target is written whole, its letters kept.
+    /// The target name is written uncompressed, its case preserved.
     const MODE: RDataEncoding = RDataEncoding::Other;
 
     ghost MODE = { modes.Other };
 
-    /// Appends the fields of the SVCB, and is refused as that.
+    /// Appends the fields of the SVCB. The errors are those of `SVCB`.
     #[inline]
     fn emit_fields(&self, encoder: &mut BinEncoder<'_>) -> Result<(), ProtoError> {
         self.0.emit_fields(encoder)
@@ -77,7 +77,7 @@ impl Deref for HTTPS {
 impl Clone for HTTPS {
     ghost is_clone = { λ a b. b ≡ a };
 
-    /// The same SVCB in memory of its own.
+    /// Copies the record.
     #[inline]
     fn clone(&self) -> Result<HTTPS, AllocError>
         ensures { IfOk result (λ copy. copy ≡ self.now) }
@@ -92,7 +92,7 @@ impl fmt::Display for HTTPS {
 
     ghost output = { λ x. Some (https_text x) };
 
-    /// The text of the SVCB.
+    /// Writes the text of the SVCB.
     fn fmt<W: fmt::Write>(&self, f: &mut fmt::Formatter<W>) -> fmt::Result {
         let svcb = &self.0;
         write!(f, "{svcb}")

@@ -11,9 +11,9 @@ use std::marker::Model;
 use std::ops::DerefSlice;
 use std::{slice, vec};
 
-/// Values that a value owns, which contracts see as their list.
+/// The values of a list, which contracts see as that list.
 ///
-/// They have the methods of a slice, as `iter`, `get` and `first`, and an index.
+/// They have the methods of a slice, such as `iter`, `get` and `first`, and can be indexed.
 #[derive(Debug, Drop)]
 pub struct Items<T> {
     items: Vec<T>,
@@ -28,7 +28,7 @@ impl<T> Model for Items<T> {
 }
 
 impl<T> Items<T> {
-    /// No values. Takes no memory.
+    /// Makes an empty list. Allocates nothing.
     #[inline]
     pub fn new(alloc: Global) -> Items<T>
         ensures { result ≡ [] }
@@ -38,7 +38,7 @@ impl<T> Items<T> {
         }
     }
 
-    /// No values, and memory for so many. Fails only for want of memory.
+    /// Makes an empty list with room for `capacity` values. Fails only if an allocation fails.
     #[inline]
     pub fn with_capacity(alloc: Global, capacity: usize) -> Result<Items<T>, AllocError>
         ensures { IfOk result (λ o. o ≡ []) }
@@ -48,7 +48,7 @@ impl<T> Items<T> {
         })
     }
 
-    /// The values of the list, which is moved.
+    /// Makes a list of these values. Allocates nothing.
     #[inline]
     pub fn from_vec(items: Vec<T>) -> Items<T>
         ensures { result ≡ items.items }
@@ -56,7 +56,7 @@ impl<T> Items<T> {
         Items { items }
     }
 
-    /// The values as a list. They are moved.
+    /// Returns the values as a `Vec`. Allocates nothing.
     #[inline]
     pub fn into_vec(self) -> Vec<T>
         ensures { result.items ≡ self }
@@ -65,7 +65,7 @@ impl<T> Items<T> {
         items
     }
 
-    /// The values, lent.
+    /// The values as a slice.
     #[inline]
     pub fn as_slice(&self) -> &[T]
         ensures { result.now ≡ self.now }
@@ -73,7 +73,7 @@ impl<T> Items<T> {
         self.items.as_slice()
     }
 
-    /// How many values there are.
+    /// Returns how many values there are.
     #[inline]
     pub fn len(&self) -> usize
         ensures { result ≡ length self.now }
@@ -81,7 +81,7 @@ impl<T> Items<T> {
         self.items.len()
     }
 
-    /// Whether there are none.
+    /// Returns whether there are none.
     #[inline]
     pub fn is_empty(&self) -> bool
         ensures { IsTrue result ↔ (self.now ≡ []) }
@@ -89,7 +89,7 @@ impl<T> Items<T> {
         self.items.is_empty()
     }
 
-    /// The allocator of the list.
+    /// Returns the allocator of the list.
     #[inline]
     pub fn allocator(&self) -> Global {
         *self.items.allocator()
@@ -97,7 +97,7 @@ impl<T> Items<T> {
 }
 
 impl<T: Drop> Items<T> {
-    /// Sees to memory for so many values more. Fails only for want of memory.
+    /// Makes room for `additional` further values. Fails only if an allocation fails.
     #[inline]
     pub fn reserve(&mut self, more: usize) -> Result<(), AllocError>
         ensures { self.new ≡ self.old }
@@ -105,8 +105,7 @@ impl<T: Drop> Items<T> {
         self.items.reserve(more)
     }
 
-    /// Puts the value behind the others. Fails only for want of memory; the others then stand as they were, and the
-    /// value is dropped.
+    /// Appends the value. Fails only if an allocation fails; the list is unchanged then, and the value is dropped.
     #[inline]
     pub fn push(&mut self, value: T) -> Result<(), AllocError>
         ensures ok { OnOk result (self.new ≡ self.old ++ value ∷ []) }
@@ -118,7 +117,7 @@ impl<T: Drop> Items<T> {
 }
 
 impl<T: PartialEq> Items<T> {
-    /// Whether these are the values of the slice, one by one.
+    /// Returns whether these are the values of the slice, one by one.
     #[inline]
     pub fn eq_slice(&self, values: &[T]) -> bool
         ensures { result ≡ pointwise T.eq self.now values.now }
@@ -150,14 +149,14 @@ impl<T> DerefSlice for Items<T> {
 
     ghost deref_gives = { λ items values. values ≡ items };
 
-    /// The values, lent: what the methods of a slice and an index go through.
+    /// The values as a slice, on which the methods of slices and indexing work.
     #[inline]
     fn deref(&self) -> &[T] {
         self.as_slice()
     }
 }
 
-/// The values in their order.
+/// Iterates over the values in order.
 impl<'a, T> IntoIterator for &'a Items<T> {
     type Item = &'a T;
 
@@ -171,7 +170,7 @@ impl<'a, T> IntoIterator for &'a Items<T> {
     }
 }
 
-/// The values in their order. They are moved.
+/// Iterates over the values in order, by value.
 impl<T: Drop> IntoIterator for Items<T> {
     type Item = T;
 
@@ -232,7 +231,7 @@ impl<T: Hash> Hash for Items<T> {
 impl<T: Clone> Clone for Items<T> {
     ghost is_clone = { AllZip T.is_clone };
 
-    /// Clones of the values, in memory that is asked for once beside theirs.
+    /// Clones the values. Allocates once, besides what cloning each value allocates.
     #[inline]
     fn clone(&self) -> Result<Items<T>, AllocError> {
         Ok(Items {

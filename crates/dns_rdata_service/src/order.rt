@@ -32,7 +32,7 @@ impl OrderedRecord for HTTPS {
 }
 
 impl OrderedRecord for SVCB {
-    /// It is found where the first parameters that differ decide it, or where none differ.
+    /// The order is known if the first parameters that differ decide it, or if none differ.
     #[inline]
     fn quick_cmp(&self, other: &SVCB) -> Option<Ordering> {
         let (order, alike) = svcb_front(self, other);
@@ -64,8 +64,8 @@ fn is_all(a: &SVCB, b: &SVCB, count: usize) -> bool
         && a.target_name.is_fqdn() == b.target_name.is_fqdn()
 }
 
-/// The order of two service bindings by priority, target and the parameters in front of a place, and that place. It is
-/// `Equal` where all in front of the place is alike; then the parameters from the place on decide.
+/// Compares two service bindings by priority, target and the parameters before an index, and returns that index too.
+/// The order is `Equal` if all before the index is the same; then the parameters from the index on decide.
 #[tactic(auto, using(crate::proofs::SvcbFronts::parameters_behind, crate::proofs::SvcbFronts::ne_no, crate::proofs::SvcbFronts::all_alike, crate::proofs::SvcbFronts::none_behind, crate::proofs::SvcbFronts::ne_yes))]
 pub fn svcb_front(a: &SVCB, b: &SVCB) -> (Ordering, usize)
     ensures order { canonical_cmp svcb_shape (svcb_fields a.now) (svcb_fields b.now) ≡ ordering_then result.0 (slice_cmp nat_cmp (parameters_from a.now.svc_params result.1) (parameters_from b.now.svc_params result.1)) }

@@ -24,7 +24,8 @@ fn keys_size(keys: &[SvcParamKey]) -> Option<u16>
     Some((2 * keys.len()) as u16)
 }
 
-/// How many octets the names have with their lengths, if there are any, each of at most 255 octets, and at most 65535.
+/// Returns how many octets the names have with their lengths, if that is at most 65535, there are any, and each has at
+/// most 255 octets.
 pub(crate) fn names_size(names: &[SmallOctets<16>]) -> Option<u16>
     ensures { IsSizeOf (Names names.now) result }
 {
@@ -42,7 +43,7 @@ pub(crate) fn names_size(names: &[SmallOctets<16>]) -> Option<u16>
     if size == 0 { None } else { Some(size as u16) }
 }
 
-/// How many octets there are, if at most 65535.
+/// Returns how many octets there are, if at most 65535.
 #[inline]
 pub(crate) fn octets_size(octets: &[u8]) -> Option<u16>
     ensures { IsSizeOf (Opaque octets.now) result }
@@ -201,8 +202,8 @@ fn parameter_step<'a>(
     }
 }
 
-/// Priority and target, and then each parameter: its key, its length and what stands in one piece, and the items of its
-/// value.
+/// Priority and target, and then each parameter: its key, its length and the part of its value that is one run of
+/// octets, and then the items of its value.
 pub fn svcb_step<'a>(
     x: &'a SVCB,
     step: usize,
@@ -224,7 +225,7 @@ pub fn svcb_step<'a>(
     }
 }
 
-/// As SVCB.
+/// As for SVCB.
 #[inline]
 pub fn https_step<'a>(
     x: &'a HTTPS,
@@ -268,8 +269,8 @@ fn keys_rise(parameters: &[Parameter]) -> bool
     true
 }
 
-/// Whether the keys rise, and each value can be emitted: there are keys and protocols where these are the value, no
-/// protocol has more than 255 octets, and no value more than 65535.
+/// Returns whether the keys strictly rise and each value can be emitted: lists of keys and of protocols are not empty,
+/// no protocol has more than 255 octets, and no value more than 65535.
 pub fn svcb_is_emittable(x: &SVCB) -> bool
     ensures { result ≡ parameters_emittable (map parameter_of x.now.svc_params) }
 {

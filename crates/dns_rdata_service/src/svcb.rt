@@ -40,8 +40,15 @@ pub use value::SvcParamValue;
 // A key and its value.
 pub(crate) type Parameter = (SvcParamKey, SvcParamValue);
 
-/// How a service is reached (RFC 9460, 2.2): a priority in two octets, the name of a target, and then parameters to the
-/// end of the record's length, each a key and a length of two octets and so many octets, with keys that strictly rise.
+/// How a service is reached (RFC 9460, section 2.2).
+///
+/// ```text
+/// +--+--+--+--+  +-- .. --+  +--+--+--+--+  +--+--+--+--+  +-- ..
+/// |SvcPriority|  |  Target|  |SvcParamKey|  | length    |  | SvcParamValue   .. and so on, to the end of RDLENGTH
+/// +--+--+--+--+  +-- .. --+  +--+--+--+--+  +--+--+--+--+  +-- ..
+/// ```
+///
+/// Priority, key and length have two octets each; the target is an uncompressed name; the keys strictly rise.
 ///
 /// ```rust
 /// fn port_of(service: &SVCB) -> Option<u16> {
@@ -53,16 +60,16 @@ pub(crate) type Parameter = (SvcParamKey, SvcParamValue);
 /// ```
 #[derive(Debug, Drop)]
 pub struct SVCB {
-    /// 0 for an alias of the target, else how much others are to be tried first.
+    /// 0 for an alias of the target. Otherwise lower values are tried first.
     pub svc_priority: u16,
-    /// The target's name; the root stands for the record's own.
+    /// The target name. The root means the record's owner name.
     pub target_name: Name,
     /// The parameters, in the order of the message.
     pub svc_params: Items<(SvcParamKey, SvcParamValue)>,
 }
 
 impl SVCB {
-    /// With these fields, which are moved; the parameters in this order.
+    /// Makes a record of these fields, with the parameters in this order. Allocates nothing.
     pub fn new(
         svc_priority: u16,
         target_name: Name,
@@ -79,7 +86,7 @@ impl SVCB {
         }
     }
 
-    /// The value of the first parameter with this key's number, if there is one. Keys are told by their numbers alone.
+    /// Returns the value of the first parameter with this key, or `None`. Keys are compared by number alone.
     #[inline]
     pub fn get(&self, key: SvcParamKey) -> Option<&SvcParamValue>
         ensures { option_copied result ≡ value_at (key_number key) self.now.svc_params }
@@ -93,9 +100,8 @@ impl SVCB {
         None
     }
 
-    /// Sorts the parameters by the numbers of their keys, as they are to stand in a message (RFC 9460, 2.2). Takes no
-    /// memory. Up to 20 parameters stay in their order where their numbers are the same; a record with such parameters
-    /// is refused by `emit`.
+    /// Sorts the parameters by the numbers of their keys, as a message must have them (RFC 9460, section 2.2).
+    /// Allocates nothing. If a number occurs twice, `emit` returns an error; up to 20 parameters then keep their order.
     pub fn sort_params(&mut self)
         ensures permutation { IsPermutation self.old.svc_params self.new.svc_params }
         ensures order { IsNonDecreasingBy number_of_parameter self.new.svc_params }
@@ -117,14 +123,18 @@ impl Record for SVCB {
 }
 
 impl RecordDataDecodable for SVCB {
-    /// Reads priority and target, and then parameters while at least four octets of the length are left; one to three
-    /// stay untaken. Memory is asked for once for the list, and for what the values hold.
+    /// Reads priority and target, and then parameters while at least four octets of RDLENGTH are left. One to three
+    /// octets that are left over are not read. Allocates once for the list, and for what the values hold.
     ///
-    /// Where priority and target, or all up to the end of a parameter, pass the length, it is refused by
-    /// [`IncorrectRDataLengthRead`](DecodeError::IncorrectRDataLengthRead) of their octets and the length; where fewer
-    /// octets are left in the message than a value's length, by that of these two; where a key is not above the one
-    /// before, behind its value, by [`SvcParamsOutOfOrder`](DecodeError::SvcParamsOutOfOrder); and where a value's
-    /// octets are none of its key, as the value's `read` refuses them.
+    /// # Errors
+    ///
+    /// - [`IncorrectRDataLengthRead`](DecodeError::IncorrectRDataLengthRead), with the octets read and RDLENGTH:
+    ///   priority and target, or everything up to the end of a parameter, go past RDLENGTH. With the octets left in the
+    ///   message and the value's length: the message ends first.
+    /// - [`SvcParamsOutOfOrder`](DecodeError::SvcParamsOutOfOrder): a key is not greater than the one before. The
+    ///   decoder is then after its value.
+    /// - What reading the priority or the target name returns, and what the value's own `read` returns if its octets do
+    ///   not fit its key.
     #[inline(always)]
     fn read_data(decoder: &mut BinDecoder<'_>, length: Restrict<u16>) -> Result<SVCB, DecodeError> {
         let start = decoder.index();
@@ -147,7 +157,7 @@ impl RecordDataDecodable for SVCB {
 impl EncodesFields for SVCB {
     ghost use Rattle.dns_fields.specs.declared.RDataEncoding.TheVariants as modes;
 
-    /// The target is written whole, its letters kept.
+    /// The target name is written uncompressed, its case preserved.
     const MODE: RDataEncoding = RDataEncoding::Other;
 
     ghost MODE = { modes.Other };
@@ -156,8 +166,8 @@ impl EncodesFields for SVCB {
     ///
     /// # Errors
     ///
-    /// - [`Message`](ProtoError::Message): keys do not strictly rise; there are no mandatory keys, or no protocols; or a
-    ///   protocol has more than 255 octets.
+    /// - [`Message`](ProtoError::Message): keys do not strictly rise; there are no mandatory keys, or no protocols; or
+    ///   a protocol has more than 255 octets.
     /// - [`MaxBufferSizeExceeded`](ProtoError::MaxBufferSizeExceeded): the octets pass the encoder's limit, as those of
     ///   a value of more than 65535 octets always do.
     /// - [`Memory`](ProtoError::Memory): an allocation failed.
@@ -243,7 +253,7 @@ impl Hash for SVCB {
 impl Clone for SVCB {
     ghost is_clone = { λ a b. b ≡ a };
 
-    /// The same fields in memory of their own.
+    /// Copies the record.
     #[inline(always)]
     fn clone(&self) -> Result<SVCB, AllocError>
         ensures { IfOk result (λ copy. copy ≡ self.now) }
@@ -262,7 +272,7 @@ impl fmt::Display for SVCB {
 
     ghost output = { λ x. Some (svcb_text x) };
 
-    /// Priority and target, a blank between, and for each parameter a blank, the key, an equals sign and the value:
+    /// Writes priority, a space and the target, and for each parameter a space, the key, an equals sign and the value:
     /// `1 . alpn=h2, port=443`.
     fn fmt<W: fmt::Write>(&self, f: &mut fmt::Formatter<W>) -> fmt::Result {
         write!(f, "{} {}", self.svc_priority, self.target_name)?;

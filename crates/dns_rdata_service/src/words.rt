@@ -35,21 +35,26 @@ fn all_parameters<S: AsStr + Drop, I: Iterator<Item = S>>(
 }
 
 impl SVCB {
-    /// From two words and more: priority, a decimal number of 16 bits; target, the text of a name, relative where it
-    /// has no dot at its end; and in every further word a parameter, in the order of the words. Keys may stand in any
-    /// order and repeatedly; `emit` refuses a value whose keys do not rise, and `sort_params` puts them in order.
+    /// Reads a record from its tokens: the priority, a decimal number of 16 bits; the target, a name, which is relative
+    /// if it does not end with a dot; and then one parameter in each token. Keys may come in any order, and repeatedly:
+    /// `sort_params` puts them in order, and `emit` returns an error if they do not strictly rise.
     ///
     /// A parameter is a key, and perhaps a `=` and a value; the first `=` divides them. The key is a text of
-    /// [`SvcParamKey`]. Quotes round the value are dropped; one quote alone is refused. What is left is, for
-    /// `mandatory`, `alpn`, `ipv4hint` and `ipv6hint`, a list of keys, names and addresses; for `port` a decimal number
-    /// of 16 bits; for `ech` base64 (RFC 4648, 4); for `dohpath` a path (RFC 9461, 5); for a `key` with a number its
-    /// octets, and without a `=` none. `no-default-alpn` has no value, and no `=`.
+    /// [`SvcParamKey`]. Quotes around the value are dropped; a single quote alone is an error. The rest is, for
+    /// `mandatory`, `alpn`, `ipv4hint` and `ipv6hint`, a list of keys, names or addresses; for `port` a decimal number
+    /// of 16 bits; for `ech` base64 (RFC 4648, section 4); for `dohpath` a path (RFC 9461, section 5); for `key` with a
+    /// number its octets, which are none without a `=`. `no-default-alpn` has no value and no `=`.
     ///
-    /// Refused by [`MissingToken`](ParseError::MissingToken) where a word is missing; by
-    /// [`Message`](ParseError::Message) for a number, and for a parameter whose value is missing, not there to be had,
-    /// no number or no base64, which the text names by its key; by [`AddrParse`](ParseError::AddrParse) for a hint that
-    /// is no address; by [`Proto`](ParseError::Proto) for a name or a key that is none; or by
-    /// [`Memory`](ParseError::Memory). The caller owes an iterator that ends.
+    /// The iterator must end.
+    ///
+    /// # Errors
+    ///
+    /// - [`MissingToken`](ParseError::MissingToken): there is no priority or no target.
+    /// - [`Message`](ParseError::Message): the priority is not a number; or a parameter's value is missing, may not be
+    ///   there, or is not a number or not base64. The text names the parameter by its key.
+    /// - [`AddrParse`](ParseError::AddrParse): a hint is not an address.
+    /// - [`Proto`](ParseError::Proto): the target is not a name, or the text of a key is not one.
+    /// - [`Memory`](ParseError::Memory): an allocation failed.
     #[tactic(auto, using(dns_words::proofs::Steps::reading))]
     pub fn from_tokens<S: AsStr + Drop, I: Iterator<Item = S>>(
         alloc: Global,
@@ -72,7 +77,7 @@ impl SVCB {
 }
 
 impl HTTPS {
-    /// From the words of an SVCB, and refused as that.
+    /// Reads the tokens of an SVCB. The errors are those of `SVCB`.
     pub fn from_tokens<S: AsStr + Drop, I: Iterator<Item = S>>(
         alloc: Global,
         tokens: I,

@@ -11,14 +11,14 @@ use dns_rdata_certs::hexadecimal::Hexadecimal;
 use std::fmt;
 
 /// Octets in the form of unknown record data (RFC 3597, section 5): `\#`, their number, and their hexadecimal digits in
-/// lower case, in tokens of at most 1,020 characters, with a blank between. Allocates nothing.
+/// lower case, in tokens of at most 1,020 characters with a space between. Allocates nothing.
 #[derive(Clone, Copy)]
 pub struct Generic<'a>(pub &'a [u8]);
 
 impl fmt::Display for Generic<'_> {
     ghost output = { λ g. Some (generic g.0.now) };
 
-    /// `\# 3 0a000a`, and `\# 0` for none.
+    /// Writes `\# 3 0a000a`, and `\# 0` if there are none.
     fn fmt<W: fmt::Write>(&self, f: &mut fmt::Formatter<W>) -> fmt::Result {
         let octets = self.0;
         let count = octets.len();
@@ -30,7 +30,7 @@ impl fmt::Display for Generic<'_> {
     }
 }
 
-/// A name's octets in hexadecimal, uncompressed, with its letters.
+/// A name's octets in hexadecimal, uncompressed, its case preserved.
 #[derive(Clone, Copy)]
 pub(crate) struct NameDigits<'a>(pub &'a Name);
 
@@ -49,7 +49,7 @@ impl fmt::Display for NameDigits<'_> {
     }
 }
 
-/// A name as data without a form of its own.
+/// A name in the form of unknown data.
 #[derive(Clone, Copy)]
 pub(crate) struct GenericName<'a>(pub &'a Name);
 

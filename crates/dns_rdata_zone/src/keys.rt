@@ -9,7 +9,7 @@ use dns_pieces::Head;
 use dns_rdata::{CERT, OPENPGPKEY, SSHFP, TLSA};
 use std::fmt;
 
-/// CERT: numbers in decimal, and base64; where there is no certificate, the form of unknown data.
+/// CERT: numbers in decimal, and base64; without a certificate the form of unknown data.
 #[derive(Clone, Copy)]
 pub(crate) struct ZoneCert<'a>(pub &'a CERT);
 

@@ -6,7 +6,7 @@ ghost use Rattle.dns_rdata_zone.specs.Lists.{commas};
 
 use std::fmt;
 
-/// What is an item of a list.
+/// An item of a list.
 pub(crate) trait ListItem {
     /// Its text.
     ghost item_text: { Self → List ℕ };
@@ -16,7 +16,7 @@ pub(crate) trait ListItem {
         ensures writes { DisplaysOnOk W.write_str_gives f.old result (Some (item_text self.now)) f.new };
 }
 
-/// Items, a comma in front of each.
+/// Items, with a comma before each.
 #[derive(Clone, Copy)]
 struct Further<'a, T>(&'a [T]);
 
@@ -33,7 +33,7 @@ impl<T: ListItem> fmt::Display for Further<'_, T> {
     }
 }
 
-/// Items, a comma between two.
+/// Items, with a comma between two.
 #[derive(Clone, Copy)]
 pub(crate) struct Commas<'a, T>(pub &'a [T]);
 

@@ -19,21 +19,21 @@ const SURPLUS: &str = "surplus word behind the record data";
 
 /// The domain name that a text of a zone file is (RFC 1035, section 5.1).
 ///
-/// The text is one token without quotes. `@` alone is the origin and `.` the root. Labels are joined by dots; `\DDD` is the
-/// octet of that number and `\X` the character X, also a dot within a label. If no dot ends the text, the origin's labels
-/// follow. If there is no origin either, the labels stand as they are. The result is fully qualified in each case, as in
+/// The text is one token without quotes. `@` alone is the origin and `.` the root. Labels are joined by dots; `\DDD` is
+/// the octet of that number and `\X` the character X, even a dot within a label. If no dot ends the text, the origin's
+/// labels follow; without an origin none do. The result is fully qualified in each case, as in
 /// [`from_zone_text`](crate::from_zone_text); [`Name::parse`] leaves such a name relative, and reads `@` as a label.
 ///
 /// # Errors
 ///
 /// - [`MissingToken`](ParseError::MissingToken): the text has no token.
-/// - [`Message`](ParseError::Message): the text is not cut into tokens, there is a second token, or the token is no name:
-///   it is in quotes, is `@` without an origin, has a `\` without a meaning, an empty label, a label of more than 63
-///   octets, or has more than 255 octets in all.
+/// - [`Message`](ParseError::Message): the text cannot be divided into tokens, there is a second token, or the token is
+///   no name: it is in quotes, is `@` without an origin, has a `\` that escapes nothing, an empty label, a label of
+///   more than 63 octets, or has more than 255 octets in all.
 /// - [`Memory`](ParseError::Memory): an allocation fails.
 ///
-/// With the origin `example.com.` the text `mail` is `mail.example.com.`, `mail.` is `mail.`, and `a\.b` is one label and the
-/// origin.
+/// With the origin `example.com.` the text `mail` is `mail.example.com.`, `mail.` is `mail.`, and `a\.b` is one label
+/// and the origin.
 pub fn name_from_zone_text(
     alloc: Global,
     text: &[u8],

@@ -8,8 +8,8 @@ use crate::spelling::{Spelled, Spelling, write_digits, write_escaped};
 use dns_rdata::Name;
 use std::fmt;
 
-/// In a label what has a meaning of its own in a zone file stands behind a `\`, any other graphic character of ASCII for
-/// itself, and any other octet is `\` and three digits.
+/// Within a label: characters with a meaning in zone files are escaped by a `\`, other graphic characters of ASCII are
+/// written as they are, and any other octet is `\` and three digits.
 #[derive(Clone, Copy)]
 struct InName;
 
@@ -44,7 +44,7 @@ impl Spelling for InName {
     }
 }
 
-/// A label, and the dot behind it.
+/// A label, and the dot after it.
 #[derive(Clone, Copy)]
 struct ZoneLabel<'a>(&'a [u8]);
 
@@ -57,7 +57,7 @@ impl fmt::Display for ZoneLabel<'_> {
     }
 }
 
-/// Labels, a dot behind each.
+/// Labels, with a dot after each.
 #[derive(Clone, Copy)]
 struct ZoneLabels<'a>(&'a Name);
 
@@ -74,16 +74,17 @@ impl fmt::Display for ZoneLabels<'_> {
     }
 }
 
-/// A domain name as a zone file has it: fully qualified as it is emitted, whatever its mark, a dot behind each label;
-/// the root is a dot (RFC 1035, 5.1). The characters `"`, `$`, `(`, `)`, `.`, `;`, `@` and `\` of a label stand behind a
-/// `\`, and what is no graphic character of ASCII is `\` and three digits. Takes no memory.
+/// A domain name as a zone file has it, with a dot after each label; the root is a dot (RFC 1035, section 5.1). It is
+/// written as fully qualified even if it is not marked so. In a label the characters `"`, `$`, `(`, `)`, `.`, `;`, `@`
+/// and `\` are escaped by a `\`, and what is not a graphic character of ASCII is `\` and three digits. Allocates
+/// nothing.
 #[derive(Clone, Copy)]
 pub struct ZoneName<'a>(pub &'a Name);
 
 impl fmt::Display for ZoneName<'_> {
     ghost output = { λ n. Some (zone_name n.0.now) };
 
-    /// `host.example.`.
+    /// Writes `host.example.`.
     fn fmt<W: fmt::Write>(&self, f: &mut fmt::Formatter<W>) -> fmt::Result {
         if self.0.iter().next().is_none() {
             return f.write_str(".");

@@ -88,7 +88,7 @@ impl fmt::Display for SubnetDigits<'_> {
     }
 }
 
-/// What an option holds, in hexadecimal.
+/// The data of an option in hexadecimal.
 #[derive(Clone, Copy)]
 struct ValueDigits<'a>(&'a EdnsOption, usize);
 
@@ -111,7 +111,7 @@ impl fmt::Display for ValueDigits<'_> {
     }
 }
 
-/// Code, length and octets of an option, in hexadecimal.
+/// Code, length and data of an option in hexadecimal.
 #[derive(Clone, Copy)]
 struct OptionDigits<'a>(&'a (EdnsCode, EdnsOption), usize);
 
@@ -134,7 +134,7 @@ impl fmt::Display for OptionDigits<'_> {
     }
 }
 
-/// The options in their order, in hexadecimal.
+/// Options in their order, in hexadecimal.
 #[derive(Clone, Copy)]
 struct OptionsDigits<'a>(&'a [(EdnsCode, EdnsOption)]);
 
@@ -171,7 +171,7 @@ fn count_octets(pairs: &[(EdnsCode, EdnsOption)]) -> Option<u64>
     Some(count)
 }
 
-/// Options in their order, as data without a form of its own.
+/// Options in their order, in the form of unknown data.
 #[derive(Clone, Copy)]
 pub(crate) struct ZoneOptions<'a>(pub &'a OPT);
 

@@ -15,8 +15,8 @@ use dns_rdata::{A, AAAA, SmallOctets};
 use dns_words::Base64Text;
 use std::fmt;
 
-/// The name of a key, by its number alone: `key` and the number where it has no name of its own, and of key 7, whose name
-/// readers from before RFC 9461 do not know.
+/// The name of a key, by its number alone: `key` and the number if it has no name, and for key 7 too, since readers
+/// from before RFC 9461 do not know its name.
 #[derive(Clone, Copy)]
 struct KeyName(u16);
 
@@ -37,8 +37,8 @@ impl fmt::Display for KeyName {
     }
 }
 
-/// In a list `,` and `\` stand behind a `\` (appendix A.1), and in the string in quotes that the list is each `\` of that
-/// behind another.
+/// In a list `,` and `\` are escaped by a `\` (RFC 9460, appendix A.1), and each `\` of that once more in the quoted
+/// string that the list is.
 #[derive(Clone, Copy)]
 struct InList;
 
@@ -91,7 +91,7 @@ impl ListItem for AAAA {
     }
 }
 
-/// What stands behind a key: an equals sign and the value, or nothing.
+/// What follows a key: an equals sign and the value, or nothing.
 #[derive(Clone, Copy)]
 struct ZoneValue<'a>(&'a SvcParamValue);
 
@@ -137,17 +137,17 @@ impl fmt::Display for ZoneValue<'_> {
     }
 }
 
-/// A service parameter (RFC 9460, 2.1): the key's name, and where there is a value `=` and the value, in quotes where it
-/// is a list of protocols, base64, a path, or of a key without a form of its own. Takes no memory.
+/// A service parameter as a zone file has it (RFC 9460, section 2.1): the key's name and, if there is a value, `=` and
+/// the value. Lists of protocols, base64, paths and values of keys without a format are in quotes. Allocates nothing.
 ///
-/// It is a text that name servers read where [`has_text`] holds.
+/// Name servers read this text if [`has_text`] returns `true`.
 #[derive(Clone, Copy)]
 pub struct ZoneParameter<'a>(pub &'a (SvcParamKey, SvcParamValue));
 
 impl fmt::Display for ZoneParameter<'_> {
     ghost output = { λ p. Some (zone_parameter p.0.now) };
 
-    /// `alpn="h2,h3"`, `port=443`, `key667="hello"`.
+    /// Writes `alpn="h2,h3"`, `port=443`, `key667="hello"`.
     fn fmt<W: fmt::Write>(&self, f: &mut fmt::Formatter<W>) -> fmt::Result {
         let key = KeyName(self.0.0.number());
         let value = ZoneValue(&self.0.1);
@@ -177,9 +177,9 @@ fn are_some(names: &[SmallOctets<16>]) -> bool
     names.iter().all(|name| name.len() != 0)
 }
 
-/// Whether the parameter has a text: its value is of the form of its key, and not one that no text has. No text has a value
-/// without addresses, an empty configuration or path, the empty name of a protocol, mandatory keys that do not strictly
-/// rise from above 0, or the key 65535.
+/// Returns whether the parameter has a text: its value is the variant of its key, and none of these, which no text can
+/// give: no addresses, an empty ECHConfigList or path, an empty protocol name, mandatory keys that do not strictly rise
+/// or have a 0, and the key 65535.
 pub fn has_text(parameter: &(SvcParamKey, SvcParamValue)) -> bool
     ensures { result ≡ has_text parameter.now }
 {
@@ -197,7 +197,7 @@ pub fn has_text(parameter: &(SvcParamKey, SvcParamValue)) -> bool
     }
 }
 
-/// Whether each parameter has a text.
+/// Returns whether each parameter has a text.
 pub(crate) fn have_text(parameters: &[(SvcParamKey, SvcParamValue)]) -> bool
     ensures { result ≡ list_all has_text parameters.now }
 {

@@ -21,29 +21,29 @@ const TOO_LONG: &str = "record data past 65535 octets";
 
 const POINTER: &str = "pointer in a domain name of unknown data";
 
-/// Reads the RDATA of a type from its text in a zone file (RFC 1035, section 5.1; RFC 3597, section 5; RFC 9460, section
-/// 2.1; the RFCs of the types).
+/// Reads the RDATA of a type from its text in a zone file (RFC 1035, section 5.1; RFC 3597, section 5; RFC 9460,
+/// section 2.1; the RFCs of the types).
 ///
-/// The text is the RDATA of one record, as it follows the type. It is octets, and need not be UTF-8: an octet stands for
-/// itself, `\DDD` for the octet of that number, `\X` for the character X. Tokens, parentheses, comments and line ends are
+/// The text is the RDATA of one record, as it follows the type. It is octets and need not be UTF-8: `\DDD` is the octet
+/// of that number, `\X` the character X, and any other octet is itself. Tokens, parentheses, comments and line ends are
 /// as [`ZoneWords`](dns_zone_words::ZoneWords) has them; each type has the fields of its row
 /// ([`row_of`](dns_zone_rows::row_of)).
 ///
-/// - `@` alone is the origin, and a name without a dot at its end is completed with the origin. If there is no origin, such
-///   a name is fully qualified as it stands ([`Name::parse`] leaves it relative), and `@` is an error.
+/// - `@` alone is the origin, and a name without a dot at its end is completed with the origin. If there is no origin,
+///   such a name counts as fully qualified ([`Name::parse`] leaves it relative), and `@` is an error.
 /// - Service parameters may come in any order, none twice.
-/// - `\#` without quotes in front begins the form of unknown data, which every type has: a length, and as many octets in
-///   hexadecimal digits. They are read as by [`RData::read`], and a name among them has no compression pointer.
+/// - `\#` without quotes in front begins the form of unknown data, which every type has: a length, and as many octets
+///   in hexadecimal digits. They are read as by [`RData::read`], and a name among them has no compression pointer.
 ///
 /// # Errors
 ///
 /// - [`MissingToken`](ParseError::MissingToken): a token is missing; the text names its field.
-/// - [`Message`](ParseError::Message): the text is not cut into tokens, the first field at fault has no such value, there is
-///   a token too many, the form of unknown data is not kept, or there are more than 65535 octets. The text names the field
-///   or says the cause.
-/// - [`Proto`](ParseError::Proto): the octets are no RDATA of the type.
-/// - [`UnsupportedRecordType`](ParseError::UnsupportedRecordType): the type has no row, and the text is not in the form of
-///   unknown data. `\#`, a length and octets are read for every type.
+/// - [`Message`](ParseError::Message): the text cannot be divided into tokens, a token is no value of its field, there
+///   is a token too many, the form of unknown data is malformed, or there are more than 65535 octets. The text names
+///   the field or the cause.
+/// - [`Proto`](ParseError::Proto): the octets are not RDATA of the type.
+/// - [`UnsupportedRecordType`](ParseError::UnsupportedRecordType): the type has no row, and the text is not in the form
+///   of unknown data. `\#`, a length and octets are read for every type.
 /// - [`Memory`](ParseError::Memory): an allocation fails.
 ///
 /// ```rust

@@ -26,7 +26,7 @@ impl fmt::Display for ZoneHinfo<'_> {
     }
 }
 
-/// TXT: strings; where there are none, the form of unknown data.
+/// TXT: strings; without any the form of unknown data.
 #[derive(Clone, Copy)]
 pub(crate) struct ZoneTxt<'a>(pub &'a TXT);
 
@@ -95,7 +95,7 @@ fn has_plain_tag(x: &CAA) -> bool
     x.tag.len() != 0 && are_alphanumeric(x.tag.as_slice())
 }
 
-/// CAA: flags, tag and value; where the tag is no word of letters and digits, the form of unknown data.
+/// CAA: flags, tag and value; if the tag has other octets than letters and digits, the form of unknown data.
 #[derive(Clone, Copy)]
 pub(crate) struct ZoneCaa<'a>(pub &'a CAA);
 
@@ -130,7 +130,7 @@ impl fmt::Display for ZoneCaa<'_> {
     }
 }
 
-/// A type as zone files have it: those without a mnemonic of their own there by their number (RFC 3597, 5).
+/// A type as zone files have it: without a mnemonic by its number (RFC 3597, section 5).
 #[derive(Clone, Copy)]
 pub(crate) struct ZoneType(pub RecordType);
 

@@ -36,8 +36,7 @@ impl fmt::Display for ServiceText<'_> {
     }
 }
 
-/// Writes a service binding of which `rdata` is the value: its text, or where a parameter has none, the form of unknown
-/// data.
+/// Writes the service binding that `rdata` is: its text, or the form of unknown data if a parameter has no text.
 pub(crate) fn write_service<W: fmt::Write>(
     rdata: &RData,
     x: &SVCB,

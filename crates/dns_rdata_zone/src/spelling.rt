@@ -6,12 +6,12 @@ ghost use Rattle.dns_rdata_zone.specs.Spellings.{three_digits};
 
 use std::{fmt, str};
 
-/// How each octet is spelled in one place of a zone file.
+/// How each octet is spelled in a part of a zone file.
 pub(crate) trait Spelling {
     /// The characters of an octet.
     ghost spelled: { ℕ → List ℕ };
 
-    /// Whether the octet stands for itself.
+    /// Whether the octet is written as it is.
     fn is_plain(&self, octet: u8) -> bool
         ensures itself { OnTrue result (spelled octet ≡ octet ∷ []) };
 
@@ -20,7 +20,7 @@ pub(crate) trait Spelling {
         ensures writes { DisplaysOnOk W.write_str_gives f.old result (Some (spelled octet)) f.new };
 }
 
-/// Octets that print in a spelling. Where each stands for itself, they go out in one write.
+/// Octets that print in a spelling. If each is written as it is, one write does it.
 #[derive(Clone, Copy)]
 pub(crate) struct Spelled<'a, S>(pub &'a [u8], pub S);
 
@@ -52,7 +52,7 @@ impl<S: Spelling> fmt::Display for Spelled<'_, S> {
     }
 }
 
-/// Writes a character of ASCII behind a `\`.
+/// Writes a character of ASCII after a `\`.
 pub(crate) fn write_escaped<W: fmt::Write>(octet: u8, f: &mut fmt::Formatter<W>) -> fmt::Result
     requires { octet < 128 }
     ensures { DisplaysOnOk W.write_str_gives f.old result (Some (92 ∷ octet ∷ [])) f.new }

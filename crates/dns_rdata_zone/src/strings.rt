@@ -7,8 +7,8 @@ use crate::spelling::{Spelled, Spelling, write_digits, write_escaped};
 use dns_rdata::Octets;
 use std::fmt;
 
-/// Within quotes `"` and `\` stand behind a `\`, the characters of ASCII from the blank to `~` for themselves, and any
-/// other octet is `\` and three digits.
+/// Within quotes: `"` and `\` are escaped by a `\`, other characters of ASCII from the space to `~` are written as they
+/// are, and any other octet is `\` and three digits.
 #[derive(Clone, Copy)]
 pub(crate) struct InQuotes;
 
@@ -31,22 +31,22 @@ impl Spelling for InQuotes {
     }
 }
 
-/// A character string in quotes (RFC 1035, 5.1), whatever its octets: `"` and `\` behind a `\`, what is no character of
-/// ASCII from the blank to `~` as `\` and three digits. Takes no memory.
+/// A character string in quotes (RFC 1035, section 5.1), whatever its octets: `"` and `\` are escaped by a `\`, and
+/// octets other than ASCII from the space to `~` are `\` and three digits. Allocates nothing.
 #[derive(Clone, Copy)]
 pub struct Quoted<'a>(pub &'a [u8]);
 
 impl fmt::Display for Quoted<'_> {
     ghost output = { λ q. Some (quoted q.0.now) };
 
-    /// `"a\"b\\c\009"`.
+    /// Writes `"a\"b\\c\009"`.
     fn fmt<W: fmt::Write>(&self, f: &mut fmt::Formatter<W>) -> fmt::Result {
         let octets = Spelled(self.0, InQuotes);
         write!(f, "\"{octets}\"")
     }
 }
 
-/// Strings, a blank in front of each.
+/// Strings, with a space before each.
 #[derive(Clone, Copy)]
 pub(crate) struct Spaced<'a>(pub &'a [Octets]);
 

@@ -9,13 +9,13 @@ use dns_rdata_certs::hexadecimal::Hexadecimal;
 use dns_words::Base64Text;
 use std::fmt;
 
-/// How many octets a token of hexadecimal digits has at most.
+/// The most octets that a token of hexadecimal digits has.
 pub(crate) const HEX_OCTETS: usize = 510;
 
 // How many octets a token of base64 has at most: whole groups of three.
 const BASE64_OCTETS: usize = 765;
 
-/// Octets in hexadecimal, in tokens with a blank between two. The first token takes `left` more octets.
+/// Octets in hexadecimal, in tokens with a space between two. The first token takes `left` more octets.
 #[derive(Clone, Copy)]
 pub(crate) struct HexTokens<'a> {
     pub octets: &'a [u8],
@@ -23,7 +23,7 @@ pub(crate) struct HexTokens<'a> {
 }
 
 impl<'a> HexTokens<'a> {
-    /// The digits from the beginning of a token on.
+    /// The digits from the start of a token on.
     #[inline]
     pub(crate) fn new(octets: &'a [u8]) -> HexTokens<'a>
         ensures octets { result.octets.now ≡ octets.now }
@@ -52,7 +52,7 @@ impl fmt::Display for HexTokens<'_> {
     }
 }
 
-/// How many more octets the token takes after `count` octets, if it took `left` before.
+/// Returns how many more octets the token takes after `count` octets, if it took `left` before.
 pub(crate) fn left_after(left: usize, count: usize) -> usize
     ensures { 2 * result ≡ left_after (2 * left) (2 * count) }
 {
@@ -65,7 +65,7 @@ pub(crate) fn left_after(left: usize, count: usize) -> usize
     left - count
 }
 
-/// Octets in base64, in tokens with a blank between two.
+/// Octets in base64, in tokens with a space between two.
 #[derive(Clone, Copy)]
 pub(crate) struct Base64Tokens<'a>(pub &'a [u8]);
 

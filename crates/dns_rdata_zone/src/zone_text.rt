@@ -14,22 +14,22 @@ use crate::services::write_service;
 use dns_rdata::RData;
 use std::fmt;
 
-/// Record data that prints as it is written in a zone file, in the form that name servers read (RFC 1035, section 5.1; RFC
-/// 9460, section 2.1; the RFCs of the types). A value that has no such text prints in the form of unknown data (RFC 3597,
-/// section 5). Printing allocates nothing, whatever the value.
+/// Record data that prints as it is written in a zone file, in the form that name servers read (RFC 1035, section 5.1;
+/// RFC 9460, section 2.1; the RFCs of the types). A value that has no such text prints in the form of unknown data (RFC
+/// 3597, section 5). Printing allocates nothing, whatever the value.
 ///
 /// Names are fully qualified, with case preserved; strings are in quotes; numbers have no sign; times to live and the
 /// numbers of SOA are seconds. The text is printable ASCII in one line, with one blank between two fields
 /// ([`zone_texts_hold`](crate::laws::zone_texts_hold)).
 ///
-/// The form of unknown data is that of NULL, OPT, ANAME, ZERO and every type without a format of its own; of TXT without
-/// strings; of CERT, SSHFP, TLSA, SMIMEA and OPENPGPKEY without data; of CAA whose tag has other octets than ASCII letters
-/// and digits; and of SVCB and HTTPS with a parameter that has no text ([`has_text`](crate::has_text)).
+/// The form of unknown data is that of NULL, OPT, ANAME, ZERO and every type without a format of its own; of TXT
+/// without strings; of CERT, SSHFP, TLSA, SMIMEA and OPENPGPKEY without data; of CAA whose tag has other octets than
+/// ASCII letters and digits; and of SVCB and HTTPS with a parameter that has no text ([`has_text`](crate::has_text)).
 #[derive(Clone, Copy)]
 pub struct ZoneText<'a>(pub &'a RData);
 
 impl<'a> ZoneText<'a> {
-    /// The text of the data.
+    /// Makes a value that prints the data.
     #[inline]
     pub fn new(rdata: &'a RData) -> ZoneText<'a>
         ensures { result.0.now ≡ rdata.now }
@@ -41,8 +41,14 @@ impl<'a> ZoneText<'a> {
 impl fmt::Display for ZoneText<'_> {
     ghost output = { λ z. Some (zone_text z.0.now) };
 
-    /// `10 mail.example.com.`, `"a \"string\""`, `\# 2 abcd`. A value that cannot be emitted is refused by
-    /// [`Error`](fmt::Error), and what a writer refuses is refused by its error; what was written then stands.
+    /// Writes `10 mail.example.com.`, `"a \"string\""`, `\# 2 abcd`.
+    ///
+    /// # Errors
+    ///
+    /// What was written before the error stays written.
+    ///
+    /// - [`Error`](fmt::Error): the value cannot be emitted.
+    /// - Any error of the writer.
     fn fmt<W: fmt::Write>(&self, f: &mut fmt::Formatter<W>) -> fmt::Result
         ensures writes { DisplaysOnOk W.write_str_gives f.old result (Some (zone_text self.now.0.now)) f.new }
         ensures styled { DisplaysStyledOnOk W.write_str_gives f.old result None f.new }

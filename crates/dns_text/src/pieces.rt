@@ -8,9 +8,9 @@ use crate::spans::{behind, octet, split_piece};
 use std::alloc::{AllocError, Global};
 use std::borrow::CowStr;
 
-/// The first piece of a list and the text behind it; none where the list has no piece. A `\` is dropped and the next
-/// character kept, any other comma ends a piece, and what is left at the end is one more piece. Takes memory only for a
-/// piece with a `\`.
+/// Returns the first item of a list and the text after it; `None` if the list has no item. A `\` is dropped and the
+/// next character kept, any other comma ends an item, and what is left at the end is one more item. Allocates only for
+/// an item with a `\`.
 pub fn next_piece<'a>(
     alloc: Global,
     text: &'a str,

@@ -1,11 +1,11 @@
 //! What refusals of words say.
 
-/// A field of a record, as refusals of its words name it. Both texts are static, so a refusal takes no memory.
+/// A field of a record, with the texts of its errors. Both are static, so that an error allocates nothing.
 #[derive(Clone, Copy, Debug, PartialEq, Eq)]
 pub struct Field {
-    /// What is missing where no word is left, as `MX preference`.
+    /// The text if its token is missing, such as `MX preference`.
     pub name: &'static str,
-    /// What is said of a word that is none of the field's values, as `Invalid digit found in MX preference token`.
+    /// The text for a token that is no value of the field, such as `Invalid digit found in MX preference token`.
     pub wrong: &'static str,
 }
 

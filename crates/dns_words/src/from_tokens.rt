@@ -10,7 +10,7 @@ use dns_names_wire::{Name, ParseError};
 use std::alloc::Global;
 use std::convert::AsStr;
 
-/// A value that is read from words. [`Name`] has it, so `Name::from_tokens` reads a name as the records read theirs.
+/// A value that is read from tokens. [`Name`] has it too, so that `Name::from_tokens` reads a name as records do.
 pub trait FromTokens: Sized {
     /// The kinds of its fields, in order.
     ghost kinds: { List Kind };
@@ -21,7 +21,7 @@ pub trait FromTokens: Sized {
     /// Its fields.
     ghost fields: { Self → Values kinds };
 
-    /// Reads a value exactly where the words give its fields. It takes words one by one, and none behind its last.
+    /// Reads a value if the tokens are its fields. Takes tokens one by one, and none after its last.
     fn from_tokens<S: AsStr + Drop, I: Iterator<Item = S>>(
         alloc: Global,
         tokens: I,
@@ -38,7 +38,7 @@ impl FromTokens for Name {
 
     ghost fields = { λ x. (x, tt) };
 
-    /// The name of the first word, by `Name::parse`. Further words are not read.
+    /// Reads the name of the first token by `Name::parse`. Further tokens are not read.
     #[tactic(auto, using(crate::proofs::Steps::reading))]
     fn from_tokens<S: AsStr + Drop, I: Iterator<Item = S>>(
         alloc: Global,

@@ -18,7 +18,7 @@ use std::alloc::{AllocError, Global};
 use std::convert::AsStr;
 use std::net::{Ipv4Addr, Ipv6Addr};
 
-/// The next word. Refused by [`MissingToken`](ParseError::MissingToken) of this name where none is left.
+/// Takes the next token. Returns [`MissingToken`](ParseError::MissingToken) with this name if none is left.
 #[inline]
 pub fn next_word<S: AsStr + Drop, I: Iterator<Item = S>>(
     words: &mut I,
@@ -36,8 +36,8 @@ pub fn next_word<S: AsStr + Drop, I: Iterator<Item = S>>(
     }
 }
 
-/// A number of 8 bits: a decimal one, with or without `+`. Where no word is left, or one that is no such number, the
-/// refusal names the field. Takes no memory.
+/// Reads a decimal number of 8 bits, with or without a `+`. If no token is left, or if it is no such number, the error
+/// names the field. Allocates nothing.
 #[inline]
 pub fn next_u8<S: AsStr + Drop, I: Iterator<Item = S>>(
     words: &mut I,
@@ -52,7 +52,7 @@ pub fn next_u8<S: AsStr + Drop, I: Iterator<Item = S>>(
     u8_of(word.as_str(), field.wrong)
 }
 
-/// A number of 16 bits, as `next_u8`.
+/// Reads a number of 16 bits, as `next_u8` does.
 #[inline]
 pub fn next_u16<S: AsStr + Drop, I: Iterator<Item = S>>(
     words: &mut I,
@@ -67,7 +67,7 @@ pub fn next_u16<S: AsStr + Drop, I: Iterator<Item = S>>(
     u16_of(word.as_str(), field.wrong)
 }
 
-/// A number of 32 bits, as `next_u8`.
+/// Reads a number of 32 bits, as `next_u8` does.
 #[inline]
 pub fn next_u32<S: AsStr + Drop, I: Iterator<Item = S>>(
     words: &mut I,
@@ -82,7 +82,7 @@ pub fn next_u32<S: AsStr + Drop, I: Iterator<Item = S>>(
     u32_of(word.as_str(), field.wrong)
 }
 
-/// A time to live of 32 bits (`parse_ttl`), as `next_u8`.
+/// Reads a TTL of 32 bits (`parse_ttl`), as `next_u8` does.
 #[inline]
 pub fn next_ttl<S: AsStr + Drop, I: Iterator<Item = S>>(
     words: &mut I,
@@ -97,7 +97,7 @@ pub fn next_ttl<S: AsStr + Drop, I: Iterator<Item = S>>(
     ttl_of(word.as_str(), field.wrong)
 }
 
-/// A time to live of at most 2147483647 seconds, as `next_u8`.
+/// Reads a TTL of at most 2147483647 seconds, as `next_u8` does.
 #[inline]
 pub fn next_signed_ttl<S: AsStr + Drop, I: Iterator<Item = S>>(
     words: &mut I,
@@ -113,8 +113,8 @@ pub fn next_signed_ttl<S: AsStr + Drop, I: Iterator<Item = S>>(
     signed_ttl_of(word.as_str(), field.wrong)
 }
 
-/// A name, which the origin completes, where one is given. Refused by [`MissingToken`](ParseError::MissingToken) where
-/// no word is left, else as `Name::parse`.
+/// Reads a name, which the origin completes if there is one. Returns [`MissingToken`](ParseError::MissingToken) if no
+/// token is left, and otherwise the errors of `Name::parse`.
 #[inline]
 pub fn next_name<S: AsStr + Drop, I: Iterator<Item = S>>(
     alloc: Global,
@@ -130,7 +130,7 @@ pub fn next_name<S: AsStr + Drop, I: Iterator<Item = S>>(
     name_of(alloc, word.as_str(), origin)
 }
 
-/// Octets in base64, by one request for memory; the refusal names the field.
+/// Reads octets in base64. Allocates once. Errors name the field.
 #[inline]
 pub fn next_base64<S: AsStr + Drop, I: Iterator<Item = S>>(
     alloc: Global,
@@ -146,7 +146,7 @@ pub fn next_base64<S: AsStr + Drop, I: Iterator<Item = S>>(
     base64_of(alloc, word.as_str(), field.wrong)
 }
 
-/// The octets of a word. Refused by [`MissingToken`](ParseError::MissingToken) where none is left.
+/// Takes the octets of the next token. Returns [`MissingToken`](ParseError::MissingToken) if none is left.
 #[inline]
 pub fn next_kept<S: AsStr + Drop, I: Iterator<Item = S>>(
     alloc: Global,
@@ -163,8 +163,8 @@ pub fn next_kept<S: AsStr + Drop, I: Iterator<Item = S>>(
     kept_of(alloc, word.as_str())
 }
 
-/// An IPv4 address. Refused by [`MissingToken`](ParseError::MissingToken) where no word is left, and by
-/// [`AddrParse`](ParseError::AddrParse) for another. Takes no memory.
+/// Reads an IPv4 address. Returns [`MissingToken`](ParseError::MissingToken) if no token is left, and
+/// [`AddrParse`](ParseError::AddrParse) for any other token. Allocates nothing.
 #[inline]
 pub fn next_ipv4<S: AsStr + Drop, I: Iterator<Item = S>>(
     words: &mut I,
@@ -179,7 +179,7 @@ pub fn next_ipv4<S: AsStr + Drop, I: Iterator<Item = S>>(
     ipv4_of(word.as_str())
 }
 
-/// An IPv6 address, as `next_ipv4`.
+/// Reads an IPv6 address, as `next_ipv4` does.
 #[inline]
 pub fn next_ipv6<S: AsStr + Drop, I: Iterator<Item = S>>(
     words: &mut I,
@@ -194,7 +194,7 @@ pub fn next_ipv6<S: AsStr + Drop, I: Iterator<Item = S>>(
     ipv6_of(word.as_str())
 }
 
-/// That no word is left. Refused by [`Message`](ParseError::Message) of this text where one is.
+/// Checks that no token is left. If one is, returns [`Message`](ParseError::Message) with this text.
 #[inline]
 pub fn no_more<S: AsStr + Drop, I: Iterator<Item = S>>(
     words: &mut I,
@@ -211,7 +211,7 @@ pub fn no_more<S: AsStr + Drop, I: Iterator<Item = S>>(
     }
 }
 
-/// All further words as strings. Fails only for want of memory.
+/// Copies all further tokens as strings. Fails only if an allocation fails.
 pub fn all_texts<S: AsStr + Drop, I: Iterator<Item = S>>(
     alloc: Global,
     words: I,
@@ -227,7 +227,7 @@ pub fn all_texts<S: AsStr + Drop, I: Iterator<Item = S>>(
     Ok(strings)
 }
 
-/// All further words, one behind the other. Fails only for want of memory.
+/// Joins all further tokens. Fails only if an allocation fails.
 pub fn join_words<S: AsStr + Drop, I: Iterator<Item = S>>(
     alloc: Global,
     words: I,

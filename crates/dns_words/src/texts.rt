@@ -14,8 +14,8 @@ use std::alloc::Global;
 use std::net::{Ipv4Addr, Ipv6Addr};
 use std::{fmt, str};
 
-/// A decimal number of 8 bits, with or without `+`. Any other word is refused by [`Message`](ParseError::Message) of
-/// the text `wrong`. Takes no memory.
+/// Reads a decimal number of 8 bits, with or without a `+`. Any other text gives [`Message`](ParseError::Message) with
+/// the text `wrong`. Allocates nothing.
 #[inline]
 pub fn u8_of(word: &str, wrong: &'static str) -> Result<u8, ParseError>
     ensures reads { ReadsText (number 1) (λ n. n) result word.now }
@@ -24,7 +24,7 @@ pub fn u8_of(word: &str, wrong: &'static str) -> Result<u8, ParseError>
     word.parse::<u8>().or(Err(ParseError::Message(wrong)))
 }
 
-/// A decimal number of 16 bits, as `u8_of`.
+/// Reads a decimal number of 16 bits, as `u8_of` does.
 #[inline]
 pub fn u16_of(word: &str, wrong: &'static str) -> Result<u16, ParseError>
     ensures reads { ReadsText (number 2) (λ n. n) result word.now }
@@ -33,7 +33,7 @@ pub fn u16_of(word: &str, wrong: &'static str) -> Result<u16, ParseError>
     word.parse::<u16>().or(Err(ParseError::Message(wrong)))
 }
 
-/// A decimal number of 32 bits, as `u8_of`.
+/// Reads a decimal number of 32 bits, as `u8_of` does.
 #[inline]
 pub fn u32_of(word: &str, wrong: &'static str) -> Result<u32, ParseError>
     ensures reads { ReadsText (number 4) (λ n. n) result word.now }
@@ -42,8 +42,8 @@ pub fn u32_of(word: &str, wrong: &'static str) -> Result<u32, ParseError>
     word.parse::<u32>().or(Err(ParseError::Message(wrong)))
 }
 
-/// A time to live of 32 bits (`parse_ttl`). Any other word is refused by [`Message`](ParseError::Message) of the text
-/// `wrong`. Takes no memory.
+/// Reads a TTL of 32 bits (`parse_ttl`). Any other text gives [`Message`](ParseError::Message) with the text `wrong`.
+/// Allocates nothing.
 #[inline]
 pub fn ttl_of(word: &str, wrong: &'static str) -> Result<u32, ParseError>
     ensures reads { ReadsText (ttl 4294967295) (λ n. n) result word.now }
@@ -52,7 +52,7 @@ pub fn ttl_of(word: &str, wrong: &'static str) -> Result<u32, ParseError>
     parse_ttl(word).or(Err(ParseError::Message(wrong)))
 }
 
-/// A time to live of at most 2147483647 seconds, as `ttl_of`.
+/// Reads a TTL of at most 2147483647 seconds, as `ttl_of` does.
 #[inline]
 pub fn signed_ttl_of(word: &str, wrong: &'static str) -> Result<i32, ParseError>
     ensures reads { ReadsText (ttl 2147483647) (λ z. cast_unsigned w32 z) result word.now }
@@ -67,7 +67,7 @@ pub fn signed_ttl_of(word: &str, wrong: &'static str) -> Result<i32, ParseError>
     Ok(seconds as i32)
 }
 
-/// A name by `Name::parse`, which the origin completes, where one is given.
+/// Reads a name by `Name::parse`, which the origin completes if there is one.
 #[inline]
 pub fn name_of(alloc: Global, word: &str, origin: Option<&Name>) -> Result<Name, ParseError>
     ensures { ReadsText (name (option_copied origin.entry)) (λ x. x) result word.now }
@@ -75,7 +75,7 @@ pub fn name_of(alloc: Global, word: &str, origin: Option<&Name>) -> Result<Name,
     Ok(Name::parse(alloc, word, origin)?)
 }
 
-/// Octets that print as base64: the standard alphabet, padded at its end (RFC 4648, 4). Takes no memory.
+/// Octets that print as base64: the standard alphabet, with padding (RFC 4648, section 4). Allocates nothing.
 #[derive(Clone, Copy)]
 pub struct Base64Text<'a>(pub &'a [u8]);
 
@@ -104,8 +104,8 @@ impl fmt::Display for Base64Text<'_> {
     }
 }
 
-/// The octets of a base64 text: the standard alphabet, padded at its end. Any other word is refused by
-/// [`Message`](ParseError::Message) of the text `wrong`.
+/// Reads base64: the standard alphabet, with padding. Any other text gives [`Message`](ParseError::Message) with the
+/// text `wrong`.
 pub fn base64_of(alloc: Global, word: &str, wrong: &'static str) -> Result<Octets, ParseError>
     ensures reads { ReadsText base64 (λ x. x) result word.now }
     ensures why { IfErr result (λ e. (e ≡ ParseError.Memory) ⊎ (e ≡ ParseError.Message wrong.entry)) }
@@ -117,7 +117,7 @@ pub fn base64_of(alloc: Global, word: &str, wrong: &'static str) -> Result<Octet
     }
 }
 
-/// The octets of the word. Fails only for want of memory.
+/// Copies the octets of the token. Fails only if an allocation fails.
 #[inline]
 pub fn kept_of(alloc: Global, word: &str) -> Result<Octets, ParseError>
     ensures text { ReadsText kept (λ x. x) result word.now }
@@ -127,7 +127,7 @@ pub fn kept_of(alloc: Global, word: &str) -> Result<Octets, ParseError>
     Ok(Octets::from_slice(alloc, word.as_bytes())?)
 }
 
-/// The IPv4 address of a text. Any other word is refused by [`AddrParse`](ParseError::AddrParse). Takes no memory.
+/// Reads an IPv4 address. Any other text gives [`AddrParse`](ParseError::AddrParse). Allocates nothing.
 #[inline]
 #[tactic(auto, using(crate::proofs::Ttls::no_ipv4))]
 pub fn ipv4_of(word: &str) -> Result<Ipv4Addr, ParseError>
@@ -137,7 +137,7 @@ pub fn ipv4_of(word: &str) -> Result<Ipv4Addr, ParseError>
     word.parse::<Ipv4Addr>().or(Err(ParseError::AddrParse))
 }
 
-/// The IPv6 address of a text. Any other word is refused by [`AddrParse`](ParseError::AddrParse). Takes no memory.
+/// Reads an IPv6 address. Any other text gives [`AddrParse`](ParseError::AddrParse). Allocates nothing.
 #[inline]
 #[tactic(auto, using(crate::proofs::Ttls::no_ipv6))]
 pub fn ipv6_of(word: &str) -> Result<Ipv6Addr, ParseError>

@@ -3,7 +3,7 @@
 ghost use Rattle.std.specs.Prelude.{◌≡◌, drop};
 ghost use Rattle.std.specs.Iterator.{YieldsFirst, item_count};
 
-/// An iterator of the words of a list, from the first on. It takes no memory.
+/// An iterator over the tokens of a list. Allocates nothing.
 #[derive(Drop)]
 pub struct WordList<'a> {
     words: &'a [&'a str],
@@ -11,7 +11,7 @@ pub struct WordList<'a> {
 }
 
 impl<'a> WordList<'a> {
-    /// From the first word on.
+    /// Starts at the first token.
     #[inline]
     pub fn new(words: &'a [&'a str]) -> WordList<'a>
         ensures words { result.words.now ≡ words.now }

@@ -25,12 +25,12 @@ pub enum ParameterKey {
     Ipv6Hint,
     /// `dohpath`: a path.
     DohPath,
-    /// `key` and this number: octets without a form, also for the number of a key that has a name of its own.
+    /// `key` and this number: octets as they are, even if the key of this number has a name.
     Numbered(u16),
 }
 
 impl ParameterKey {
-    /// Its number.
+    /// Returns its number.
     pub fn number(self) -> u16
         ensures { result ≡ key_number self }
     {
@@ -47,8 +47,8 @@ impl ParameterKey {
         }
     }
 
-    /// The key of a name, in lower case: a name of its own, or `key` and a decimal number up to 65534 without leading
-    /// zeros. Takes no memory.
+    /// Returns the key of a name in lower case: a registered name, or `key` and a decimal number up to 65534 without
+    /// leading zeros. Allocates nothing.
     pub fn of_name(name: &[u8]) -> Option<ParameterKey>
         ensures some { IfSome result (λ key. IsKeyName key name.now) }
         ensures none { IfNone result ((key : ParameterKey) → IsKeyName key name.now → ⊥) }

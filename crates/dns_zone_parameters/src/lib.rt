@@ -22,30 +22,34 @@ use dns_zone_words::ZoneWords;
 pub use key::ParameterKey;
 use std::alloc::{AllocError, Global};
 
-/// Puts the parameters that all words which are left give behind octets, as they go on the wire: in the order of their keys,
-/// each as key, length and value (RFC 9460, 2.2). No words give no octets. There may be more than 65535 octets.
+/// Reads all remaining tokens as service parameters and appends their octets as on the wire: sorted by key, each as
+/// key, length and value (RFC 9460, section 2.2). Without tokens it appends nothing. There may be more than 65535
+/// octets.
 ///
-/// A parameter is a word without quotes that stands right behind no other: `key`, which has an empty value, `key=value`,
-/// or `key=` with a word in quotes right behind it. Parameters may stand in any order. A key comes once.
+/// A parameter is a token without quotes: `key`, which has an empty value, `key=value`, or `key=` directly followed by
+/// a token in quotes. Parameters may come in any order, no key twice.
 ///
-/// The key is a name in lower case, or `key` and a number up to 65534 without leading zeros (RFC 9460, 2.1). A value is
-/// cut into letters, and their octets are then read by the key (RFC 9460, 7 and 8; RFC 9461, 5):
+/// The key is a name in lower case, or `key` and a number up to 65534 without leading zeros (RFC 9460, section 2.1). In
+/// a value escapes are resolved first; the key then decides how its octets are read (RFC 9460, sections 7 and 8; RFC
+/// 9461, section 5):
 ///
-/// - `mandatory`: a list of keys, none twice and not `mandatory`; on the wire their numbers rise.
-/// - `alpn`: a list of names of 1 to 255 octets. In it a `\` gives the octet behind it, a comma or a `\` too (RFC 9460,
-///   A.1).
+/// - `mandatory`: a list of keys, none twice and not `mandatory`; on the wire they are sorted by number.
+/// - `alpn`: a list of names of 1 to 255 octets. In it `\` escapes the next octet, a comma or a `\` too (RFC 9460,
+///   appendix A.1).
 /// - `no-default-alpn`: nothing.
 /// - `port`: a decimal number of 16 bits.
 /// - `ipv4hint`, `ipv6hint`: a list of addresses.
-/// - `ech`: base64 (RFC 4648, 4) of one octet or more.
+/// - `ech`: base64 (RFC 4648, section 4) of one octet or more.
 /// - `dohpath`: one octet or more, as they are.
-/// - `key` and a number, also that of a key above: the octets as they are.
+/// - `key` and a number, even that of a key above: the octets as they are.
 ///
-/// Lists have one item or more, with a comma between two. A value has at most 65535 octets. No `\` may stand in a value of
-/// `mandatory`, `port`, `ipv4hint`, `ech` or `ipv6hint` (RFC 9460, 7.2, 7.3 and 8; RFC 9848, 3).
+/// Lists have one item or more, with a comma between two. A value has at most 65535 octets. A value of `mandatory`,
+/// `port`, `ipv4hint`, `ech` or `ipv6hint` has no `\` (RFC 9460, sections 7.2, 7.3 and 8; RFC 9848, section 3).
 ///
-/// Refused by [`Message`](ParseError::Message), which names the key or the cause, or by
-/// [`Memory`](ParseError::Memory).
+/// # Errors
+///
+/// - [`Message`](ParseError::Message): a token is not such a parameter. The text names the key or the cause.
+/// - [`Memory`](ParseError::Memory): an allocation failed.
 pub fn put_parameters(
     alloc: Global,
     words: &mut ZoneWords<'_>,

@@ -14,7 +14,7 @@ use std::alloc::{AllocError, Global};
 /// What the items of a list are.
 #[derive(Clone, Copy, Debug, PartialEq, Eq)]
 pub enum ListItem {
-    /// Names of protocols, each behind its length of one octet.
+    /// Names of protocols, each after its length of one octet.
     Protocol,
     /// IPv4 addresses.
     Ipv4,
@@ -22,8 +22,8 @@ pub enum ListItem {
     Ipv6,
 }
 
-/// The octets of the items of a list, one behind the other. A list has one item at least. Any other text is refused by
-/// [`Message`](ParseError::Message) of the text `wrong`.
+/// Returns the octets of the items of a list, one after the other. A list has one item or more. Any other text gives
+/// [`Message`](ParseError::Message) with the text `wrong`.
 pub fn list_of(
     alloc: Global,
     item: ListItem,
@@ -45,8 +45,8 @@ pub fn list_of(
     }
 }
 
-/// The numbers of the keys of a list, in rising order. A list has one key at least, none twice, and not `mandatory`. Any
-/// other text is refused by [`Message`](ParseError::Message) of the text `wrong`.
+/// Returns the numbers of the keys of a list, sorted. A list has one key or more, none twice, and not `mandatory`. Any
+/// other text gives [`Message`](ParseError::Message) with the text `wrong`.
 pub fn key_list_of(alloc: Global, text: &[u8], wrong: &'static str) -> Result<Octets, ParseError>
     ensures reads { Decides (IsKeyList text.now) (λ x. x) result }
     ensures why { IfErr result (λ e. (e ≡ ParseError.Memory) ⊎ (e ≡ ParseError.Message wrong.entry)) }
@@ -103,7 +103,7 @@ fn is_rising(numbers: &[u16]) -> bool
     first_fall(numbers).is_none()
 }
 
-/// The first number that is not below the next; `None` if each is below the next.
+/// Returns the first number that is not less than the next one; `None` if each is.
 pub(crate) fn first_fall(numbers: &[u16]) -> Option<u16>
     ensures some { IfSome result (λ n. IsFirstFall n numbers.now) }
     ensures none { IfNone result (IsStrictlyIncreasing numbers.now) }

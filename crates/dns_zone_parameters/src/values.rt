@@ -18,8 +18,8 @@ const NO_ESCAPE: &str = "`\\` without a meaning in a service parameter";
 
 const LONG_VALUE: &str = "service parameter of more than 65535 octets";
 
-/// The octets on the wire of a value of the key, by its text as it stands. A `\` in a value whose key forbids escapes is
-/// refused as any other wrong value of the key (RFC 9460, 7.2, 7.3 and 8; RFC 9848, 3).
+/// Returns the octets on the wire of a value of the key, from its text with escapes. If the key forbids escapes, a `\`
+/// is the same error as any other wrong value of the key (RFC 9460, sections 7.2, 7.3 and 8; RFC 9848, section 3).
 pub fn value_of(alloc: Global, key: ParameterKey, text: &[u8]) -> Result<Octets, ParseError>
     ensures reads { Decides (IsValue key text.now) (λ x. x) result }
     ensures why { IfErr result (λ e. (e ≡ ParseError.Memory) ⊎ ValueFault key text.now e) }

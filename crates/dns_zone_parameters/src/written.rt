@@ -19,16 +19,16 @@ const OTHER_WORD: &str = "service parameter in quotes or right behind another wo
 
 const NO_KEY: &str = "no key of a service parameter";
 
-/// A service parameter as it stands in a text.
+/// A service parameter as a text has it.
 #[derive(Clone, Copy)]
 pub struct Written<'a> {
     /// The name of its key.
     pub name: &'a [u8],
-    /// Its value, without quotes around it; empty where none is written.
+    /// Its value, without quotes around it; empty if there is none.
     pub value: &'a [u8],
 }
 
-/// The next parameter, or `None` where no word is left.
+/// Takes the next parameter; `None` if no token is left.
 pub fn next_parameter(
     alloc: Global,
     words: &mut ZoneWords<'_>,

@@ -47,7 +47,7 @@ static ALGORITHMS: [Mnemonic; 21] = [
     named!("PRIVATEOID" = 254),
 ];
 
-/// The names of types of certificates (RFC 4398, 2.1).
+/// The names of certificate types (RFC 4398, section 2.1).
 #[inline]
 pub fn cert_type_names() -> &'static [Mnemonic]
     ensures { named_values result.now ≡ cert_types }
@@ -55,7 +55,8 @@ pub fn cert_type_names() -> &'static [Mnemonic]
     &CERT_TYPES
 }
 
-/// The names of algorithms of keys (RFC 4034, A.1, and IANA's later ones), with the shorter names that BIND has.
+/// The names of DNSSEC algorithms (RFC 4034, appendix A.1, and later ones of IANA), with the shorter names that BIND
+/// has.
 #[inline]
 pub fn algorithm_names() -> &'static [Mnemonic]
     ensures { named_values result.now ≡ algorithms }
@@ -75,8 +76,8 @@ fn number_by_name(word: ZoneWord<'_>, names: &[Mnemonic]) -> Option<u16>
     number_named(names, word.raw)
 }
 
-/// A type of certificates, by its name or else by a number of 16 bits, without quotes. Any other word is refused by
-/// [`Message`](ParseError::Message) of the text `wrong`. Takes no memory.
+/// Reads a certificate type, by its name or by a number of 16 bits, without quotes. Any other token gives
+/// [`Message`](ParseError::Message) with the text `wrong`. Allocates nothing.
 pub fn cert_type_of(word: ZoneWord<'_>, wrong: &'static str) -> Result<u16, ParseError>
     ensures reads { ReadsAs (named_number 2 cert_types) (λ n. n) result (word_value word.entry) }
     ensures why { IfErr result (WrongWord (named_number 2 cert_types) (ParseError.Message wrong.entry) (word_value word.entry)) }
@@ -87,7 +88,7 @@ pub fn cert_type_of(word: ZoneWord<'_>, wrong: &'static str) -> Result<u16, Pars
     }
 }
 
-/// An algorithm of keys, by its name or else by a number of 8 bits, as `cert_type_of`.
+/// Reads a DNSSEC algorithm, by its name or by a number of 8 bits, as `cert_type_of` does.
 pub fn algorithm_of(word: ZoneWord<'_>, wrong: &'static str) -> Result<u8, ParseError>
     ensures reads { ReadsAs (named_number 1 algorithms) (λ n. n) result (word_value word.entry) }
     ensures why { IfErr result (WrongWord (named_number 1 algorithms) (ParseError.Message wrong.entry) (word_value word.entry)) }
@@ -98,7 +99,7 @@ pub fn algorithm_of(word: ZoneWord<'_>, wrong: &'static str) -> Result<u8, Parse
     }
 }
 
-/// A type of certificates (`cert_type_of`) of the next word. The word is taken, even where it is refused.
+/// Reads a certificate type (`cert_type_of`) from the next token, which is taken even if this returns an error.
 #[inline]
 pub fn next_cert_type(words: &mut ZoneWords<'_>, field: Field) -> Result<u16, ParseError>
     ensures reads { ReadsFirst (named_number 2 cert_types) (λ n. n) result words.old words.new }
@@ -109,7 +110,7 @@ pub fn next_cert_type(words: &mut ZoneWords<'_>, field: Field) -> Result<u16, Pa
     cert_type_of(word, field.wrong)
 }
 
-/// An algorithm of keys (`algorithm_of`) of the next word, as `next_cert_type`.
+/// Reads a DNSSEC algorithm (`algorithm_of`) from the next token, as `next_cert_type` does.
 #[inline]
 pub fn next_algorithm(words: &mut ZoneWords<'_>, field: Field) -> Result<u8, ParseError>
     ensures reads { ReadsFirst (named_number 1 algorithms) (λ n. n) result words.old words.new }

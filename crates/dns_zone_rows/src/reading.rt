@@ -13,13 +13,18 @@ use dns_types::{Octets, ParseError};
 use dns_zone_words::ZoneWords;
 use std::alloc::Global;
 
-/// The octets that all words which are left give by the row: those of its fields, one behind the other, as they are sent,
-/// with names whole and with their letters. The origin completes names that no dot ends, and `@` stands for it.
+/// Reads all remaining tokens as the fields of a row and returns their octets, one field after the other, as on the
+/// wire, with names uncompressed and their case preserved. The origin completes names that do not end with a dot, and
+/// `@` is the origin. Allocates for the octets, and for a time for each name, string, hexadecimal and base64 field.
 ///
-/// Refused by [`MissingToken`](ParseError::MissingToken) of a field's name where its word is missing, by
-/// [`Message`](ParseError::Message) of the text for what is wrong with the first field that no word gives, of a word too
-/// many, or where the text is not cut into words, and by [`Memory`](ParseError::Memory). How many words are taken then is
-/// open. Takes memory for the octets, and for a while for each name and string and for hexadecimal digits and base64.
+/// # Errors
+///
+/// How many tokens are taken then is not said.
+///
+/// - [`MissingToken`](ParseError::MissingToken): a token is missing; the text is the name of its field.
+/// - [`Message`](ParseError::Message): a token is no value of its field, there is a token too many, or the text cannot
+///   be divided into tokens. The text is that of the first field at fault.
+/// - [`Memory`](ParseError::Memory): an allocation failed.
 pub fn row_octets(
     alloc: Global,
     words: &mut ZoneWords<'_>,

@@ -121,7 +121,7 @@ static TLSA: [ZoneField; 3] = [
     ZoneField::U8(number_field!("matching type")),
 ];
 
-/// The row of a type; none where a zone file has only the form of unknown data for it (RFC 3597, 5).
+/// Returns the row of a type; `None` if a zone file has only the form of unknown data for it (RFC 3597, section 5).
 pub fn row_of(record_type: RecordType) -> Option<ZoneRow>
     ensures rows { option_map row_value result ≡ row_of record_type }
     // What errors say of its fields.

@@ -3,45 +3,46 @@
 //! Each text about a token ends with ` in `, the field's name and ` token`. So
 //! [`ParseError::field`](dns_types::ParseError::field) returns the name.
 
-/// A field that is a character string, as refusals of its words name it. All texts are static, so a refusal takes no
-/// memory.
+/// A field that is a character string, with the texts of its errors. All texts are static, so that an error allocates
+/// nothing.
 #[derive(Clone, Copy, Debug, PartialEq, Eq)]
 pub struct StringField {
-    /// What is missing where no word is left, as `HINFO cpu`.
+    /// The text if no token is left, such as `HINFO cpu`.
     pub name: &'static str,
-    /// What is said of a `\` without a meaning.
+    /// The text for a `\` that escapes nothing.
     pub escape: &'static str,
-    /// What is said of more than 255 octets.
+    /// The text for more than 255 octets.
     pub long: &'static str,
 }
 
-/// A field that is a domain name, as refusals of its words name it. All texts are static, so a refusal takes no memory.
+/// A field that is a domain name, with the texts of its errors. All texts are static, so that an error allocates
+/// nothing.
 #[derive(Clone, Copy, Debug, PartialEq, Eq)]
 pub struct NameField {
-    /// What is missing where no word is left, as `MX exchange`.
+    /// The text if no token is left, such as `MX exchange`.
     pub name: &'static str,
-    /// What is said of a word in quotes.
+    /// The text for a token in quotes.
     pub quoted: &'static str,
-    /// What is said of `@` where no origin is given.
+    /// The text for `@` if there is no origin.
     pub no_origin: &'static str,
-    /// What is said of a `\` without a meaning.
+    /// The text for a `\` that escapes nothing.
     pub escape: &'static str,
-    /// What is said of a label without an octet.
+    /// The text for an empty label.
     pub empty_label: &'static str,
-    /// What is said of a label of more than 63 octets.
+    /// The text for a label of more than 63 octets.
     pub long_label: &'static str,
-    /// What is said of a name of more than 255 octets.
+    /// The text for a name of more than 255 octets.
     pub long_name: &'static str,
 }
 
-/// Hexadecimal digits to the end of a text, as refusals name them. All texts are static, so a refusal takes no memory.
+/// Hexadecimal digits to the end of a text, with the texts of their errors, which are static.
 #[derive(Clone, Copy, Debug, PartialEq, Eq)]
 pub struct HexField {
-    /// What is said of a word in quotes.
+    /// The text for a token in quotes.
     pub quoted: &'static str,
-    /// What is said of an odd number of digits.
+    /// The text for an odd number of digits.
     pub odd: &'static str,
-    /// What is said of any other octet among them.
+    /// The text for any other character among them.
     pub digit: &'static str,
 }
 

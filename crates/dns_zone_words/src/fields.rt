@@ -14,8 +14,8 @@ use dns_types::ParseError;
 use dns_words::Field;
 use std::net::{Ipv4Addr, Ipv6Addr};
 
-/// The next word. Refused by [`MissingToken`](ParseError::MissingToken) of the text `missing` where none is left, and
-/// by [`Message`](ParseError::Message) where the text is not cut into words; nothing is taken then.
+/// Takes the next token. Returns [`MissingToken`](ParseError::MissingToken) with the text `missing` if none is left,
+/// and [`Message`](ParseError::Message) if the text cannot be divided into tokens; nothing is taken then.
 #[inline]
 pub fn some_word<'a>(
     words: &mut ZoneWords<'a>,
@@ -32,8 +32,8 @@ pub fn some_word<'a>(
     }
 }
 
-/// A decimal number of 8 bits; the refusal names the field. The word is taken, even where it is refused. Takes no
-/// memory.
+/// Reads a decimal number of 8 bits from the next token. Errors name the field; the token is taken all the same.
+/// Allocates nothing.
 #[inline]
 pub fn next_u8(words: &mut ZoneWords<'_>, field: Field) -> Result<u8, ParseError>
     ensures reads { ReadsFirst (number 1) (λ n. n) result words.old words.new }
@@ -44,7 +44,7 @@ pub fn next_u8(words: &mut ZoneWords<'_>, field: Field) -> Result<u8, ParseError
     u8_of(word, field.wrong)
 }
 
-/// A decimal number of 16 bits, as `next_u8`.
+/// Reads a decimal number of 16 bits, as `next_u8` does.
 #[inline]
 pub fn next_u16(words: &mut ZoneWords<'_>, field: Field) -> Result<u16, ParseError>
     ensures reads { ReadsFirst (number 2) (λ n. n) result words.old words.new }
@@ -55,7 +55,7 @@ pub fn next_u16(words: &mut ZoneWords<'_>, field: Field) -> Result<u16, ParseErr
     u16_of(word, field.wrong)
 }
 
-/// A decimal number of 32 bits, as `next_u8`.
+/// Reads a decimal number of 32 bits, as `next_u8` does.
 #[inline]
 pub fn next_u32(words: &mut ZoneWords<'_>, field: Field) -> Result<u32, ParseError>
     ensures reads { ReadsFirst (number 4) (λ n. n) result words.old words.new }
@@ -66,7 +66,7 @@ pub fn next_u32(words: &mut ZoneWords<'_>, field: Field) -> Result<u32, ParseErr
     u32_of(word, field.wrong)
 }
 
-/// A time to live of 32 bits (`ttl_of`), as `next_u8`.
+/// Reads a TTL of 32 bits (`ttl_of`), as `next_u8` does.
 #[inline]
 pub fn next_ttl(words: &mut ZoneWords<'_>, field: Field) -> Result<u32, ParseError>
     ensures reads { ReadsFirst (bare (ttl 4294967295)) (λ n. n) result words.old words.new }
@@ -77,7 +77,7 @@ pub fn next_ttl(words: &mut ZoneWords<'_>, field: Field) -> Result<u32, ParseErr
     ttl_of(word, field.wrong)
 }
 
-/// An IPv4 address, as `next_u8`.
+/// Reads an IPv4 address, as `next_u8` does.
 #[inline]
 #[tactic(auto, using(crate::proofs::FirstSteps::first_read))]
 pub fn next_ipv4(words: &mut ZoneWords<'_>, field: Field) -> Result<Ipv4Addr, ParseError>
@@ -89,7 +89,7 @@ pub fn next_ipv4(words: &mut ZoneWords<'_>, field: Field) -> Result<Ipv4Addr, Pa
     ipv4_of(word, field.wrong)
 }
 
-/// An IPv6 address, as `next_u8`.
+/// Reads an IPv6 address, as `next_u8` does.
 #[inline]
 #[tactic(auto, using(crate::proofs::FirstSteps::first_read))]
 pub fn next_ipv6(words: &mut ZoneWords<'_>, field: Field) -> Result<Ipv6Addr, ParseError>

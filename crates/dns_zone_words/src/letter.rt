@@ -6,12 +6,12 @@ ghost use Rattle.dns_zone_words.specs.{Letters.escapes_stand, Letters.octet_of, 
 use dns_types::ParseError;
 use std::marker::Model;
 
-/// A letter: an octet of a text, as it is meant.
+/// An octet of a text, after its escape is resolved.
 #[derive(Clone, Copy, Debug, PartialEq, Eq)]
 pub enum Letter {
-    /// An octet that stands for itself, and may have a meaning of its own: `.` between labels, for one.
+    /// An octet without a `\`, which may have a meaning of its own: `.` between labels, for one.
     Plain(u8),
-    /// An octet behind a `\`, or of three digits behind a `\`. It has no meaning of its own.
+    /// An octet from `\X` or `\DDD`. It has no meaning of its own.
     Kept(u8),
 }
 
@@ -27,7 +27,7 @@ impl Letter {
         }
     }
 
-    /// Whether it is this octet, in the octet's own meaning.
+    /// Returns whether it is this octet, without a `\`.
     #[inline]
     pub fn is_plain(self, octet: u8) -> bool
         ensures { result ≡ stands_for octet (letter_value self) }
@@ -39,10 +39,10 @@ impl Letter {
     }
 }
 
-/// The letters of a word, one by one. It takes no memory.
+/// The octets of a token with their escapes resolved, one by one. Allocates nothing.
 ///
 /// `\` and three digits up to 255 are the octet of that number, and `\` and a character that is no digit is that
-/// character (RFC 1035, 5.1). Any other `\` is refused.
+/// character (RFC 1035, section 5.1). Any other `\` is an error.
 #[derive(Drop)]
 pub struct Letters<'a> {
     rest: &'a [u8],
@@ -57,7 +57,7 @@ impl<'a> Model for Letters<'a> {
 }
 
 impl<'a> Letters<'a> {
-    /// The letters of a text, from the first on.
+    /// Starts at the front of a text.
     #[inline]
     pub fn new(text: &'a [u8]) -> Letters<'a>
         ensures { result ≡ text.now }
@@ -65,8 +65,8 @@ impl<'a> Letters<'a> {
         Letters { rest: text }
     }
 
-    /// The next letter, or `None` at the text's end. Refused by [`Message`](ParseError::Message) of the text `wrong`
-    /// where the next `\` has no meaning; nothing is taken then.
+    /// Takes the next octet; `None` at the end of the text. If the next `\` escapes nothing, this returns
+    /// [`Message`](ParseError::Message) with the text `wrong` and takes nothing.
     #[inline]
     pub fn next_letter(&mut self, wrong: &'static str) -> Result<Option<Letter>, ParseError>
         ensures letter { IfOk result (λ o. IfSome o (λ x. BeginsWith (letter_value x) self.old self.new)) }
@@ -88,7 +88,7 @@ impl<'a> Letters<'a> {
     }
 }
 
-/// The first letter of a text, and how many octets of the text it takes; none where a `\` has no meaning.
+/// Returns the first octet of a text and how many octets it takes there; `None` if a `\` escapes nothing.
 #[inline]
 pub(crate) fn first_letter(text: &[u8]) -> Option<(Letter, usize)>
     requires { 0 < length text.now }

@@ -4,7 +4,7 @@ ghost use Rattle.std.specs.Prelude.{◌≡◌};
 ghost use Rattle.std.specs.Str.{str_eq_ignore_ascii_case};
 ghost use Rattle.dns_zone_words.specs.Mnemonics.{named_values, number_named};
 
-/// A name, and the number that it stands for.
+/// A mnemonic and its number.
 #[derive(Clone, Copy)]
 pub struct Mnemonic {
     pub name: &'static str,
@@ -22,7 +22,7 @@ macro_rules! named {
     };
 }
 
-/// The number of the first of the names that the text is, in letters of either case.
+/// Returns the number of the first of the names that equals the text, in either case.
 pub fn number_named(names: &[Mnemonic], text: &[u8]) -> Option<u16>
     ensures { result ≡ number_named (named_values names.now) text.now }
 {

@@ -13,11 +13,11 @@ use arrayvec::ArrayVec;
 use dns_names_wire::Name;
 use dns_types::ParseError;
 
-/// Puts a name behind octets: its labels, each behind its length, whole and with their letters, and a 0 (RFC 1035, 3.1).
-/// The word has no quotes: labels joined by dots, which the origin completes where no dot ends them. `@` alone is the
-/// origin, and a dot the root. A letter behind a `\` or of three digits is an octet of its label, whatever it is. Any other
-/// word is refused by [`Message`](ParseError::Message) of the field's text for what is wrong with it: quotes, `@` without an
-/// origin, a `\` without a meaning, an empty label or one of more than 63 octets, more than 255 octets of the name.
+/// Reads a name and appends its octets, uncompressed and with its case preserved (RFC 1035, section 3.1). The token is
+/// labels joined by dots, without quotes; the origin completes it if no dot ends it. `@` alone is the origin, and a dot
+/// the root. `\X` and `\DDD` are octets of their label, whatever they are. Any other token gives
+/// [`Message`](ParseError::Message) with the field's text for what is wrong: quotes, `@` without an origin, a `\` that
+/// escapes nothing, an empty label or one of more than 63 octets, or a name of more than 255 octets.
 pub fn put_name(
     octets: &mut Vec<u8>,
     word: ZoneWord<'_>,
@@ -81,7 +81,7 @@ fn put_completed(
     put_labels(octets, origin)
 }
 
-/// Puts a name's labels behind octets, each behind its length, and a 0 behind them.
+/// Appends a name's labels, each after its length, and a 0.
 pub fn put_labels(octets: &mut Vec<u8>, name: &Name) -> Result<(), ParseError>
     ensures put { OnOk result (octets.new.items ≡ octets.old.items ++ name_octets name.now) }
     ensures name { IsName name.now }

@@ -7,8 +7,8 @@ ghost use Rattle.dns_zone_words.specs.{Forms.number, Forms.IsNumber, Views.word_
 use crate::words::ZoneWord;
 use dns_types::ParseError;
 
-/// A decimal number of 8 bits: digits alone, without quotes. Any other word is refused by
-/// [`Message`](ParseError::Message) of the text `wrong`. Takes no memory.
+/// Reads a decimal number of 8 bits: only digits, without quotes. Any other token gives
+/// [`Message`](ParseError::Message) with the text `wrong`. Allocates nothing.
 #[inline]
 pub fn u8_of(word: ZoneWord<'_>, wrong: &'static str) -> Result<u8, ParseError>
     ensures reads { ReadsAs (number 1) (λ n. n) result (word_value word.entry) }
@@ -20,7 +20,7 @@ pub fn u8_of(word: ZoneWord<'_>, wrong: &'static str) -> Result<u8, ParseError>
     }
 }
 
-/// A decimal number of 16 bits, as `u8_of`.
+/// Reads a decimal number of 16 bits, as `u8_of` does.
 #[inline]
 pub fn u16_of(word: ZoneWord<'_>, wrong: &'static str) -> Result<u16, ParseError>
     ensures reads { ReadsAs (number 2) (λ n. n) result (word_value word.entry) }
@@ -32,7 +32,7 @@ pub fn u16_of(word: ZoneWord<'_>, wrong: &'static str) -> Result<u16, ParseError
     }
 }
 
-/// A decimal number of 32 bits, as `u8_of`.
+/// Reads a decimal number of 32 bits, as `u8_of` does.
 #[inline]
 pub fn u32_of(word: ZoneWord<'_>, wrong: &'static str) -> Result<u32, ParseError>
     ensures reads { ReadsAs (number 4) (λ n. n) result (word_value word.entry) }

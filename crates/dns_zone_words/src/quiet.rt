@@ -5,8 +5,8 @@ ghost use Rattle.dns_zone_words.specs.Quiet.{IsQuiet};
 
 use std::simd::prelude::*;
 
-/// How many octets a text begins with that are more than `most`, and neither `b` nor `c`. They are looked at in parts of
-/// sixteen, and what is left of the text behind the last whole part is not counted.
+/// Counts the octets at the front of a text that are more than `most` and neither `b` nor `c`, in blocks of sixteen.
+/// Octets after the last whole block are not counted.
 #[inline]
 pub(crate) fn quiet_len(most: u8, b: u8, c: u8, text: &[u8]) -> usize
     ensures within { result ≤ length text.now }

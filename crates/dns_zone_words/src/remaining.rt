@@ -22,7 +22,7 @@ const UNKNOWN_DATA: HexField = hex_field!("unknown data");
 
 const OTHER_LENGTH: &str = "unknown data is not as many octets as its length says";
 
-/// Whether the word is `\#` without quotes, which begins the form of unknown data (RFC 3597, 5).
+/// Returns whether the token is `\#` without quotes, which begins the form of unknown data (RFC 3597, section 5).
 #[inline]
 pub fn is_unknown_mark(word: ZoneWord<'_>) -> bool
     ensures { IsTrue result ↔ IsUnknownMark (word_value word.entry) }
@@ -30,9 +30,9 @@ pub fn is_unknown_mark(word: ZoneWord<'_>) -> bool
     !word.quoted && word.raw.len() == 2 && word.raw[0] == b'\\' && word.raw[1] == b'#'
 }
 
-/// The octets of all words that are left, in hexadecimal digits of either case; no words give none. Refused by
-/// [`Message`](ParseError::Message): of the field's text where a word stands in quotes, or else where the number of
-/// digits is odd, or else where an octet is no digit.
+/// Reads all remaining tokens as hexadecimal digits of either case; without tokens there are no octets. Returns
+/// [`Message`](ParseError::Message) with the field's text if a token is in quotes; otherwise if the number of digits is
+/// odd; otherwise if a character is no digit.
 pub fn all_hex(
     alloc: Global,
     words: &mut ZoneWords<'_>,
@@ -52,8 +52,8 @@ pub fn all_hex(
     }
 }
 
-/// The octets of all words that are left, in base64, padded at its end (RFC 4648, 4); no words give none. Words in
-/// quotes and what is no base64 are refused by [`Message`](ParseError::Message) of the text `wrong`.
+/// Reads all remaining tokens as base64 with padding (RFC 4648, section 4); without tokens there are no octets. Tokens
+/// in quotes and anything else give [`Message`](ParseError::Message) with the text `wrong`.
 pub fn all_base64(
     alloc: Global,
     words: &mut ZoneWords<'_>,
@@ -70,10 +70,9 @@ pub fn all_base64(
     }
 }
 
-/// The octets that stand behind `\#`: their number of 16 bits, and as many octets in hexadecimal digits, in words
-/// without quotes (RFC 3597, 5). Refused by [`MissingToken`](ParseError::MissingToken) where no length stands there,
-/// and by [`Message`](ParseError::Message) where it is no number, where what follows is refused by `all_hex`, or where it
-/// is of another number of octets.
+/// Reads the octets after `\#`: their number of 16 bits, and as many octets in hexadecimal digits, in tokens without
+/// quotes (RFC 3597, section 5). Returns [`MissingToken`](ParseError::MissingToken) if there is no length, and
+/// [`Message`](ParseError::Message) if it is no number, if `all_hex` fails, or if the number of octets is another one.
 pub fn unknown_data(alloc: Global, words: &mut ZoneWords<'_>) -> Result<Octets, ParseError>
     ensures reads { ReadsAll AreUnknown (λ x. x) result words.old }
     ensures why { IfErr result (λ e. (e ≡ ParseError.Memory) ⊎ UnknownFault words.old e) }
@@ -86,7 +85,7 @@ pub fn unknown_data(alloc: Global, words: &mut ZoneWords<'_>) -> Result<Octets, 
     Ok(octets)
 }
 
-/// That no word is left. Refused by [`Message`](ParseError::Message): of the text `surplus` where one is.
+/// Checks that no token is left. If one is, returns [`Message`](ParseError::Message) with the text `surplus`.
 pub fn no_more(words: &mut ZoneWords<'_>, surplus: &'static str) -> Result<(), ParseError>
     ensures took { OnOk result (words_at words.old ≡ Ok []) }
     ensures refused { OnErr result (words_at words.old ≢ Ok []) }

@@ -7,8 +7,9 @@ ghost use Rattle.dns_zone_words.specs.Spans.{spans};
 use crate::words::ZoneWords;
 use std::ops::Range;
 
-/// The offsets at which the token with this index starts and ends in a text of a zone file, its quotes included. `None` if
-/// the text has no such token, or none before the octet from which on it is not cut into tokens. Allocates nothing.
+/// Returns the offsets at which the token with this index starts and ends in a text of a zone file, its quotes
+/// included. `None` if the text has no such token before its end or before the first octet that cannot be part of a
+/// token. Allocates nothing.
 ///
 /// In `10 "a b"` the token with index 1 starts at the offset 3 and ends at 8.
 pub fn token_span(text: &[u8], index: usize) -> Option<Range<usize>>

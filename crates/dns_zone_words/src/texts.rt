@@ -17,9 +17,9 @@ use dns_words::texts::ttl_of as ttl_of_text;
 use std::net::{Ipv4Addr, Ipv6Addr};
 use std::str;
 
-/// Puts a character string of at most 255 octets behind others, its length in front: each letter's octet, in quotes or not.
-/// Any other word is refused by [`Message`](ParseError::Message) of the field's text for it: of a `\` without a meaning, or
-/// else of more than 255 octets. Takes memory as the vector grows.
+/// Reads a character string of at most 255 octets, in quotes or not, and appends its length and its octets. Any other
+/// token gives [`Message`](ParseError::Message) with the field's text: for a `\` that escapes nothing, or else for more
+/// than 255 octets. May allocate, as the vector grows.
 pub fn put_string(
     octets: &mut Vec<u8>,
     word: ZoneWord<'_>,
@@ -39,8 +39,8 @@ pub fn put_string(
     Ok(())
 }
 
-/// As `put_string`, of any number of octets and without a length: refused by [`Message`](ParseError::Message) of the text
-/// `wrong` where a `\` has no meaning.
+/// Does the same for any number of octets, without a length. If a `\` escapes nothing, returns
+/// [`Message`](ParseError::Message) with the text `wrong`.
 pub fn put_text(
     octets: &mut Vec<u8>,
     word: ZoneWord<'_>,
@@ -82,9 +82,9 @@ fn plain_len(text: &[u8]) -> usize
     at
 }
 
-/// A time to live of 32 bits, without quotes: runs of digits, each followed by `w`, `d`, `h`, `m` or `s` of either
-/// case; the last may have no unit, and then gives seconds. Any other word is refused by
-/// [`Message`](ParseError::Message) of the text `wrong`. Takes no memory.
+/// Reads a TTL of 32 bits, without quotes: runs of digits, each followed by `w`, `d`, `h`, `m` or `s` in either case;
+/// the last may have no unit and then is in seconds. Any other token gives [`Message`](ParseError::Message) with the
+/// text `wrong`. Allocates nothing.
 #[tactic(auto, using(crate::proofs::TextSteps::no_ttl))]
 pub fn ttl_of(word: ZoneWord<'_>, wrong: &'static str) -> Result<u32, ParseError>
     ensures reads { ReadsAs (bare (ttl 4294967295)) (λ n. n) result (word_value word.entry) }
@@ -99,8 +99,8 @@ pub fn ttl_of(word: ZoneWord<'_>, wrong: &'static str) -> Result<u32, ParseError
     }
 }
 
-/// An IPv4 address, without quotes. Any other word is refused by [`Message`](ParseError::Message) of the text `wrong`.
-/// Takes no memory.
+/// Reads an IPv4 address, without quotes. Any other token gives [`Message`](ParseError::Message) with the text `wrong`.
+/// Allocates nothing.
 #[tactic(auto, using(crate::proofs::TextSteps::no_ipv4))]
 pub fn ipv4_of(word: ZoneWord<'_>, wrong: &'static str) -> Result<Ipv4Addr, ParseError>
     ensures reads { ReadsAs (bare ipv4) ipv4_octets result (word_value word.entry) }
@@ -115,7 +115,7 @@ pub fn ipv4_of(word: ZoneWord<'_>, wrong: &'static str) -> Result<Ipv4Addr, Pars
     }
 }
 
-/// An IPv6 address (RFC 4291, 2.2), as `ipv4_of`.
+/// Reads an IPv6 address (RFC 4291, section 2.2), as `ipv4_of` does.
 #[tactic(auto, using(crate::proofs::TextSteps::no_ipv6))]
 pub fn ipv6_of(word: ZoneWord<'_>, wrong: &'static str) -> Result<Ipv6Addr, ParseError>
     ensures reads { ReadsAs (bare ipv6) ipv6_octets result (word_value word.entry) }
@@ -130,8 +130,9 @@ pub fn ipv6_of(word: ZoneWord<'_>, wrong: &'static str) -> Result<Ipv6Addr, Pars
     }
 }
 
-/// A record type, without quotes: its name in either case, or `TYPE` and one to five digits of a number of 16 bits
-/// ([`type_named`]). Any other word is refused by [`Message`](ParseError::Message) of the text `wrong`. Takes no memory.
+/// Reads a record type, without quotes: its name in either case, or `TYPE` and one to five digits of a number of 16
+/// bits ([`type_named`]). Any other token gives [`Message`](ParseError::Message) with the text `wrong`. Allocates
+/// nothing.
 pub fn type_of(word: ZoneWord<'_>, wrong: &'static str) -> Result<RecordType, ParseError>
     ensures reads { Decides (λ t. IsType t (word_value word.entry)) (λ t. t) result }
     ensures why { IfErr result (λ e. (e ≡ ParseError.Message wrong.entry) × HoldsOfNone (λ t. IsType t (word_value word.entry))) }

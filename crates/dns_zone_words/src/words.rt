@@ -11,19 +11,19 @@ use crate::quiet::quiet_len;
 use crate::words_error::WordsError;
 use std::marker::Model;
 
-/// A word of a text: a part of it, as it stands there.
+/// A token of a text, as the text has it.
 #[derive(Clone, Copy)]
 pub struct ZoneWord<'a> {
-    /// The word's octets, `\` and what stands behind it included, without the quotes around them.
+    /// The token's octets with their escapes, without the quotes around them.
     pub raw: &'a [u8],
-    /// Whether it stands in quotes.
+    /// Whether it is in quotes.
     pub quoted: bool,
-    /// Whether it stands right behind another word, as the second does in `alpn="h2"`.
+    /// Whether it directly follows another token, as the second does in `alpn="h2"`.
     pub joined: bool,
 }
 
 impl<'a> ZoneWord<'a> {
-    /// Its letters.
+    /// Its octets with their escapes resolved.
     #[inline]
     pub fn letters(&self) -> Letters<'a>
         ensures { result ≡ self.now.raw.now }
@@ -32,14 +32,14 @@ impl<'a> ZoneWord<'a> {
     }
 }
 
-/// The words of a text of one record's data, one by one. It takes no memory.
+/// The tokens of the text of one record's RDATA, one by one. Allocates nothing.
 ///
-/// - Blanks (space, tab), line ends (LF, CR, CR LF), comments (`;` to the line's end) and parentheses stand between
-///   words. The line ends at the first line end outside of parentheses; behind it may stand only blanks, line ends and
-///   comments. Parentheses may stand within others.
+/// - Blanks (space, tab), line ends (LF, CR, CR LF), comments (`;` to the end of the line) and parentheses separate
+///   tokens. The text ends at the first line end outside of parentheses; after it there may be only blanks, line ends
+///   and comments. Parentheses may be nested.
 /// - `"` begins a string, which goes on to the next `"` without a `\` before it. It may have any octet but a line feed
 ///   without a `\` before it.
-/// - Any other word goes on to a blank, a line end, `"`, `(`, `)` or `;`. Behind a `\` none of these but a line end
+/// - Any other token goes on to a blank, a line end, `"`, `(`, `)` or `;`. After a `\` none of these but a line end
 ///   ends it.
 #[derive(Drop)]
 pub struct ZoneWords<'a> {
@@ -62,7 +62,7 @@ impl<'a> Model for ZoneWords<'a> {
 }
 
 impl<'a> ZoneWords<'a> {
-    /// The words of a text, from the first on.
+    /// Starts at the front of a text.
     #[inline]
     pub fn new(text: &'a [u8]) -> ZoneWords<'a>
         ensures words { words_at result ≡ zone_words text.now }
@@ -76,7 +76,7 @@ impl<'a> ZoneWords<'a> {
         }
     }
 
-    /// The next word, or `None` where no further one stands. A refusal changes nothing.
+    /// Takes the next token; `None` if there is none. An error changes nothing.
     pub fn next_word(&mut self) -> Result<Option<ZoneWord<'a>>, WordsError>
         ensures word { IfOk result (λ o. IfSome o (λ w. words_at self.old ≡ with_word (word_value w) (words_at self.new))) }
         ensures shorter { IfOk result (λ o. IfSome o (λ _. length self.new.text < length self.old.text)) }
@@ -101,8 +101,9 @@ impl<'a> ZoneWords<'a> {
         Ok(Some(word))
     }
 
-    /// Takes the next token, and returns how many octets of the text are left where it starts, its opening quote included,
-    /// and how many are left after it. `None` if no token is left, or if the text is not cut into tokens from here on.
+    /// Takes the next token, and returns how many octets of the text are left where it starts, its opening quote
+    /// included, and how many are left after it. `None` if no token is left, or if the rest cannot be divided into
+    /// tokens.
     pub fn next_left(&mut self) -> Option<(usize, usize)>
         ensures some { IfSome result (λ left. lefts_at self.old ≡ left ∷ lefts_at self.new) }
         ensures none { IfNone result (lefts_at self.old ≡ []) }
@@ -123,7 +124,7 @@ impl<'a> ZoneWords<'a> {
         Some((left, rest.len()))
     }
 
-    /// Another one, from the same place on.
+    /// Makes a copy that continues at the same offset.
     #[inline]
     pub fn again(&self) -> ZoneWords<'a>
         ensures { result ≡ self.now }
@@ -135,7 +136,7 @@ impl<'a> ZoneWords<'a> {
         }
     }
 
-    /// How many octets of the text are left.
+    /// Returns how many octets of the text are left.
     #[inline]
     pub fn octets_left(&self) -> usize
         ensures { result ≡ length self.now.text }

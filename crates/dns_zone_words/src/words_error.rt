@@ -7,7 +7,7 @@ use dns_types::ParseError;
 use std::fmt;
 use thiserror::Error;
 
-/// Why the text of a zone file has no tokens.
+/// Why the text of a zone file cannot be divided into tokens.
 #[derive(Clone, Copy, Debug, PartialEq, Eq, Error)]
 pub enum WordsError {
     /// A `(` is not closed.
@@ -23,7 +23,7 @@ pub enum WordsError {
 }
 
 impl WordsError {
-    /// The same in words.
+    /// Returns the error as a text.
     pub fn text(self) -> &'static str
         ensures { result.now ≡ cut_text self }
     {
@@ -43,7 +43,7 @@ impl fmt::Display for WordsError {
     }
 }
 
-/// A message of the same text.
+/// Makes a message of the same text.
 impl From<WordsError> for ParseError {
     ghost from_gives = { λ why e. Says (cut_text why) e };
 

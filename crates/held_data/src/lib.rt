@@ -7,7 +7,7 @@ pub mod measured;
 use dns_rdata::{BinDecoder, DecodeError, Name, ParseError, RData, RecordType, Restrict};
 use std::alloc::{AllocError, Global};
 
-/// The type that a word names or gives the number of.
+/// Returns the type that a token names, or whose number it is.
 pub fn record_type(word: &str) -> Result<RecordType, ParseError> {
     match word.parse::<u16>() {
         Ok(number) => Ok(RecordType::from(number)),
@@ -34,7 +34,7 @@ impl Drop for HeldList {
 }
 
 impl Held {
-    /// The value of so many octets at the decoder's place.
+    /// Reads RDATA at the decoder's offset.
     pub fn read(
         decoder: &mut BinDecoder<'_>,
         record_type: RecordType,
@@ -44,7 +44,7 @@ impl Held {
         Ok(Held(value))
     }
 
-    /// The value whose data is a whole message.
+    /// Reads RDATA that is a whole message.
     pub fn whole(
         alloc: Global,
         octets: &[u8],
@@ -54,12 +54,12 @@ impl Held {
         Held::read(&mut BinDecoder::new(alloc, octets), record_type, length)
     }
 
-    /// The value of a text.
+    /// Reads RDATA from a text.
     pub fn parse(alloc: Global, record_type: RecordType, text: &str) -> Result<Held, ParseError> {
         Ok(Held(RData::try_from_str(alloc, record_type, text)?))
     }
 
-    /// The value of words, with a blank between each two.
+    /// Reads RDATA from tokens, joined with spaces.
     pub fn of_words(
         alloc: Global,
         record_type: RecordType,
@@ -69,7 +69,7 @@ impl Held {
         Ok(Held(value))
     }
 
-    /// The value of words, with a blank between each two, whose relative names are completed by an origin.
+    /// Reads RDATA from tokens, joined with spaces; an origin completes relative names.
     pub fn of_words_within(
         alloc: Global,
         record_type: RecordType,
@@ -80,7 +80,7 @@ impl Held {
         Ok(Held(value))
     }
 
-    /// An equal value.
+    /// Copies the value.
     pub fn copy(&self) -> Result<Held, AllocError> {
         Ok(Held(self.0.clone()?))
     }

@@ -13,14 +13,14 @@ use std::alloc::{AllocError, Global};
 use std::cmp::Ordering;
 use std::io;
 
-/// The data of two records of one type, each a whole message.
+/// The RDATA of two records of one type, each a whole message.
 #[derive(Drop)]
 pub struct Pair {
     /// The type of both records.
     pub record_type: RecordType,
-    /// The data of the one.
+    /// The RDATA of the first record.
     pub left: Vec<u8>,
-    /// The data of the other.
+    /// The RDATA of the second record.
     pub right: Vec<u8>,
 }
 
@@ -38,7 +38,7 @@ fn order_words(words: &[String]) -> Option<(&str, &str, &str)>
     Some((record_type.as_str(), left.as_str(), right.as_str()))
 }
 
-/// The data that the words ask for. Fails only for want of memory.
+/// Reads the request from the arguments. Fails only if an allocation fails.
 pub fn order_request(alloc: Global, words: &[String]) -> Result<Option<Pair>, AllocError>
     ensures { IfOk result (λ found. MatchOption found (NoOrderRequest (texts words.now))
         (λ r. AsksOrder (texts words.now) r.record_type r.left.items r.right.items)) }
@@ -89,8 +89,8 @@ fn order_of(alloc: Global, pair: &Pair) -> Result<Ordering, DecodeError>
     Ok(value.0.cmp(&other.0))
 }
 
-/// Reads both, the left one first, writes their order, and returns the status: 0 if both are RDATA of the type, 1 if one
-/// is not, 3 if an allocation fails, 4 if writing fails.
+/// Reads both, the left one first, writes their order, and returns the status: 0 if both are RDATA of the type, 1 if
+/// one is not, 3 if an allocation fails, 4 if writing fails.
 pub fn serve_order<W: io::Write, E: io::Write>(
     alloc: Global,
     pair: &Pair,

@@ -27,7 +27,7 @@ fn parse_words(words: &[String]) -> Option<(&str, &str)>
     Some((record_type.as_str(), text.as_str()))
 }
 
-/// The type and the text that the words ask for.
+/// Reads the type and the text from the arguments.
 pub fn text_request(words: &[String]) -> Option<(RecordType, &str)>
     ensures { MatchOption result (NoTextRequest (texts words.now)) (λ r. AsksText (texts words.now) r.0 r.1.now) }
 {
@@ -48,8 +48,8 @@ fn parsed(alloc: Global, record_type: RecordType, text: &str) -> Result<Held, Pa
     Ok(Held(RData::try_from_str(alloc, record_type, text)?))
 }
 
-/// Reads the text, writes the result, and returns the status: 0 with four lines if the text is of a value of the type, 1
-/// if it is of none, 3 if an allocation fails, 4 if writing fails.
+/// Reads the text, writes the result, and returns the status: 0 with four lines if the text is of a value of the type,
+/// 1 if it is of none, 3 if an allocation fails, 4 if writing fails.
 pub fn serve_text<W: io::Write, E: io::Write>(
     alloc: Global,
     record_type: RecordType,

@@ -32,7 +32,7 @@ fn value_at(
     RData::read(&mut decoder, record_type, Restrict::new(length))
 }
 
-/// Reads the data of a record at a place of a message, and holds it.
+/// Reads the RDATA of a record at an offset of a message, and holds it.
 pub fn read_at(
     alloc: Global,
     message: &[u8],
@@ -119,7 +119,7 @@ fn value_text(alloc: Global, value: &RData) -> Result<String, AllocError>
     }
 }
 
-/// The four lines that are printed of a value. Fails only for want of memory.
+/// Returns the four lines that are printed for a value. Fails only if an allocation fails.
 #[tactic(auto, using(std::proofs::Common::append_assoc))]
 pub fn lines(alloc: Global, record_type: RecordType, value: &RData) -> Result<String, AllocError>
     ensures { IfOk result (λ lines. IsReport record_type value.now (string_bytes lines)) }
@@ -131,7 +131,7 @@ pub fn lines(alloc: Global, record_type: RecordType, value: &RData) -> Result<St
     format!(in alloc; "type {number}\ntext {text}\ncanonical {canonical}\nemitted {emitted}\n")
 }
 
-/// Writes a text, and answers the status; 4 where the writer refuses it.
+/// Writes a text, and returns the status; 4 if writing fails.
 pub fn say<W: io::Write>(out: &mut W, text: &str, status: u8) -> u8
     ensures { (result ≡ 4) ⊎ ((result ≡ status) × Appends (W.contents out.old) (W.contents out.new) text.now) }
 {
@@ -154,8 +154,8 @@ pub fn reject<W: io::Write, E: io::Write, T: fmt::Display>(
     say(out, "refused\n", 1)
 }
 
-/// Reads what is asked for, writes the result, and returns the status: 0 with four lines if a value fills the octets, 1 if
-/// none does, 3 if an allocation fails, 4 if writing fails.
+/// Reads what is asked for, writes the result, and returns the status: 0 with four lines if a value fills the octets, 1
+/// if none does, 3 if an allocation fails, 4 if writing fails.
 pub fn serve<W: io::Write, E: io::Write>(
     alloc: Global,
     request: &Request,

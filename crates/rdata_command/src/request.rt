@@ -7,16 +7,16 @@ use dns_rdata::RecordType;
 use hex::FromHexError;
 use std::alloc::{AllocError, Global};
 
-/// Record data in a message.
+/// RDATA in a message.
 #[derive(Drop)]
 pub struct Request {
     /// The type of the record.
     pub record_type: RecordType,
     /// The message.
     pub message: Vec<u8>,
-    /// The place of the data in the message.
+    /// The offset of the RDATA in the message.
     pub place: usize,
-    /// How many octets of the message the data has.
+    /// RDLENGTH.
     pub length: u16,
 }
 
@@ -37,7 +37,7 @@ fn short_number(word: &str) -> Option<u16>
     u16::try_from(number(word)?).ok()
 }
 
-/// The type that a word names or gives the number of.
+/// Returns the type that an argument names, or whose number it is.
 pub fn record_type(word: &str) -> Option<RecordType>
     ensures { MatchOption result ((t : _) → ¬ (IsTypeWord word.now t)) (λ t. IsTypeWord word.now t) }
 {
@@ -47,7 +47,7 @@ pub fn record_type(word: &str) -> Option<RecordType>
     }
 }
 
-/// The octets that a word spells. Fails only for want of memory.
+/// Reads octets in hexadecimal. Fails only if an allocation fails.
 pub fn octets(alloc: Global, word: &str) -> Result<Option<Vec<u8>>, AllocError>
     ensures { IfOk result (λ found. MatchOption found ((m : List ℕ) → ¬ (IsOctetsWord word.now m)) (λ octets. IsOctetsWord word.now octets.items)) }
 {
@@ -83,7 +83,7 @@ fn read_words(words: &[String]) -> Option<(&str, &str, &str, &str)>
     ))
 }
 
-/// What the words ask for: every word is tested before anything is read. Without memory for the message it is refused.
+/// Reads the request from the arguments, all of them before any RDATA. Fails only if an allocation fails.
 pub fn parse(alloc: Global, words: &[String]) -> Result<Option<Request>, AllocError>
     ensures { IfOk result (λ found. MatchOption found (NoRequest (texts words.now))
         (λ r. Asks (texts words.now) r.record_type r.place r.length r.message.items)) }

@@ -28,7 +28,7 @@ impl Model for IpNet {
 }
 
 impl IpNet {
-    /// With this address and prefix; none where the prefix has more bits than the address.
+    /// Makes a net of this address and prefix; `None` if the prefix has more bits than the address.
     pub fn new(addr: IpAddr, prefix_len: u8) -> Option<IpNet>
         ensures some { IfSome result (λ n. (n ≡ (addr, prefix_len)) × (prefix_len ≤ address_bits addr)) }
         ensures none { IfNone result (address_bits addr < prefix_len) }
@@ -43,7 +43,7 @@ impl IpNet {
         Some(IpNet { addr, prefix_len })
     }
 
-    /// The address, all of its bits as they were given.
+    /// The address, with all of its bits as given.
     #[inline]
     pub fn addr(&self) -> IpAddr
         ensures { result ≡ self.now.0 }
@@ -60,7 +60,7 @@ impl IpNet {
         self.prefix_len
     }
 
-    /// The net itself: the address with its bits behind the prefix set to 0, and the same prefix.
+    /// Returns the net with the bits of its address after the prefix set to 0.
     pub fn masked(self) -> IpNet
         ensures { result ≡ (masked_address self.1 self.0, self.1) }
     {
@@ -71,7 +71,7 @@ impl IpNet {
     }
 }
 
-/// The address with its first bits as they are, so many, and 0 for the others.
+/// The address with its first `bits` bits, and 0 for the others.
 pub(crate) fn masked_address(addr: IpAddr, bits: u8) -> IpAddr
     ensures { result ≡ masked_address bits addr }
 {

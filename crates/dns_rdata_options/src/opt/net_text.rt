@@ -20,8 +20,8 @@ fn prefix_of(digits: &str) -> Option<u8>
     digits.parse::<u8>().ok()
 }
 
-/// An address as `IpAddr` reads it, `/`, and one to three decimal digits of a number of at most 32 behind IPv4 and at
-/// most 128 behind IPv6, leading zeros allowed. Any other text is refused by [`AddrParseError`]. Takes no memory.
+/// Reads an address as `IpAddr` does, a `/`, and the prefix in one to three decimal digits, leading zeros allowed: at
+/// most 32 for IPv4 and 128 for IPv6. Any other text gives [`AddrParseError`]. Allocates nothing.
 impl FromStr for IpNet {
     type Err = AddrParseError;
 
@@ -44,8 +44,8 @@ impl FromStr for IpNet {
     }
 }
 
-/// The text of a net, whose prefix is the source prefix; the scope prefix is 0. Any other text is refused by
-/// [`AddrParseError`]. Takes no memory.
+/// Reads the text of a net. Its prefix becomes the source prefix; the scope prefix is 0. Any other text gives
+/// [`AddrParseError`]. Allocates nothing.
 impl FromStr for ClientSubnet {
     type Err = AddrParseError;
 

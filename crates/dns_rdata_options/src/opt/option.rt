@@ -11,19 +11,19 @@ use crate::opt::subnet::ClientSubnet;
 use dns_names_wire::{BinEncodable, BinEncoder, DecodeError, Octets, ProtoError};
 use std::alloc::{AllocError, Global};
 
-/// What an EDNS option holds (RFC 6891, 6.1.2). Options are ordered by variant, and then by what they hold.
+/// An EDNS option (RFC 6891, section 6.1.2). Options are ordered by variant, and then by their data.
 #[derive(Debug, PartialEq, Eq, PartialOrd, Ord, Hash, Drop)]
 pub enum EdnsOption {
     /// The subnet of a client (RFC 7871).
     Subnet(ClientSubnet),
-    /// The payload of NSID (RFC 5001).
+    /// The name server's identifier (RFC 5001).
     NSID(NSIDPayload),
     /// Any other option: the number of its code, and its octets.
     Unknown(u16, Octets),
 }
 
 impl EdnsOption {
-    /// How many octets it has on the wire.
+    /// Returns how many octets it has on the wire.
     #[inline]
     pub fn len(&self) -> u16
         requires { option_len self.now ≤ 65535 }
@@ -44,7 +44,7 @@ impl EdnsOption {
         }
     }
 
-    /// Whether it has no octet on the wire.
+    /// Returns whether it has no octets on the wire.
     #[inline]
     pub fn is_empty(&self) -> bool
         ensures { IsTrue result ↔ (option_len self.now ≡ 0) }
@@ -52,9 +52,13 @@ impl EdnsOption {
         self.octets_len() == 0
     }
 
-    /// The option that a code and octets give. It goes by the variant of the code: one of `Unknown` gives `Unknown`,
-    /// whatever its number. Where the code is `Subnet` it is refused as `ClientSubnet::read`, where it is `NSID` as
-    /// `NSIDPayload::try_from`. Memory is asked for once for the octets, and not for a subnet.
+    /// Makes the option of this code from its octets. The variant of the code decides: `EdnsCode::Unknown` gives
+    /// `Unknown`, whatever its number. Allocates once for the octets; for a subnet nothing.
+    ///
+    /// # Errors
+    ///
+    /// For `Subnet` those of `ClientSubnet::read`, for `NSID` those of `NSIDPayload::try_from`; for all others only
+    /// [`Memory`](DecodeError::Memory), if an allocation fails.
     pub fn try_from(alloc: Global, value: (EdnsCode, &[u8])) -> Result<EdnsOption, DecodeError>
         ensures { ReadsOption value.entry.0 value.entry.1.now result }
     {
@@ -66,7 +70,7 @@ impl EdnsOption {
         }
     }
 
-    /// The octets that `emit` appends to a fresh encoder, and refused as there.
+    /// Returns the octets that `emit` appends to a fresh encoder. The errors are those of `emit`.
     pub fn to_vec(&self, alloc: Global) -> Result<Vec<u8>, ProtoError>
         ensures ok { IfOk result (λ octets. (octets.items ≡ option_octets (option_value self.now))
             × IsEmittableOption (option_value self.now)) }
@@ -85,8 +89,8 @@ impl EdnsOption {
 impl BinEncodable for EdnsOption {
     ghost emits = { λ x r old new. EmitsFitting (IsEmittableOption (option_value x)) (option_octets (option_value x)) r old new };
 
-    /// Appends the octets, without code and length. A subnet is refused as there; [`Message`](ProtoError::Message)
-    /// refuses no other option.
+    /// Appends the octets, without code and length. The errors of a subnet are those of its own `emit`. No other option
+    /// gives [`Message`](ProtoError::Message).
     fn emit(&self, encoder: &mut BinEncoder<'_>) -> Result<(), ProtoError> {
         match self {
             EdnsOption::Subnet(subnet) => subnet.emit(encoder),
@@ -108,7 +112,7 @@ fn emit_octets(encoder: &mut BinEncoder<'_>, octets: &[u8]) -> Result<(), ProtoE
 impl Clone for EdnsOption {
     ghost is_clone = { λ a b. b ≡ a };
 
-    /// The same option, its octets in memory of their own.
+    /// Copies the option.
     #[inline]
     fn clone(&self) -> Result<EdnsOption, AllocError> {
         match self {
@@ -125,7 +129,7 @@ impl Clone for EdnsOption {
 impl From<&EdnsOption> for EdnsCode {
     ghost from_gives = { λ option code. code ≡ code_of option.now };
 
-    /// The code of its own: of `Unknown` the one that `from` gives for its number.
+    /// Returns the option's own code. For `Unknown` it is the one that `EdnsCode::from` gives for the number.
     fn from(option: &EdnsOption) -> EdnsCode {
         match option {
             EdnsOption::Subnet(_) => EdnsCode::Subnet,

@@ -11,8 +11,8 @@ use std::marker::Model;
 // The most octets that an option has.
 const MOST: usize = 65535;
 
-/// The payload of an NSID option (RFC 5001, 2.3): at most 65535 octets of any form, which contracts see as their list.
-/// Payloads are ordered by the first difference, and a proper beginning is less.
+/// The payload of an NSID option (RFC 5001, section 2.3): at most 65535 octets of any form. Contracts see the list of
+/// them. Payloads are ordered octet by octet; a proper prefix is less.
 #[derive(Debug, Drop, PartialEq, Eq, PartialOrd, Ord, Hash)]
 pub struct NSIDPayload {
     octets: Octets,
@@ -31,7 +31,7 @@ impl Model for NSIDPayload {
 }
 
 impl NSIDPayload {
-    /// The octets of the list, which is moved. More than 65535 are refused by [`Message`](ProtoError::Message).
+    /// Makes a payload of these octets. More than 65535 give [`Message`](ProtoError::Message). Allocates nothing.
     pub fn new(payload: Vec<u8>) -> Result<NSIDPayload, ProtoError>
         ensures ok { IfOk result (λ p. (p ≡ payload.items) × (length payload.items ≤ 65535)) }
         ensures refused { IfErr result (λ e. IsMessage e × (65535 < length payload.items)) }
@@ -44,8 +44,8 @@ impl NSIDPayload {
         })
     }
 
-    /// A copy of the octets, in memory that is asked for once. More than 65535 are refused by
-    /// [`IncorrectRDataLengthRead`](DecodeError::IncorrectRDataLengthRead) of their number and 65535.
+    /// Copies the octets. Allocates once. More than 65535 give
+    /// [`IncorrectRDataLengthRead`](DecodeError::IncorrectRDataLengthRead) with their number and 65535.
     pub fn try_from(alloc: Global, payload: &[u8]) -> Result<NSIDPayload, DecodeError>
         ensures ok { IfOk result (λ p. (p ≡ payload.now) × (length payload.now ≤ 65535)) }
         ensures refused { IfErr result (λ e. (e ≡ DecodeError.Memory)
@@ -60,7 +60,7 @@ impl NSIDPayload {
         })
     }
 
-    /// The octets, lent.
+    /// The octets.
     #[inline]
     pub fn as_ref(&self) -> &[u8]
         ensures value { result.now ≡ self.now }
@@ -74,7 +74,7 @@ impl NSIDPayload {
 impl Clone for NSIDPayload {
     ghost is_clone = { λ a b. b ≡ a };
 
-    /// The same octets in memory of their own.
+    /// Copies the payload.
     #[inline]
     fn clone(&self) -> Result<NSIDPayload, AllocError> {
         Ok(NSIDPayload {

@@ -12,25 +12,32 @@ use dns_names_wire::{BinDecodable, BinDecoder, BinEncodable, BinEncoder, DecodeE
 use std::alloc::Global;
 use std::net::{IpAddr, Ipv4Addr, Ipv6Addr};
 
-/// The subnet of a client (RFC 7871, 6). Subnets are ordered by their fields: IPv4 before IPv6, then by the address's
-/// octets, the source prefix and the scope prefix.
+/// The subnet of a client (RFC 7871, section 6).
 ///
-/// On the wire: the family in two octets, 1 for IPv4 and 2 for IPv6, the source prefix and the scope prefix in one
-/// each, and the first octets of the address, as many as the source prefix divided by 8 and rounded up. Bits of the
-/// last of these that are past the prefix stay as they are.
+/// ```text
+/// +--+--+--+--+  +--------+  +--------+  +-- ..
+/// |   FAMILY  |  | SOURCE |  | SCOPE  |  | ADDRESS
+/// |           |  | PREFIX |  | PREFIX |  |
+/// +--+--+--+--+  +--------+  +--------+  +-- ..
+/// ```
+///
+/// FAMILY has two octets: 1 for IPv4, 2 for IPv6. Each prefix has one. ADDRESS has as many octets as the source prefix
+/// needs: its bits divided by 8 and rounded up. Bits of the last octet after the prefix are kept as they are.
+///
+/// Subnets are ordered by their fields: IPv4 before IPv6, then address, source prefix and scope prefix.
 #[derive(Clone, Copy, Debug, PartialEq, Eq, PartialOrd, Ord, Hash)]
 pub struct ClientSubnet {
-    /// The address. Of one that was read, the octets that the source prefix does not ask for are 0.
+    /// The address. After a read, the octets that the source prefix does not need are 0.
     pub address: IpAddr,
     /// How many bits of the address the client gives.
     pub source_prefix: u8,
-    /// How many bits of the address an answer is for; 0 in a question.
+    /// How many bits of the address an answer is for; 0 in a query.
     pub scope_prefix: u8,
 }
 
 impl ClientSubnet {
-    /// With these fields. Any are taken; where the source prefix asks for more than 4 octets of IPv4, or more than 16
-    /// of IPv6, `emit` refuses the subnet.
+    /// Makes a subnet of these fields, whatever they are. If the source prefix needs more than the 4 octets of IPv4 or
+    /// the 16 of IPv6, `emit` returns an error.
     #[inline]
     pub fn new(address: IpAddr, source_prefix: u8, scope_prefix: u8) -> ClientSubnet
         ensures { result ≡ record { address = address; source_prefix = source_prefix; scope_prefix = scope_prefix } }
@@ -42,7 +49,7 @@ impl ClientSubnet {
         }
     }
 
-    /// How many octets it has on the wire: 4, and those of the address that the source prefix asks for.
+    /// Returns how many octets it has on the wire: 4, and those of the address that the source prefix needs.
     #[inline]
     pub fn len(&self) -> u16
         ensures { result ≡ 4 + prefix_octets self.now.source_prefix }
@@ -50,7 +57,7 @@ impl ClientSubnet {
         4 + (u16::from(self.source_prefix) + 7) / 8
     }
 
-    /// Whether it has no octet on the wire: it always has some.
+    /// Returns `false`: it always has octets on the wire.
     #[inline]
     pub fn is_empty(&self) -> bool
         ensures { result ≡ false }
@@ -106,8 +113,8 @@ impl ClientSubnet {
         self.scope_prefix = scope_prefix;
     }
 
-    /// The subnet with the bits of its address behind the source prefix set to 0; both prefixes stay. A source prefix of
-    /// as many bits as the address has or more keeps the address.
+    /// Returns the subnet with the bits of its address after the source prefix set to 0 and with the same prefixes. If
+    /// the source prefix has at least as many bits as the address, the address is unchanged.
     #[inline]
     pub fn masked(self) -> ClientSubnet
         ensures { result ≡ record self { address = masked_address self.source_prefix self.address } }
@@ -121,7 +128,7 @@ impl ClientSubnet {
 }
 
 impl ClientSubnet {
-    /// The octets that `emit` appends to a fresh encoder, and refused as there, in memory that is asked for once.
+    /// Returns the octets that `emit` appends to a fresh encoder. Allocates once. The errors are those of `emit`.
     pub fn to_vec(&self, alloc: Global) -> Result<Vec<u8>, ProtoError>
         ensures ok { IfOk result (λ octets. (octets.items ≡ option_octets (subnet_value self.now)) × IsEmittableOption (subnet_value self.now)) }
         ensures refused { IfErr result (λ e. (e ≡ ProtoError.Memory) ⊎ (IsMessage e × (IsEmittableOption (subnet_value self.now) → ⊥))) }
@@ -139,7 +146,7 @@ impl From<IpNet> for ClientSubnet {
 
     ghost from_gives = { λ net x. x ≡ record { address = net.0; source_prefix = net.1; scope_prefix = 0 } };
 
-    /// The net's address, its prefix as the source prefix, and the scope prefix 0.
+    /// Makes a subnet of the net's address, with its prefix as the source prefix and 0 as the scope prefix.
     fn from(net: IpNet) -> ClientSubnet {
         ClientSubnet::new(net.addr(), net.prefix_len(), 0)
     }
@@ -206,11 +213,16 @@ impl BinDecodable for ClientSubnet {
 
     ghost refuses = { λ old e _. IsSubnetRefusal (drop old.index old.message) e };
 
-    /// Reads a subnet, and leaves what follows. Octets of the address that do not stand are 0. It is refused, and takes
-    /// nothing, for the first of these: by [`UnknownAddressFamily`](DecodeError::UnknownAddressFamily) for a family
-    /// that is neither 1 nor 2; by [`IncorrectRDataLengthRead`](DecodeError::IncorrectRDataLengthRead) of 4 or 16 and
-    /// of the octets that the source prefix asks for, where these are more; by
-    /// [`InsufficientBytes`](DecodeError::InsufficientBytes) where octets are missing.
+    /// Reads a subnet and leaves what follows it. Octets of the address that are not sent are 0.
+    ///
+    /// # Errors
+    ///
+    /// The first of these. The decoder is unchanged then.
+    ///
+    /// - [`UnknownAddressFamily`](DecodeError::UnknownAddressFamily): the family is neither 1 nor 2.
+    /// - [`IncorrectRDataLengthRead`](DecodeError::IncorrectRDataLengthRead), with 4 or 16 and the octets that the
+    ///   source prefix needs: these are more.
+    /// - [`InsufficientBytes`](DecodeError::InsufficientBytes): the message ends first.
     fn read(decoder: &mut BinDecoder<'_>) -> Result<ClientSubnet, DecodeError>
         ensures reads { ReadsBy SubnetAt result decoder.old decoder.new }
         ensures refused { IfErr result (λ e. IsSubnetRefusal (drop decoder.old.index decoder.old.message) e) }
@@ -228,7 +240,7 @@ impl TryFrom<&[u8]> for ClientSubnet {
 
     ghost try_from_gives = { λ octets r. ReadsSubnet octets.now r };
 
-    /// The subnet that begins the octets, whatever follows. Refused as `read`.
+    /// Reads the subnet at the front of the octets, whatever follows. The errors are those of `read`.
     fn try_from(octets: &[u8]) -> Result<ClientSubnet, DecodeError> {
         let (subnet, _len) = read_front(octets)?;
         Ok(subnet)
@@ -260,8 +272,8 @@ fn emit_parts(
 impl BinEncodable for ClientSubnet {
     ghost emits = { λ x r old new. EmitsFitting (IsEmittableOption (subnet_value x)) (option_octets (subnet_value x)) r old new };
 
-    /// Appends family, prefixes, and the octets of the address that the source prefix asks for. It is refused by
-    /// [`Message`](ProtoError::Message) where these are more than the address has.
+    /// Appends family, prefixes, and the octets of the address that the source prefix needs. Returns
+    /// [`Message`](ProtoError::Message) if these are more than the address has.
     fn emit(&self, encoder: &mut BinEncoder<'_>) -> Result<(), ProtoError> {
         match self.address {
             IpAddr::V4(ip) => emit_parts(encoder, 1, self, &ip.octets()),

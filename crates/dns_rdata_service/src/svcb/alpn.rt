@@ -14,13 +14,13 @@ use dns_names_wire::{
 use std::alloc::{AllocError, Global};
 use std::fmt;
 
-/// The names of the protocols that a service speaks beside its scheme's own (RFC 9460, 7.1): character strings of
-/// UTF-8, at least one. A name of up to 16 octets takes no memory of its own.
+/// The names of the protocols that a service speaks besides its scheme's default (RFC 9460, section 7.1): one or more
+/// character strings of UTF-8. A name of up to 16 octets is kept without an allocation of its own.
 #[derive(Debug, Drop, PartialEq, Eq, Hash)]
 pub struct Alpn(pub Items<SmallOctets<16>>);
 
 impl Alpn {
-    /// With these names, which are moved, or copied where they are few octets. Asks for memory once, for the list.
+    /// Makes a list of these names. Allocates once, for the list. Short names are copied into it.
     pub fn new(names: Vec<String>) -> Result<Alpn, AllocError>
         ensures { IfOk result (λ x. x.0 ≡ map string_bytes names.items) }
     {
@@ -33,8 +33,8 @@ impl Alpn {
 }
 
 impl Alpn {
-    /// With these names, copied: `Alpn::from_strs(alloc, &["h2", "h3"])`. Allocates once for the list, and once for each
-    /// name of more than 16 octets.
+    /// Copies these names: `Alpn::from_strs(alloc, &["h2", "h3"])`. Allocates once for the list, and once for each name
+    /// of more than 16 octets.
     pub fn from_strs(alloc: Global, names: &[&str]) -> Result<Alpn, AllocError>
         ensures { IfOk result (λ x. x.0 ≡ map (λ name. name.now) names.now) }
     {
@@ -51,10 +51,14 @@ impl BinDecodable for Alpn {
 
     ghost refuses = { λ old e _. IsValueRefusal Names (drop old.index old.message) e };
 
-    /// Reads names to the message's end, by one request for memory for the list and one for each name of more than 16
-    /// octets. None are refused by [`SvcParamMissingValue`](DecodeError::SvcParamMissingValue), a name that lacks
-    /// octets by [`InsufficientBytes`](DecodeError::InsufficientBytes), and one that is not UTF-8 by
-    /// [`Utf8`](DecodeError::Utf8).
+    /// Reads names to the end of the decoder's octets. Allocates once for the list, and once for each name of more than
+    /// 16 octets.
+    ///
+    /// # Errors
+    ///
+    /// - [`SvcParamMissingValue`](DecodeError::SvcParamMissingValue): there are no octets.
+    /// - [`InsufficientBytes`](DecodeError::InsufficientBytes): the octets end within a name.
+    /// - [`Utf8`](DecodeError::Utf8): a name is not UTF-8.
     #[tactic(auto, using(crate::proofs::ValueReads::each_more, crate::proofs::ValueReads::names_read, crate::proofs::ValueReads::names_missing, crate::proofs::ValueReads::text_behind))]
     fn read(decoder: &mut BinDecoder<'_>) -> Result<Alpn, DecodeError>
         ensures reads { ReadsBy AlpnAt result decoder.old decoder.new }
@@ -101,8 +105,8 @@ fn strings_in(octets: &[u8]) -> usize
 impl BinEncodable for Alpn {
     ghost emits = { λ x r old new. EmitsValue (alpn_value x) r old new };
 
-    /// Appends the names as character strings. None, and one of more than 255 octets, are refused by
-    /// [`Message`](ProtoError::Message).
+    /// Appends the names as character strings. Returns [`Message`](ProtoError::Message) if there are none, or if one
+    /// has more than 255 octets.
     fn emit(&self, encoder: &mut BinEncoder<'_>) -> Result<(), ProtoError> {
         if self.0.len() == 0 {
             return Err(ProtoError::Message("no protocols"));
@@ -117,7 +121,7 @@ impl BinEncodable for Alpn {
 impl Clone for Alpn {
     ghost is_clone = { λ a b. b ≡ a };
 
-    /// The same names in memory of their own.
+    /// Copies the names.
     #[inline]
     fn clone(&self) -> Result<Alpn, AllocError>
         ensures { IfOk result (λ copy. copy ≡ self.now) }
@@ -132,7 +136,7 @@ impl fmt::Display for Alpn {
 
     ghost output = { λ x. Some (alpn_text x) };
 
-    /// Each name and a comma: `h2,h3,`. U+FFFD stands for octets that are not UTF-8, which no name that was read has.
+    /// Writes each name and a comma: `h2,h3,`. Octets that are not UTF-8 become U+FFFD; a name that was read has none.
     #[tactic(auto, unfolding(dns_rdata_base::specs::Lossy::lossy))]
     fn fmt<W: fmt::Write>(&self, f: &mut fmt::Formatter<W>) -> fmt::Result {
         for name in self.0.as_slice() {

@@ -13,8 +13,8 @@ use std::alloc::AllocError;
 use std::mem;
 
 impl SvcParamValue {
-    /// The key whose values have this form; `None` for [`Unknown`](SvcParamValue::Unknown) octets, which go with any
-    /// other key.
+    /// Returns the key whose values have this form; `None` for [`Unknown`](SvcParamValue::Unknown) octets, which go
+    /// with any other key.
     pub fn key(&self) -> Option<SvcParamKey>
         ensures { result ≡ own_key self.now }
     {
@@ -33,15 +33,15 @@ impl SvcParamValue {
 }
 
 impl SVCB {
-    /// Puts a value in under its own key, before the first parameter whose key has a greater number (RFC 9460, section
-    /// 2.2); it replaces an earlier value of that key. Keys that rose before still rise. May allocate.
+    /// Inserts a value under its own key, before the first parameter whose key has a greater number (RFC 9460, section
+    /// 2.2), and replaces an earlier value of that key. Keys that were in order stay in order. May allocate.
     ///
     /// # Errors
     ///
     /// The record is unchanged then.
     ///
-    /// - [`Message`](ProtoError::Message): the value is [`Unknown`](SvcParamValue::Unknown) octets, which have no key of
-    ///   their own: see [`insert_as`](SVCB::insert_as).
+    /// - [`Message`](ProtoError::Message): the value is [`Unknown`](SvcParamValue::Unknown) octets, which have no key
+    ///   of their own: see [`insert_as`](SVCB::insert_as).
     /// - [`Memory`](ProtoError::Memory): an allocation failed.
     pub fn insert(&mut self, value: SvcParamValue) -> Result<(), ProtoError>
         ensures inserted { (k : SvcParamKey) → own_key value ≡ Some k → OnOk result (self.new.svc_params ≡ inserted (k, value) self.old.svc_params) }
@@ -60,8 +60,8 @@ impl SVCB {
         }
     }
 
-    /// Puts a value in under this key, before the first parameter whose key has a greater number; it replaces an
-    /// earlier value of a key with the same number. Keys that rose before still rise. Fails only if an allocation
+    /// Inserts a value under this key, before the first parameter whose key has a greater number, and replaces an
+    /// earlier value of a key with the same number. Keys that were in order stay in order. Fails only if an allocation
     /// fails; the record is unchanged then.
     #[tactic(auto, using(crate::proofs::Changes::inserted_finds, crate::proofs::Changes::inserted_others, crate::proofs::Changes::inserted_rises))]
     pub fn insert_as(&mut self, key: SvcParamKey, value: SvcParamValue) -> Result<(), AllocError>
@@ -83,7 +83,7 @@ impl SVCB {
         outcome
     }
 
-    /// Takes out every parameter whose key has this key's number; the others keep their order.
+    /// Removes every parameter whose key has this key's number. The others keep their order. Allocates nothing.
     pub fn remove(&mut self, key: SvcParamKey)
         ensures removed { self.new.svc_params ≡ removed (key_number key) self.old.svc_params }
         ensures priority { self.new.svc_priority ≡ self.old.svc_priority }

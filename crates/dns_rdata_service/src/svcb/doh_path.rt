@@ -13,13 +13,13 @@ use dns_names_wire::{
 use std::alloc::AllocError;
 use std::fmt;
 
-/// A template of the path to which DNS queries are sent over HTTPS (RFC 9461, 5), as `/dns-query{?dns}`: UTF-8, which is
-/// not looked into further. A path of up to 16 octets takes no memory of its own.
+/// The template of the path to which DNS queries are sent over HTTPS (RFC 9461, section 5), such as `/dns-query{?dns}`:
+/// UTF-8, of which nothing else is checked. A path of up to 16 octets is kept without an allocation.
 #[derive(Debug, Drop, PartialEq, Eq, Hash)]
 pub struct DohPath(pub SmallOctets<16>);
 
 impl DohPath {
-    /// Of this text, which is moved, or copied where it is few octets. Takes no memory.
+    /// Makes a path of this text. Allocates nothing.
     pub fn new(path: String) -> DohPath
         ensures { result.0 ≡ string_bytes path }
     {
@@ -32,7 +32,7 @@ impl BinDecodable for DohPath {
 
     ghost refuses = { λ old e _. IsPathRefusal (drop old.index old.message) e };
 
-    /// Reads the octets to the message's end. What is not UTF-8 is refused by [`Utf8`](DecodeError::Utf8).
+    /// Reads to the end of the decoder's octets. Returns [`Utf8`](DecodeError::Utf8) if they are not UTF-8.
     #[inline]
     fn read(decoder: &mut BinDecoder<'_>) -> Result<DohPath, DecodeError>
         ensures reads { ReadsBy DohPathAt result decoder.old decoder.new }
@@ -60,7 +60,7 @@ impl BinEncodable for DohPath {
 impl Clone for DohPath {
     ghost is_clone = { λ a b. b ≡ a };
 
-    /// The same path.
+    /// Copies the path.
     #[inline]
     fn clone(&self) -> Result<DohPath, AllocError>
         ensures { IfOk result (λ copy. copy ≡ self.now) }
@@ -75,8 +75,8 @@ impl fmt::Display for DohPath {
 
     ghost output = { λ x. Some (doh_path_text x) };
 
-    /// The path in quotes: `"/dns-query{?dns}"`. U+FFFD stands for octets that are not UTF-8, which no path that was read
-    /// has.
+    /// Writes the path in quotes: `"/dns-query{?dns}"`. Octets that are not UTF-8 become U+FFFD; a path that was read
+    /// has none.
     #[tactic(auto, unfolding(dns_rdata_base::specs::Lossy::lossy))]
     fn fmt<W: fmt::Write>(&self, f: &mut fmt::Formatter<W>) -> fmt::Result {
         let text = BStr::new(self.0.as_slice());

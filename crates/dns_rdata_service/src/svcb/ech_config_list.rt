@@ -13,7 +13,7 @@ use dns_words::Base64Text;
 use std::alloc::AllocError;
 use std::fmt;
 
-/// A configuration of Encrypted ClientHello for a service, with the length in front of it: any octets.
+/// The ECHConfigList of a service for Encrypted ClientHello, with its length in front (RFC 9848): any octets.
 #[derive(Drop, PartialEq, Eq, Hash)]
 pub struct EchConfigList(pub Octets);
 
@@ -22,7 +22,7 @@ impl BinDecodable for EchConfigList {
 
     ghost refuses = { λ old e _. IsValueRefusal AnyOctets (drop old.index old.message) e };
 
-    /// Reads the octets to the message's end, by one request for memory.
+    /// Reads to the end of the decoder's octets. Allocates once.
     #[inline]
     fn read(decoder: &mut BinDecoder<'_>) -> Result<EchConfigList, DecodeError>
         ensures reads { ReadsBy EchConfigListAt result decoder.old decoder.new }
@@ -47,7 +47,7 @@ impl BinEncodable for EchConfigList {
 impl Clone for EchConfigList {
     ghost is_clone = { λ a b. b ≡ a };
 
-    /// The same octets in memory of their own.
+    /// Copies the octets.
     #[inline]
     fn clone(&self) -> Result<EchConfigList, AllocError>
         ensures { IfOk result (λ copy. copy ≡ self.now) }
@@ -62,7 +62,7 @@ impl fmt::Display for EchConfigList {
 
     ghost output = { λ x. Some (ech_text x) };
 
-    /// Base64 in quotes (RFC 4648, 4): `"AAEC"`.
+    /// Writes base64 in quotes (RFC 4648, section 4): `"AAEC"`.
     fn fmt<W: fmt::Write>(&self, f: &mut fmt::Formatter<W>) -> fmt::Result {
         let octets = Base64Text(self.0.as_slice());
         write!(f, "\"{octets}\"")
@@ -70,7 +70,7 @@ impl fmt::Display for EchConfigList {
 }
 
 impl fmt::Debug for EchConfigList {
-    /// Base64 in parentheses, in quotes: `"EchConfig (AAEC)"`.
+    /// Writes base64 in parentheses, in quotes: `"EchConfig (AAEC)"`.
     fn fmt<W: fmt::Write>(&self, f: &mut fmt::Formatter<W>) -> fmt::Result {
         let octets = Base64Text(self.0.as_slice());
         write!(f, "\"EchConfig ({octets})\"")

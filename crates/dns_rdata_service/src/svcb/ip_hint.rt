@@ -10,12 +10,12 @@ use dns_rdata_base::TakesOctet;
 use std::alloc::AllocError;
 use std::fmt;
 
-/// Addresses of a service, none or more, one behind the other (RFC 9460, 7.3).
+/// Addresses of a service, one after the other; there may be none (RFC 9460, section 7.3).
 #[derive(Debug, Drop, PartialEq, Eq, Hash)]
 pub struct IpHint<T>(pub Items<T>);
 
 impl<T> IpHint<T> {
-    /// With these addresses, which are moved, in this order. Nothing is refused.
+    /// Makes a list of these addresses, in this order. Allocates nothing.
     #[inline]
     pub fn new(addresses: Vec<T>) -> IpHint<T>
         ensures { result.0 ≡ addresses.items }
@@ -25,9 +25,9 @@ impl<T> IpHint<T> {
 }
 
 impl<T: TakesOctet + Drop> IpHint<T> {
-    /// Reads addresses to the message's end. Where each has as many octets as the first, it asks for memory once beside
-    /// what an address asks for itself. Where one is refused, so are all, by the same error; where memory runs out, by
-    /// [`Memory`](DecodeError::Memory).
+    /// Reads addresses to the end of the decoder's octets. If each has as many octets as the first, this allocates
+    /// once, besides what reading each address allocates. The errors are those of reading an address, and
+    /// [`Memory`](DecodeError::Memory) if an allocation fails.
     #[tactic(auto, using(crate::proofs::ValueReads::each_more))]
     pub fn read(decoder: &mut BinDecoder<'_>) -> Result<IpHint<T>, DecodeError>
         ensures reads { ReadsEach T.stands (λ x. x.0) result decoder.old decoder.new }
@@ -73,8 +73,8 @@ pub(super) fn emit_each<T: BinEncodable>(
 impl<T: Clone> Clone for IpHint<T> {
     ghost is_clone = { λ a b. AllZip T.is_clone a.0 b.0 };
 
-    /// Clones of the addresses, in memory that is asked for once beside theirs. Where clones equal what they are made of,
-    /// it is the same value.
+    /// Clones the addresses. Allocates once, besides what cloning each address allocates. If clones of addresses are
+    /// equal to them, so is the result.
     #[inline]
     fn clone(&self) -> Result<IpHint<T>, AllocError>
         ensures clones { IfOk result (λ copy. AllZip T.is_clone self.now.0 copy.0) }
@@ -89,7 +89,7 @@ impl<T: fmt::Display> fmt::Display for IpHint<T> {
 
     ghost output = { λ x. each_text T.output x.0 };
 
-    /// Each address and a comma: `192.0.2.1,192.0.2.2,`.
+    /// Writes each address and a comma: `192.0.2.1,192.0.2.2,`.
     fn fmt<W: fmt::Write>(&self, f: &mut fmt::Formatter<W>) -> fmt::Result {
         for item in self.0.as_slice() {
             write!(f, "{item},")?;

@@ -15,30 +15,30 @@ use std::fmt;
 use std::hash::{Hash, Hasher};
 use std::str::FromStr;
 
-/// The key of a service parameter (RFC 9460, 14.3.2). Keys are ordered by number, and then as declared here.
+/// The key of a service parameter (RFC 9460, section 14.3.2). Keys are ordered by number, and then as declared here.
 #[derive(Clone, Copy, Debug)]
 pub enum SvcParamKey {
     /// Keys that a client must know (0; RFC 9460, 8).
     Mandatory,
     /// Protocols (1; 7.1).
     Alpn,
-    /// That the scheme's own protocol is not served (2; 7.1).
+    /// The scheme's default protocol is not supported (2; 7.1).
     NoDefaultAlpn,
     /// A port (3; 7.2).
     Port,
     /// IPv4 addresses (4; 7.3).
     Ipv4Hint,
-    /// A configuration of Encrypted ClientHello (5).
+    /// An ECHConfigList for Encrypted ClientHello (5).
     EchConfigList,
     /// IPv6 addresses (6; 7.3).
     Ipv6Hint,
-    /// A template of the path of DNS queries over HTTPS (7; RFC 9461, 5).
+    /// The template of the path of DNS queries over HTTPS (7; RFC 9461, section 5).
     DohPath,
-    /// For private use: `from` gives it for 65280 to 65534.
+    /// For private use: `from` returns it for 65280 to 65534.
     Key(u16),
     /// Reserved, an invalid key (65535).
     Key65535,
-    /// A number that is given to no key: `from` gives it for every other number.
+    /// A number that no key has: `from` returns it for every other number.
     Unknown(u16),
 }
 
@@ -86,7 +86,7 @@ impl From<SvcParamKey> for u16 {
 }
 
 impl SvcParamKey {
-    /// The number on the wire.
+    /// Returns the number on the wire.
     #[inline]
     pub fn number(self) -> u16
         ensures { result ≡ key_number self }
@@ -181,7 +181,8 @@ impl BinDecodable for SvcParamKey {
 
     ghost refuses = { IsCut 2 };
 
-    /// Reads the number in two octets, the higher one first. Where fewer are left, it is refused, and takes none.
+    /// Reads the number in two octets, the higher one first. If fewer are left, this returns an error, and the decoder
+    /// is unchanged.
     #[inline]
     fn read(decoder: &mut BinDecoder<'_>) -> Result<SvcParamKey, DecodeError>
         ensures reads { ReadsBy (NumberedAt 2 key_number key_of) result decoder.old decoder.new }
@@ -209,7 +210,8 @@ impl fmt::Display for SvcParamKey {
 
     ghost output = { λ e. Some (key_text e) };
 
-    /// The key's name: `alpn`; for numbers without one `key` or `unknown` and the number, as the variant.
+    /// Writes the key's name: `alpn`. For numbers without a name it is `key` or `unknown`, by the variant, and the
+    /// number.
     #[tactic(auto, unfolding(crate::specs::SvcParamKey::key_text))]
     fn fmt<W: fmt::Write>(&self, f: &mut fmt::Formatter<W>) -> fmt::Result {
         match *self {
@@ -236,9 +238,9 @@ fn numbered(text: &str) -> Option<u16>
     digits.parse::<u16>().ok()
 }
 
-/// `mandatory`, `alpn`, `no-default-alpn`, `port`, `ipv4hint`, `ech`, `ipv6hint`, `dohpath`, `key65535`, or `key`,
-/// perhaps a `+`, and one decimal digit or more of a number of 16 bits, which gives `Key` of that number, also where it
-/// has a key of its own. Any other text is refused by `Message`. Takes no memory, so nothing is refused for want of it.
+/// Reads `mandatory`, `alpn`, `no-default-alpn`, `port`, `ipv4hint`, `ech`, `ipv6hint`, `dohpath`, `key65535`; or
+/// `key`, perhaps a `+`, and a decimal number of 16 bits, which gives `Key` of that number even if it has a name. Any
+/// other text gives `Message`. Allocates nothing.
 impl FromStr for SvcParamKey {
     type Err = ProtoError;
 

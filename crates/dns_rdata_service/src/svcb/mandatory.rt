@@ -12,12 +12,12 @@ use dns_names_wire::{BinDecodable, BinDecoder, BinEncodable, BinEncoder, DecodeE
 use std::alloc::AllocError;
 use std::fmt;
 
-/// The keys that a client must know to use a service (RFC 9460, 8): each a number of two octets, at least one.
+/// The keys that a client must know to use a service (RFC 9460, section 8): one or more, in two octets each.
 #[derive(Debug, Drop, PartialEq, Eq, Hash)]
 pub struct Mandatory(pub Items<SvcParamKey>);
 
 impl Mandatory {
-    /// With these keys, which are moved, in this order. Nothing is refused; no keys are refused where they are emitted.
+    /// Makes a list of these keys, in this order. Allocates nothing. An empty list cannot be emitted.
     #[inline]
     pub fn new(keys: Vec<SvcParamKey>) -> Mandatory
         ensures { result.0 ≡ keys.items }
@@ -31,9 +31,9 @@ impl BinDecodable for Mandatory {
 
     ghost refuses = { λ old e _. IsValueRefusal Keys (drop old.index old.message) e };
 
-    /// Reads keys to the message's end, by one request for memory. None are refused by
-    /// [`SvcParamMissingValue`](DecodeError::SvcParamMissingValue), and an odd octet by
-    /// [`InsufficientBytes`](DecodeError::InsufficientBytes).
+    /// Reads keys to the end of the decoder's octets. Allocates once. Returns
+    /// [`SvcParamMissingValue`](DecodeError::SvcParamMissingValue) if there are no octets, and
+    /// [`InsufficientBytes`](DecodeError::InsufficientBytes) if their number is odd.
     #[tactic(auto, using(crate::proofs::ValueReads::each_more, crate::proofs::ValueReads::keys_read, crate::proofs::ValueReads::keys_odd, crate::proofs::ValueReads::keys_refused, crate::proofs::ValueReads::keys_missing, crate::proofs::Splits::stays_then))]
     fn read(decoder: &mut BinDecoder<'_>) -> Result<Mandatory, DecodeError>
         ensures reads { ReadsBy MandatoryAt result decoder.old decoder.new }
@@ -53,7 +53,7 @@ impl BinDecodable for Mandatory {
 impl BinEncodable for Mandatory {
     ghost emits = { λ x r old new. EmitsValue (mandatory_value x) r old new };
 
-    /// Appends the keys' numbers. None are refused by [`Message`](ProtoError::Message).
+    /// Appends the keys' numbers. Returns [`Message`](ProtoError::Message) if there are no keys.
     #[tactic(auto, using(crate::proofs::EachEmits::keys_emit))]
     fn emit(&self, encoder: &mut BinEncoder<'_>) -> Result<(), ProtoError> {
         if self.0.len() == 0 {
@@ -66,7 +66,7 @@ impl BinEncodable for Mandatory {
 impl Clone for Mandatory {
     ghost is_clone = { λ a b. b ≡ a };
 
-    /// The same keys in memory of their own.
+    /// Copies the keys.
     #[inline]
     fn clone(&self) -> Result<Mandatory, AllocError>
         ensures { IfOk result (λ copy. copy ≡ self.now) }
@@ -81,7 +81,7 @@ impl fmt::Display for Mandatory {
 
     ghost output = { λ x. Some (mandatory_text x) };
 
-    /// Each key and a comma: `alpn,ipv4hint,`.
+    /// Writes each key and a comma: `alpn,ipv4hint,`.
     fn fmt<W: fmt::Write>(&self, f: &mut fmt::Formatter<W>) -> fmt::Result {
         for key in self.0.as_slice() {
             write!(f, "{key},")?;

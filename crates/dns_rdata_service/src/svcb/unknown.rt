@@ -12,7 +12,7 @@ use dns_names_wire::{
 use std::alloc::AllocError;
 use std::fmt;
 
-/// The value of a key that has no form of its own: any octets (RFC 9460, 2.1).
+/// The value of a key without a format of its own: any octets (RFC 9460, section 2.1).
 #[derive(Debug, Drop, PartialEq, Eq, Hash)]
 pub struct Unknown(pub Octets);
 
@@ -21,7 +21,7 @@ impl BinDecodable for Unknown {
 
     ghost refuses = { λ old e _. IsValueRefusal AnyOctets (drop old.index old.message) e };
 
-    /// Reads the octets to the message's end, by one request for memory.
+    /// Reads to the end of the decoder's octets. Allocates once.
     #[inline]
     fn read(decoder: &mut BinDecoder<'_>) -> Result<Unknown, DecodeError>
         ensures reads { ReadsBy UnknownAt result decoder.old decoder.new }
@@ -56,7 +56,7 @@ pub(super) fn emit_octets(octets: &[u8], encoder: &mut BinEncoder<'_>) -> Result
 impl Clone for Unknown {
     ghost is_clone = { λ a b. b ≡ a };
 
-    /// The same octets in memory of their own.
+    /// Copies the octets.
     #[inline]
     fn clone(&self) -> Result<Unknown, AllocError>
         ensures { IfOk result (λ copy. copy ≡ self.now) }
@@ -71,7 +71,7 @@ impl fmt::Display for Unknown {
 
     ghost output = { λ x. Some (unknown_text x) };
 
-    /// The octets as text in quotes, and a comma: `"a",`. U+FFFD stands for octets that are not UTF-8.
+    /// Writes the octets as text in quotes, and a comma: `"a",`. Octets that are not UTF-8 become U+FFFD.
     #[tactic(auto, unfolding(dns_rdata_base::specs::Lossy::lossy))]
     fn fmt<W: fmt::Write>(&self, f: &mut fmt::Formatter<W>) -> fmt::Result {
         let text = BStr::new(self.0.as_slice());

@@ -17,25 +17,25 @@ use dns_rdata_base::{A, AAAA};
 use std::alloc::{AllocError, Global};
 use std::fmt;
 
-/// The value of a service parameter (RFC 9460, 7 and 8; RFC 9461, 5). A value that is read is the one of its key; one
-/// that a caller makes may stand with any key.
+/// The value of a service parameter (RFC 9460, sections 7 and 8; RFC 9461, section 5). A read makes the variant of the
+/// key; a caller may put any variant under any key.
 #[derive(Debug, Drop, PartialEq, Eq, Hash)]
 pub enum SvcParamValue {
     /// Keys that a client must know.
     Mandatory(Mandatory),
     /// Protocols.
     Alpn(Alpn),
-    /// That the scheme's own protocol is not served.
+    /// The scheme's default protocol is not supported.
     NoDefaultAlpn,
     /// A port.
     Port(u16),
     /// IPv4 addresses.
     Ipv4Hint(IpHint<A>),
-    /// A configuration of Encrypted ClientHello.
+    /// An ECHConfigList for Encrypted ClientHello.
     EchConfigList(EchConfigList),
     /// IPv6 addresses.
     Ipv6Hint(IpHint<AAAA>),
-    /// A template of the path of DNS queries over HTTPS.
+    /// The template of the path of DNS queries over HTTPS.
     DohPath(DohPath),
     /// The octets of any other key.
     Unknown(Unknown),
@@ -129,9 +129,9 @@ fn hint6(alloc: Global, octets: &[u8]) -> Result<IpHint<AAAA>, DecodeError>
 impl BinEncodable for SvcParamValue {
     ghost emits = { λ x r old new. EmitsSized (value_of x) r old new };
 
-    /// Appends the value's length in two octets, and its octets. No keys or protocols, and a protocol of more than 255
-    /// octets are refused by [`Message`](ProtoError::Message); a value of more than 65535 octets has no room in any
-    /// message.
+    /// Appends the value's length in two octets, and its octets. Returns [`Message`](ProtoError::Message) for an empty
+    /// list of keys or protocols and for a protocol of more than 255 octets. A value of more than 65535 octets fits in
+    /// no message: it returns [`MaxBufferSizeExceeded`](ProtoError::MaxBufferSizeExceeded).
     #[tactic(auto, using(crate::proofs::EachEmits::place_refused, crate::proofs::EachEmits::sized_refused))]
     fn emit(&self, encoder: &mut BinEncoder<'_>) -> Result<(), ProtoError> {
         let place = encoder.place()?;
@@ -145,7 +145,7 @@ impl BinEncodable for SvcParamValue {
 impl Clone for SvcParamValue {
     ghost is_clone = { λ a b. b ≡ a };
 
-    /// The same value in memory of its own.
+    /// Copies the value.
     #[inline]
     fn clone(&self) -> Result<SvcParamValue, AllocError>
         ensures { IfOk result (λ copy. copy ≡ self.now) }
@@ -170,7 +170,7 @@ impl fmt::Display for SvcParamValue {
 
     ghost output = { λ x. Some (value_text x) };
 
-    /// The value as in a zone's text, with a comma behind each key, protocol and address: `h2,`; nothing for
+    /// Writes the value as in a zone file, with a comma after each key, protocol and address: `h2,`. Writes nothing for
     /// `NoDefaultAlpn`.
     fn fmt<W: fmt::Write>(&self, f: &mut fmt::Formatter<W>) -> fmt::Result {
         match self {
