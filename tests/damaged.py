@@ -1,11 +1,11 @@
 """Runs the program on damaged messages and words, and compares each answer with what a plain table wants.
 
-The messages are those of the replayed runs (crates/rdata_rows/data): each with other lengths, cut, with an octet changed or one
+The messages are those of the replayed runs (crates/rdata_replay/data): each with other lengths, cut, with an octet changed or one
 more behind it. The messages of rejected runs are among them. Beside them stand pointers in the data of every type with a name, edges of
 the lists in records, records as long as they can be, and texts truncated after each word. tests/plain_table.py says which
 octets are data and what is printed of them, and tests/plain_words.py which texts are.
 
-All runs go through one program: the built crates/rdata_rows where it is up to date, else a quick build (`rt try`), in which
+All runs go through one program: the built crates/rdata_replay where it is up to date, else a quick build (`rt try`), in which
 nothing is proved. The number of runs of each kind is printed. The last line is 'N as wanted, M not'.
 """
 
@@ -20,7 +20,7 @@ import plain_table
 import plain_words
 
 TOP = pathlib.Path(__file__).resolve().parent.parent
-ROWS = TOP / "crates/rdata_rows"
+ROWS = TOP / "crates/rdata_replay"
 # How many of the cuts of one message are taken in front of its record and behind it, within it, and within a great one.
 FEW, MANY, OF_GREAT = 8, 1000, 5
 
@@ -247,8 +247,8 @@ def wrong_lines():
 
 def built_program():
     """The built program that replays rows, where no source is newer."""
-    program = ROWS / "out/rdata_rows"
-    test = 'top=$1; . "$top/tests/build.sh"; is_built "$2" rdata_rows'
+    program = ROWS / "out/rdata_replay"
+    test = 'top=$1; . "$top/tests/build.sh"; is_built "$2" rdata_replay'
     done = subprocess.run(["bash", "-c", test, "bash", str(TOP), str(program)], stdout=subprocess.DEVNULL)
     return program if done.returncode == 0 else None
 

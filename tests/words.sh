@@ -20,5 +20,5 @@ while IFS= read -r line; do
     bad=$((bad + 1))
     echo "not as wanted: ${words[*]:0:3}"
   fi
-done < <(grep -v '^#' "$top/crates/rdata_rows/data/rows.tsv")
+done < <(grep -v '^#' "$top/crates/rdata_replay/data/rows.tsv")
 echo "$good as wanted, $bad not"

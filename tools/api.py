@@ -95,6 +95,26 @@ def exported(crate):
     return names
 
 
+def small_modules(crate):
+    """The modules that the root of a crate writes out: what each re-exports."""
+    text = (TOP / f"crates/{crate}/src/lib.rt").read_text(encoding="utf-8")
+    found = re.findall(r"^pub mod (\w+) \{\n    pub use [\w:]+::(?:\{([^}]*)\}|(\w+));\n\}", text, re.M)
+    return {name: re.findall(r"\w+", group or single) for name, group, single in found}
+
+
+def is_exported(crate, module, name):
+    """Whether an item of a file can be named from outside: each file above it exports the module or the item."""
+    parts = module.split("::")
+    for i in range(1, len(parts)):
+        text = (TOP / f"crates/{crate}/src/{'/'.join(parts[:i])}.rt").read_text(encoding="utf-8")
+        part = parts[i]
+        if re.search(rf"^pub mod {part};", text, re.M):
+            continue
+        if not re.search(rf"^pub use {part}::(?:\{{[^}}]*\b{name}\b[^}}]*\}}|{name});", text, re.M):
+            return False
+    return True
+
+
 def row(it):
     return f"| `{it.name}` | {it.sentence()} | {it.allocates()} |"
 
@@ -143,14 +163,17 @@ def page():
             out.extend(row(it) for it in functions)
             out.append("")
         shown = {name for name, _ in names}
-        for name, path in names:
+        small = small_modules(crate)
+        for name, path in names + [(name, "") for name in small]:
             below = [
                 it
                 for at, items in crates.get(path.split("::")[0], ({}, {}))[0].items()
                 if at == name or at.startswith(name + "::")
                 for it in items
-                if it.name not in shown
+                if it.name not in shown and is_exported(path.split("::")[0], at, it.name)
             ]
+            if name in small:
+                below = [where[it] for it in small[name] if it in where and it not in shown]
             if below and name not in where:
                 out.append(f"### Module `{name}`\n\n`use {crate}::{name};`\n")
                 for it in below:

@@ -17,7 +17,7 @@ from made import write_or_check
 TOP = pathlib.Path(__file__).resolve().parent.parent
 PAGE = TOP / "docs/STATEMENT.md"
 HEAD = re.compile(
-    r"^(?:pub )?(?:abbrev|unfoldable|data|record|opaque|type_row)\b(?: pub)?\s+([^\s:({]+)|^pub ([a-z_][^\s:({]*)\s*:"
+    r"^(?:pub )?(?:abbrev|unfoldable|data|record|opaque|type_entry)\b(?: pub)?\s+([^\s:({]+)|^pub ([a-z_][^\s:({]*)\s*:"
 )
 WORD = re.compile(r"[^\s(){}\[\],;:∷≡×⊎→λ¬+\-*/<>≤≢↦|∥=\"]+")
 

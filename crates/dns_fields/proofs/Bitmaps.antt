@@ -7,7 +7,7 @@ use Rattle.std.proofs.lemmas.List.FromFn.{get_or-map-range_with_len, length-map-
 use Rattle.std.proofs.lemmas.Nat.Bits.{bit_at_lowest, bit_at-zero, bit_at_cat_low, bit_at_cat_high}
 use Rattle.dns_fields.specs.Bitmaps.{Block, block, IsBlock, has_type, contains, AllAbove, Rises, IsTypeSet, BitmapAt, packed, mark, keep, trimmed}
 use Rattle.dns_fields.specs.Bitmaps.{types_octet, window, with_block, windows, minimal}
-use Rattle.dns_fields.proofs.{Places.At-same_end, Places.At-appended, Places.At-append, Pieces.parts, Pieces.joined_same}
+use Rattle.dns_fields.proofs.{NameOffsets.At-same_end, NameOffsets.At-appended, NameOffsets.At-append, Tlvs.parts, Tlvs.joined_same}
 
 -- ---- blocks are told by their octets
 
@@ -131,13 +131,13 @@ window_bit v t =
     let j : ℕ = t % 256 / 8 in
     let k : ℕ = t / 256 in
     let f : ℕ → ℕ = λ b. mark v (256 * k + (8 * j + b)) in
-    let place : 256 * (t / 256) + (8 * (t % 256 / 8) + t % 8) ≡ t = omega arith in
+    let number_is : 256 * (t / 256) + (8 * (t % 256 / 8) + t % 8) ≡ t = omega arith in
     let inside : t % 256 / 8 < 32 = omega arith in
     let low : t % 8 < 8 = omega arith in
     ap (λ (o : ℕ). bit_at o (7 - t % 8)) (trimmed_get (map (types_octet v k) (range_with_len 0 32)) j
     ∙ get_or-map-range_with_len (types_octet v k) 0 32 j j 0 inside (omega arith))
     ∙ packed_bit f (λ b. mark_small v (256 * k + (8 * j + b))) 8 (t % 8) low
-    ∙ ap (mark v) place
+    ∙ ap (mark v) number_is
 
 -- the block of window k has a type exactly where the set has it and k is its window
 window_has : (v : List ℕ) (t k : ℕ) → has_type t (k, window v k) ≡ (t / 256 == k) && contains t v

@@ -3,10 +3,10 @@ use Rattle.std.proofs.Common.{◌≡◌, ◌≢◌, ℕ, ◌+◌, ◌/◌, ◌<�
 use Rattle.std.proofs.Common.{length, refl, arith}
 use Rattle.std.specs.{List.list_all, List.AllByRecursion, Cmp.Derive.both_true}
 use Rattle.std.proofs.lemmas.Bool.Decides.{nat_tests}
-use Rattle.dns_fields.specs.Pieces.{Numbered, OptionValue, Subnet, Plain, option_octets, OptionFits, IsAddress, option_emittable, options_emittable}
-use Rattle.dns_fields.specs.Pieces.{ParameterValue, Mandatory, Alpn, parameter_octets, ParameterFits, IsEmittable, parameter_emittable, is_some}
-use Rattle.dns_fields.specs.Pieces.{Below, Rising, rising_behind, rising}
-use Rattle.dns_fields.specs.Fields.{Kind, Text, Texts, Options, Parameters, Value, Values, Fits, AllFit, is_emittable, all_emittable}
+use Rattle.dns_fields.specs.Tlvs.{Numbered, OptionValue, Subnet, OpaqueOption, option_octets, OptionFits, IsAddress, option_emittable, options_emittable}
+use Rattle.dns_fields.specs.Tlvs.{ParameterValue, Mandatory, Alpn, parameter_octets, ParameterFits, IsEmittable, parameter_emittable, is_some}
+use Rattle.dns_fields.specs.Tlvs.{Below, Rising, rising_behind, rising}
+use Rattle.dns_fields.specs.Fields.{Kind, CharacterString, CharacterStrings, Options, Parameters, Value, Values, Fits, AllFit, is_emittable, all_emittable}
 
 short_string : (s : List ℕ) → length s < 256 → nat_le (length s) 255 ≡ true
 short_string s h = grind (arith, nat_tests)
@@ -32,7 +32,7 @@ subnet_fits family source address h = both_true (long (length address) ((source 
 one_option : (x : Numbered OptionValue) → OptionFits x → (nat_le (length (option_octets x.1)) 65535 && option_emittable x.1) ≡ true
 one_option (code, Subnet family source scope address) h = both_true (small_body (option_octets (Subnet family source scope address)) h.0.1)
     (subnet_fits family source address h.1)
-one_option (code, Plain s) h = both_true (small_body s h.0.1) refl
+one_option (code, OpaqueOption s) h = both_true (small_body s h.0.1) refl
 
 options_fit : (v : List (Numbered OptionValue)) → AllByRecursion OptionFits v → options_emittable v ≡ true
 options_fit [] h = refl
@@ -63,8 +63,8 @@ rises [] r = refl
 rises (x ∷ xs) r = rises_behind x.0 xs r.0 r.1
 
 pub fits_emittable : (k : Kind) (v : Value k) → Fits k v → is_emittable k v ≡ true
-fits_emittable Text s h = short_string s h
-fits_emittable Texts ss h = short_strings ss h
+fits_emittable CharacterString s h = short_string s h
+fits_emittable CharacterStrings ss h = short_strings ss h
 fits_emittable Options v h = options_fit v h
 fits_emittable Parameters v h = both_true (all_values v h.0) (rises v h.1)
 fits_emittable k v h = refl

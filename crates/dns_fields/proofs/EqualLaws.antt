@@ -3,28 +3,28 @@ use Rattle.std.proofs.Common.{◌≡◌, ℕ, zero, suc, ◌↔◌, List, [], �
 use Rattle.std.specs.{Bool.Decides, Cmp.unsigned_Decides, Cmp.booleans_Decides, Cmp.Lexicographic.pointwise, Cmp.Lexicographic.pointwise_decides}
 use Rattle.std.specs.{FinMap.IsAntisymmetric, FinMap.nat_cmp-IsAntisymmetric, FinMap.slice_cmp-IsAntisymmetric, List.Sorted.IsPermutation}
 use Rattle.std.proofs.{lemmas.Bool.Decides.Decides-and, lemmas.List.Sorted.IsPermutation-map}
-use Rattle.dns_fields.specs.{Labels.lowname, Fields.Kind, Fields.Number, Fields.Name, Fields.Texts, Fields.Options, Fields.Parameters, Fields.Value}
+use Rattle.dns_fields.specs.{Labels.lowname, Fields.Kind, Fields.Number, Fields.Name, Fields.CharacterStrings, Fields.Options, Fields.Parameters, Fields.Value}
 use Rattle.dns_fields.specs.{Fields.SameField, Fields.IsFull, Equal.Key, Equal.key_eq, Equal.key_cmp, Equal.option_key_of, Equal.option_key}
 use Rattle.dns_fields.specs.{Equal.option_keys, Equal.parameter_key_of, Equal.parameter_key, Equal.parameter_keys, Equal.kind_eq, Laws.EqualLaw}
-use Rattle.dns_fields.specs.Pieces.{Numbered, OptionValue, Subnet, Plain, ParameterValue, Mandatory, Alpn, NoDefaultAlpn, Port, Ipv4Hint, Ipv6Hint}
-use Rattle.dns_fields.specs.Pieces.{Opaque}
+use Rattle.dns_fields.specs.Tlvs.{Numbered, OptionValue, Subnet, OpaqueOption, ParameterValue, Mandatory, Alpn, NoDefaultAlpn, Port, Ipv4Hint, Ipv6Hint}
+use Rattle.dns_fields.specs.Tlvs.{Opaque}
 use Rattle.dns_fields.proofs.{Orders.key_total, Sorted.sorted_one, Sorted.sorted_apart}
 
 -- ---- a key tells its pair: the pair is read back
 
 option_value : ℕ → List (List ℕ) → OptionValue
 option_value zero ((family ∷ source ∷ scope ∷ []) ∷ address ∷ []) = Subnet family source scope address
-option_value (suc n) (s ∷ []) = Plain s
-option_value n content = Plain []
+option_value (suc n) (s ∷ []) = OpaqueOption s
+option_value n content = OpaqueOption []
 
 option_of : Key → Numbered OptionValue
 option_of ((code ∷ variant ∷ []) ∷ content) = (code, option_value variant content)
-option_of key = (0, Plain [])
+option_of key = (0, OpaqueOption [])
 
 option_back : (code : ℕ) (v : OptionValue) → option_of (option_key_of code v) ≡ (code, v)
 unfolding option_value option_of
 option_back code (Subnet family source scope address) = refl
-option_back code (Plain s) = refl
+option_back code (OpaqueOption s) = refl
 
 parameter_value : ℕ → List (List ℕ) → ParameterValue
 parameter_value zero (keys ∷ []) = Mandatory keys
@@ -82,7 +82,7 @@ field_decide (Number w) a b f g = let d = unsigned_Decides a b in (λ h. record 
 field_decide Name a b f g =
     let d = Decides-and _ _ (octets_decide (lowname a) (lowname b)) (booleans_Decides a.fully_qualified b.fully_qualified) in
     (λ h. record { is = record { low = (d.0 h).0 } }, λ s. d.1 (s.is.low, f ∙ sym g))
-field_decide Texts a b f g = let d = pointwise_decides octets_decide a b in (λ h. record { is = d.0 h }, λ s. d.1 s.is)
+field_decide CharacterStrings a b f g = let d = pointwise_decides octets_decide a b in (λ h. record { is = d.0 h }, λ s. d.1 s.is)
 field_decide Options a b f g =
     let d = keys_decide (option_keys a) (option_keys b) in
     let o = options_decide a b in

@@ -3,7 +3,7 @@ use Rattle.std.specs.Prelude.{[], ◌∷◌, List}
 use Rattle.std.specs.{Cmp.IsEquivalence, Cmp.and_equiv, Cmp.on_equiv, Cmp.bool_eq_equiv, Cmp.nat_eq_equiv, Cmp.Derive.point_equiv}
 use Rattle.std.specs.Cmp.Lexicographic.{pointwise, lists_equiv, nat_list_eq_equiv, on_texts_equal}
 use Rattle.dns_fields.specs.{Labels.lowname, Comparing.is_qualified, Equal.key_eq, Equal.option_keys, Equal.parameter_keys, Equal.kind_eq}
-use Rattle.dns_fields.specs.{Equal.values_eq, Fields.Kind, Fields.Number, Fields.Name, Fields.Texts, Fields.Options, Fields.Parameters, Fields.Values}
+use Rattle.dns_fields.specs.{Equal.values_eq, Fields.Kind, Fields.Number, Fields.Name, Fields.CharacterStrings, Fields.Options, Fields.Parameters, Fields.Values}
 
 keys_equiv : IsEquivalence (pointwise key_eq)
 keys_equiv = lists_equiv (lists_equiv nat_list_eq_equiv)
@@ -11,7 +11,7 @@ keys_equiv = lists_equiv (lists_equiv nat_list_eq_equiv)
 pub kind_equiv : (k : Kind) → IsEquivalence (kind_eq k)
 kind_equiv (Number w) = nat_eq_equiv
 kind_equiv Name = and_equiv (on_texts_equal lowname) (on_equiv is_qualified bool_eq_equiv)
-kind_equiv Texts = lists_equiv nat_list_eq_equiv
+kind_equiv CharacterStrings = lists_equiv nat_list_eq_equiv
 kind_equiv Options = on_equiv option_keys keys_equiv
 kind_equiv Parameters = on_equiv parameter_keys keys_equiv
 kind_equiv k = nat_list_eq_equiv

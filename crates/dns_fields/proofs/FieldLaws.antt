@@ -3,20 +3,20 @@ use Rattle.std.proofs.Common.{◌≡◌, ℕ, ◌≤◌, List, [], ◌∷◌, �
 use Rattle.std.specs.{List.flat_map, List.AllByRecursion, Ordering.on}
 use Rattle.std.proofs.lemmas.List.Sorted.{IsPermutation-refl, IsPermutation-sym, IsPermutation-trans, IsPermutation-map}
 use Rattle.dns_fields.specs.{Sorting.sorted, declared.RDataEncoding.RDataEncoding, Labels.full_name}
-use Rattle.dns_fields.specs.Pieces.{string, Numbered, piece, pieces, AllHeld, as_piece, HoldThemselves, OptionValue, option_octets, OptionHeld}
-use Rattle.dns_fields.specs.Pieces.{OptionFits, parameter_octets, ParameterHeld, ParameterFits}
-use Rattle.dns_fields.specs.Fields.{Options, Parameters, Lawful, option_pieces, parameter_pieces, WholeOptions, CutOptions, Bitmap, Kind, Number}
-use Rattle.dns_fields.specs.Fields.{Octets, Name, Text, Texts, Rest, Value, field_octets, Fits, Field, WroteField, SameField, EndsItself, IsFull}
+use Rattle.dns_fields.specs.Tlvs.{string, Numbered, tlv, tlvs, AllHeld, as_tlv, HoldThemselves, OptionValue, option_octets, OptionHeld}
+use Rattle.dns_fields.specs.Tlvs.{OptionFits, parameter_octets, ParameterHeld, ParameterFits}
+use Rattle.dns_fields.specs.Fields.{Options, Parameters, Lawful, option_tlvs, parameter_tlvs, CompleteOptions, TruncatedOptions, Bitmap, Kind, Number}
+use Rattle.dns_fields.specs.Fields.{Octets, Name, CharacterString, CharacterStrings, Rest, Value, field_octets, Fits, Field, WroteField, SameField, EndsItself, IsFull}
 use Rattle.dns_fields.proofs.{Bitmaps.bitmap_same, Bitmaps.bitmap_append, Bitmaps.minimal_stands, Numbers.length-bytes, Numbers.same_number}
 use Rattle.dns_fields.proofs.Sorted.{octets_cmp, sorted_same, sorted_permutes, sorted_all, map_sorted, flat_map_all, length_sorted}
-use Rattle.dns_fields.proofs.Pieces.{pieces_same, whole_or_cut, held_same, held_fit, lawful_held, fit_pieces}
+use Rattle.dns_fields.proofs.Tlvs.{tlvs_same, complete_or_truncated, held_same, held_fit, lawful_held, fit_tlvs}
 use Rattle.dns_fields.proofs.OptionLaws.{option_once, option_own, option_fit}
 use Rattle.dns_fields.proofs.ParameterLaws.{strings_same, parameter_once, parameter_own, parameter_fit}
-use Rattle.dns_fields.proofs.Places.{At-same_end, At-same_head, At-append, At-appended}
+use Rattle.dns_fields.proofs.NameOffsets.{At-same_end, At-same_head, At-append, At-appended}
 use Rattle.dns_fields.proofs.NameLaws.{name_same, name_append, name_inside, name_is, low_name, low_name_same, low_name_wrote}
 
 abbrev OptionsAt : List ℕ → ℕ → List (Numbered OptionValue) → ℕ → Type 0
-OptionsAt m p v q = WholeOptions m p v q ⊎ ((v ≡ []) × CutOptions m (q - p) p q)
+OptionsAt m p v q = CompleteOptions m p v q ⊎ ((v ≡ []) × TruncatedOptions m (q - p) p q)
 
 options_inside : {m : List ℕ} {p : ℕ} {v : List (Numbered OptionValue)} {q : ℕ} → OptionsAt m p v q → (p ≤ q) × (q ≤ length m)
 options_inside (inl w) = (omega (arith, w.at.ends), w.at.within)
@@ -33,10 +33,10 @@ options_append t (inr c) = inr (
 options_same : {m : List ℕ} {p : ℕ} {v w : List (Numbered OptionValue)} {q : ℕ} → OptionsAt m p v q → OptionsAt m p w q
     → v ≡ w
 options_same {v = v} {w = w} (inl a) (inl b) =
-    let e : a.read ≡ b.read = pieces_same a.read b.read a.fit b.fit (At-same_end a.at b.at) in
+    let e : a.read ≡ b.read = tlvs_same a.read b.read a.fit b.fit (At-same_end a.at b.at) in
     held_same OptionHeld option_octets option_once b.read v w (subst (λ (xs : List (Numbered (List ℕ))). AllHeld OptionHeld xs v) e a.held) b.held
-options_same {p = p} {q = q} (inl a) (inr b) = absurd (whole_or_cut _ a.read b.1.read b.1.stub a.fit b.1.fit b.1.cut (At-same_end a.at b.1.at))
-options_same {p = p} {q = q} (inr a) (inl b) = absurd (whole_or_cut _ b.read a.1.read a.1.stub b.fit a.1.fit a.1.cut (At-same_end b.at a.1.at))
+options_same {p = p} {q = q} (inl a) (inr b) = absurd (complete_or_truncated _ a.read b.1.read b.1.stub a.fit b.1.fit b.1.cut (At-same_end a.at b.1.at))
+options_same {p = p} {q = q} (inr a) (inl b) = absurd (complete_or_truncated _ b.read a.1.read a.1.stub b.fit a.1.fit a.1.cut (At-same_end b.at a.1.at))
 options_same (inr a) (inr b) = a.0 ∙ sym b.0
 
 options_fit : {m : List ℕ} {p : ℕ} {v : List (Numbered OptionValue)} {q : ℕ} → OptionsAt m p v q → AllByRecursion OptionFits v
@@ -50,7 +50,7 @@ options_lawful (inr a) = subst (HoldThemselves OptionHeld option_octets) (sym a.
 
 -- options sorted by their octets
 sorted_options : List (Numbered OptionValue) → List (Numbered OptionValue)
-sorted_options v = sorted (on (λ (x : Numbered OptionValue). piece (as_piece option_octets x)) octets_cmp) v
+sorted_options v = sorted (on (λ (x : Numbered OptionValue). tlv (as_tlv option_octets x)) octets_cmp) v
 
 pub field_inside : {m : List ℕ} {p : ℕ} {k : Kind} {v : Value k} {q : ℕ} → Field m p k v q → (p ≤ q) × (q ≤ length m)
 field_inside {k = Name} f = name_inside f.is
@@ -70,17 +70,17 @@ field_append {k = Parameters} t f = record
 field_append {k = Bitmap} t f = record { is = bitmap_append t f.is }
 field_append t f = record { is = (f.is.0, At-append t f.is.1) }
 
--- between two places stands at most one value
+-- between two offsets is at most one value
 pub field_same : {m : List ℕ} {p : ℕ} {k : Kind} {v w : Value k} {q : ℕ} → Field m p k v q → Field m p k w q → v ≡ w
 field_same {k = Number n} {v} {w} f g = same_number n v w f.is.0 g.is.0 (At-same_end f.is.1 g.is.1)
 field_same {k = Octets n} f g = At-same_end f.is.1 g.is.1
 field_same {k = Name} f g = (name_same f.is g.is).0
-field_same {k = Text} {v} {w} f g = let e : string v ≡ string w = At-same_end f.is.1 g.is.1 in cc
-field_same {k = Texts} {v} {w} f g = strings_same v w f.is.0 g.is.0 (At-same_end f.is.1 g.is.1)
+field_same {k = CharacterString} {v} {w} f g = let e : string v ≡ string w = At-same_end f.is.1 g.is.1 in cc
+field_same {k = CharacterStrings} {v} {w} f g = strings_same v w f.is.0 g.is.0 (At-same_end f.is.1 g.is.1)
 field_same {k = Rest} f g = At-same_end f.is g.is
 field_same {k = Options} f g = options_same f.is g.is
 field_same {k = Parameters} {v} {w} f g =
-    let e : f.is.read ≡ g.is.read = pieces_same f.is.read g.is.read f.is.fit g.is.fit (At-same_end f.is.at g.is.at) in
+    let e : f.is.read ≡ g.is.read = tlvs_same f.is.read g.is.read f.is.fit g.is.fit (At-same_end f.is.at g.is.at) in
     held_same ParameterHeld parameter_octets parameter_once g.is.read v w
     (subst (λ (xs : List (Numbered (List ℕ))). AllHeld ParameterHeld xs v) e f.is.held) g.is.held
 field_same {k = Bitmap} f g = bitmap_same f.is g.is
@@ -90,7 +90,7 @@ pub field_end : {m : List ℕ} {p : ℕ} {k : Kind} {v w : Value k} {q r : ℕ} 
 field_end {k = Number n} {v} {w} h f g = omega (arith, f.is.1.ends, g.is.1.ends, length-bytes n v, length-bytes n w)
 field_end {k = Octets n} h f g = omega (arith, f.is.1.ends, g.is.1.ends, f.is.0, g.is.0)
 field_end {k = Name} h f g = (name_same f.is g.is).1
-field_end {k = Text} {v} {w} h f g = let n : length v ≡ length w = At-same_head f.is.1 g.is.1 in omega (arith, f.is.1.ends, g.is.1.ends)
+field_end {k = CharacterString} {v} {w} h f g = let n : length v ≡ length w = At-same_head f.is.1 g.is.1 in omega (arith, f.is.1.ends, g.is.1.ends)
 field_end h f g = elim h [ ]
 
 -- what stands can be written
@@ -119,9 +119,9 @@ wrote_field {m} {k = Options} {v} {m'} h f = (
   record { is = IsPermutation-refl v },
   record {
     is = inl (record {
-      read = option_pieces v;
-      at = rw f.is.1 (At-appended m (pieces (option_pieces v)));
-      fit = fit_pieces OptionHeld option_octets OptionFits (λ x fits. fits.0) v f.is.0;
+      read = option_tlvs v;
+      at = rw f.is.1 (At-appended m (tlvs (option_tlvs v)));
+      fit = fit_tlvs OptionHeld option_octets OptionFits (λ x fits. fits.0) v f.is.0;
       held = lawful_held OptionHeld option_octets v h;
     });
   },
@@ -131,9 +131,9 @@ wrote_field {m} {k = Parameters} {v} {m'} h f = (
   record { is = refl },
   record {
     is = record {
-      read = parameter_pieces v;
-      at = rw f.is.2 (At-appended m (pieces (parameter_pieces v)));
-      fit = fit_pieces ParameterHeld parameter_octets ParameterFits (λ x fits. fits.0) v f.is.0;
+      read = parameter_tlvs v;
+      at = rw f.is.2 (At-appended m (tlvs (parameter_tlvs v)));
+      fit = fit_tlvs ParameterHeld parameter_octets ParameterFits (λ x fits. fits.0) v f.is.0;
       held = lawful_held ParameterHeld parameter_octets v h;
       rising = f.is.1;
     };
@@ -149,10 +149,10 @@ unfolding field_octets
 wrote_tail {k = Name} f = (f.is.tail, f.is.behind, f.is.shorter)
 wrote_tail {m} {k = Rest} {v} f = (v, f.is, omega arith)
 wrote_tail {m} {k = Options} {v} f =
-    let n : length (flat_map (λ (x : List ℕ). x) (sorted octets_cmp (map piece (option_pieces v)))) ≡ length (pieces (option_pieces v)) =
-    length_sorted octets_cmp (map piece (option_pieces v)) ∙ ap length (flat_map_all piece (option_pieces v)) in
-    (pieces (option_pieces v), f.is.1, omega (arith, n))
-wrote_tail {m} {k = Parameters} {v} f = (pieces (parameter_pieces v), f.is.2, omega arith)
+    let n : length (flat_map (λ (x : List ℕ). x) (sorted octets_cmp (map tlv (option_tlvs v)))) ≡ length (tlvs (option_tlvs v)) =
+    length_sorted octets_cmp (map tlv (option_tlvs v)) ∙ ap length (flat_map_all tlv (option_tlvs v)) in
+    (tlvs (option_tlvs v), f.is.1, omega (arith, n))
+wrote_tail {m} {k = Parameters} {v} f = (tlvs (parameter_tlvs v), f.is.2, omega arith)
 wrote_tail f = (_, f.is.1, omega arith)
 
 pub wrote_fits : {mode : RDataEncoding} {m : List ℕ} {k : Kind} {v : Value k} {m' : List ℕ} → WroteField mode m k v m' → Fits k v
@@ -168,19 +168,19 @@ pub record Written (mode : RDataEncoding) (m : List ℕ) (k : Kind) (v : Value k
   pub lawful : Lawful k value
   pub wrote : WroteField mode m k value m'
 
--- the sorted options have their pieces in the order of the canonical octets
+-- the sorted options have their tlvs in the order of the canonical octets
 options_sorted : (v : List (Numbered OptionValue))
-    → flat_map (λ (x : List ℕ). x) (sorted octets_cmp (map piece (option_pieces v))) ≡ pieces (option_pieces (sorted_options v))
+    → flat_map (λ (x : List ℕ). x) (sorted octets_cmp (map tlv (option_tlvs v))) ≡ tlvs (option_tlvs (sorted_options v))
 unfolding sorted_options
 options_sorted v =
-    let f : Numbered OptionValue → List ℕ = λ x. piece (as_piece option_octets x) in
+    let f : Numbered OptionValue → List ℕ = λ x. tlv (as_tlv option_octets x) in
     ap (λ (l : List (List ℕ)). flat_map (λ (x : List ℕ). x) (sorted octets_cmp l)) (twice v)
     ∙ ap (flat_map (λ (x : List ℕ). x)) (sym (map_sorted octets_cmp f v) ∙ sym (twice (sorted (on f octets_cmp) v)))
-    ∙ flat_map_all piece (option_pieces (sorted (on f octets_cmp) v))
+    ∙ flat_map_all tlv (option_tlvs (sorted (on f octets_cmp) v))
   where
-    twice : (v : List (Numbered OptionValue)) → map piece (option_pieces v) ≡ map (λ (x : Numbered OptionValue). piece (as_piece option_octets x)) v
+    twice : (v : List (Numbered OptionValue)) → map tlv (option_tlvs v) ≡ map (λ (x : Numbered OptionValue). tlv (as_tlv option_octets x)) v
     twice [] = refl
-    twice (x ∷ xs) = ap (λ (l : List (List ℕ)). piece (as_piece option_octets x) ∷ l) (twice xs)
+    twice (x ∷ xs) = ap (λ (l : List (List ℕ)). tlv (as_tlv option_octets x) ∷ l) (twice xs)
 
 -- the canonical octets are one of the ways to write an equal value
 pub octets_wrote : (mode : RDataEncoding) (m : List ℕ) (k : Kind) (v : Value k) → Fits k v → Lawful k v → Written mode m k v (m ++ field_octets k v)
@@ -194,7 +194,7 @@ octets_wrote mode m Name v h l = record {
 }
 octets_wrote mode m Rest v h l = record { value = v; same = record { is = refl }; lawful = tt; wrote = record { is = refl } }
 octets_wrote mode m Options v h l =
-    let R = on (λ (x : Numbered OptionValue). piece (as_piece option_octets x)) octets_cmp in
+    let R = on (λ (x : Numbered OptionValue). tlv (as_tlv option_octets x)) octets_cmp in
     record {
       value = sorted_options v;
       same = record { is = sorted_permutes R v };
@@ -209,8 +209,8 @@ pub octets_same : {k : Kind} {a b : Value k} → SameField k a b → field_octet
 unfolding field_octets
 octets_same {k = Name} s = s.is.low
 octets_same {k = Options} {a} {b} s =
-    ap (flat_map (λ (x : List ℕ). x)) (sorted_same (map piece (option_pieces a)) (map piece (option_pieces b))
-    (IsPermutation-map piece (option_pieces a) (option_pieces b) (IsPermutation-map (as_piece option_octets) a b s.is)))
+    ap (flat_map (λ (x : List ℕ). x)) (sorted_same (map tlv (option_tlvs a)) (map tlv (option_tlvs b))
+    (IsPermutation-map tlv (option_tlvs a) (option_tlvs b) (IsPermutation-map (as_tlv option_octets) a b s.is)))
 octets_same {k} s = ap (field_octets k) s.is
 
 pub same_sym : {k : Kind} {a b : Value k} → SameField k a b → SameField k b a

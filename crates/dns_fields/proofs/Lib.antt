@@ -1,4 +1,4 @@
-pub mod Places
+pub mod NameOffsets
 pub mod Numbers
 pub mod Runs
 pub mod Unique
@@ -6,7 +6,7 @@ pub mod Stays
 pub mod NameLaws
 pub mod Multisets
 pub mod Sorted
-pub mod Pieces
+pub mod Tlvs
 pub mod OptionLaws
 pub mod ParameterLaws
 pub mod Bitmaps

@@ -10,7 +10,7 @@ pub made : (x y : DomainName) → x.labels ≡ y.labels → x.fully_qualified �
 made x y e f = let both : (x.labels, x.fully_qualified) ≡ (y.labels, y.fully_qualified) = cc in
     ap (λ (p : List (List ℕ) × Bool). record { labels = p.0; fully_qualified = p.1 }) both
 
--- at one place stands at most one name, and it has one end
+-- at one offset stands at most one name, and it has one end
 pub name_same : {m : List ℕ} {p q r : ℕ} {x y : DomainName} → IsNameIn m p x q → IsNameIn m p y r → (x ≡ y) × (q ≡ r)
 name_same {x = x} {y = y} a b = let u = unique a.stands b.stands in (made x y u.0 (a.qualified ∙ sym b.qualified), u.1)
 

@@ -6,12 +6,12 @@ use Rattle.std.proofs.{lemmas.List.take_at, lemmas.List.drop_at, lemmas.Bool.Dec
 use Rattle.std.proofs.lemmas.List.Elements.{All-nil, All-cons, All-head, All-tail, All-same, All-append, All-take, All-drop, All-map, All-weaker, All-from_get_or}
 use Rattle.dns_fields.specs.{Octets.AreOctets, Octets.At, Labels.AreLabels, Labels.wire, Labels.lowered, Names.LabelsStand, Names.pointer}
 use Rattle.dns_fields.specs.{Names.LabelsStand.whole, Names.LabelsStand.pointed, Sorting.sorted, Laws.OctetsLaw}
-use Rattle.dns_fields.specs.Pieces.{Numbered, piece, pieces, AllHeld, as_piece, OptionValue, Subnet, Plain, option_octets, OptionHeld}
-use Rattle.dns_fields.specs.Pieces.{ParameterValue, Alpn, Port, parameter_octets, IsBody}
-use Rattle.dns_fields.specs.Pieces.{ParameterHeld}
+use Rattle.dns_fields.specs.Tlvs.{Numbered, tlv, tlvs, AllHeld, as_tlv, OptionValue, Subnet, OpaqueOption, option_octets, OptionHeld}
+use Rattle.dns_fields.specs.Tlvs.{ParameterValue, Alpn, Port, parameter_octets, IsBody}
+use Rattle.dns_fields.specs.Tlvs.{ParameterHeld}
 use Rattle.dns_fields.specs.Bitmaps.{Block, block, IsBlock, mark, keep, trimmed, types_octet, window, minimal}
 use Rattle.dns_fields.specs.Fields.{Kind, Number, Name, Rest, Options, Parameters, Bitmap, Value, Field, field_octets, canonical}
-use Rattle.dns_fields.specs.Fields.{option_pieces, parameter_pieces, WholeOptions, CutOptions}
+use Rattle.dns_fields.specs.Fields.{option_tlvs, parameter_tlvs, CompleteOptions, TruncatedOptions}
 use Rattle.dns_fields.proofs.{Stays.labels_stand, Sorted.octets_cmp, Sorted.sorted_all, Bitmaps.mark_small, Bitmaps.minimal_fit, Bitmaps.minimal_all, Bitmaps.packed_less}
 
 abbrev IsOctet : ℕ → Type 0
@@ -96,46 +96,47 @@ lowered_octets (label ∷ labels) h a =
     AreOctets-cons (length label) (map to_ascii_lowercase label ++ lowered labels) (omega (arith, h.0.1))
     (AreOctets-append (map to_ascii_lowercase label) (lowered labels) (lower_octets label a.0) (lowered_octets labels h.1 a.1))
 
--- ---- pieces, options and parameters
+-- ---- tlvs, options and parameters
 
-pub piece_octets : (x : Numbered (List ℕ)) → AreOctets x.1 → AreOctets (piece x)
-piece_octets x a =
+pub tlv_octets : (x : Numbered (List ℕ)) → AreOctets x.1 → AreOctets (tlv x)
+tlv_octets x a =
     AreOctets-append (bytes_high_first 2 x.0) (bytes_high_first 2 (length x.1) ++ x.1) (AreOctets-number 2 x.0)
     (AreOctets-append (bytes_high_first 2 (length x.1)) x.1 (AreOctets-number 2 (length x.1)) a)
 
-pub piece_body : (x : Numbered (List ℕ)) → AreOctets (piece x) → AreOctets x.1
-piece_body x a = AreOctets-back (bytes_high_first 2 (length x.1)) x.1 (AreOctets-back (bytes_high_first 2 x.0) (bytes_high_first 2 (length x.1) ++ x.1) a)
+pub tlv_body : (x : Numbered (List ℕ)) → AreOctets (tlv x) → AreOctets x.1
+tlv_body x a = AreOctets-back (bytes_high_first 2 (length x.1)) x.1 (AreOctets-back (bytes_high_first 2 x.0) (bytes_high_first 2 (length x.1) ++ x.1) a)
 
--- each value that pieces hold has octets, and so has its piece
+-- each value that tlvs hold has octets, and so has its tlv
 held_octets : {V : Type 0} (Held : ℕ → List ℕ → V → Type 0) (octets : V → List ℕ)
     → ((k : ℕ) (d : List ℕ) (v : V) → Held k d v → AreOctets d → AreOctets (octets v))
-    → (xs : List (Numbered (List ℕ))) (a : List (Numbered V)) → AllHeld Held xs a → AreOctets (pieces xs)
-    → AllByRecursion AreOctets (map piece (map (as_piece octets) a))
+    → (xs : List (Numbered (List ℕ))) (a : List (Numbered V)) → AllHeld Held xs a → AreOctets (tlvs xs)
+    → AllByRecursion AreOctets (map tlv (map (as_tlv octets) a))
 held_octets Held octets own [] [] f h = tt
 held_octets Held octets own [] (a ∷ as') f h = absurd f
 held_octets Held octets own (x ∷ xs) [] f h = absurd f
 held_octets Held octets own (x ∷ xs) (a ∷ as') f h =
-    let body = piece_body x (AreOctets-front (piece x) (pieces xs) h) in
-    (piece_octets (as_piece octets a) (own a.0 x.1 a.1 f.1 body), held_octets Held octets own xs as' f.2 (AreOctets-back (piece x) (pieces xs) h))
+    let body = tlv_body x (AreOctets-front (tlv x) (tlvs xs) h) in
+    (tlv_octets (as_tlv octets a) (own a.0 x.1 a.1 f.1 body), held_octets Held octets own xs as' f.2 (AreOctets-back (tlv x) (tlvs xs) h))
 
 option_own_octets : (k : ℕ) (d : List ℕ) (v : OptionValue) → OptionHeld k d v → AreOctets d → AreOctets (option_octets v)
 option_own_octets k d (Subnet f s c a) h o =
     AreOctets-front (option_octets (Subnet f s c a)) h.2 (AreOctets-same d (option_octets (Subnet f s c a) ++ h.2) h.3 o)
-option_own_octets k d (Plain s) h o = AreOctets-same d s h.1 o
+option_own_octets k d (OpaqueOption s) h o = AreOctets-same d s h.1 o
 
 body_octets : (d : List ℕ) (v : ParameterValue) → IsBody d v → AreOctets d → AreOctets (parameter_octets v)
 body_octets d (Alpn names) h o = AreOctets-same d (parameter_octets (Alpn names)) h.1 o
 body_octets d (Port n) h o = AreOctets-number 2 n
 body_octets d v h o = AreOctets-same d (parameter_octets v) h o
 
-pub pieces_octets : (xs : List (Numbered (List ℕ))) → AllByRecursion AreOctets (map piece xs) → AreOctets (pieces xs)
-pieces_octets [] a = AreOctets-nil
-pieces_octets (x ∷ xs) a = AreOctets-append (piece x) (pieces xs) a.0 (pieces_octets xs a.1)
+pub tlvs_octets : (xs : List (Numbered (List ℕ))) → AllByRecursion AreOctets (map tlv xs) → AreOctets (tlvs xs)
+tlvs_octets [] a = AreOctets-nil
+tlvs_octets (x ∷ xs) a = AreOctets-append (tlv x) (tlvs xs) a.0 (tlvs_octets xs a.1)
 
-options_octets : (m : List ℕ) (p : ℕ) (v : List (Numbered OptionValue)) (q n : ℕ) → AreOctets m → WholeOptions m p v q ⊎ ((v ≡ []) × CutOptions m n p q)
-    → AllByRecursion AreOctets (map piece (option_pieces v))
-options_octets m p v q n a (inl w) = held_octets OptionHeld option_octets option_own_octets w.read v w.held (AreOctets-at m p (pieces w.read) q a w.at)
-options_octets m p v q n a (inr c) = subst (λ (l : List (Numbered OptionValue)). AllByRecursion AreOctets (map piece (option_pieces l))) (sym c.0) tt
+options_octets : (m : List ℕ) (p : ℕ) (v : List (Numbered OptionValue)) (q n : ℕ) → AreOctets m
+    → CompleteOptions m p v q ⊎ ((v ≡ []) × TruncatedOptions m n p q)
+    → AllByRecursion AreOctets (map tlv (option_tlvs v))
+options_octets m p v q n a (inl w) = held_octets OptionHeld option_octets option_own_octets w.read v w.held (AreOctets-at m p (tlvs w.read) q a w.at)
+options_octets m p v q n a (inr c) = subst (λ (l : List (Numbered OptionValue)). AllByRecursion AreOctets (map tlv (option_tlvs l))) (sym c.0) tt
 
 -- ---- the minimal bitmap
 
@@ -176,10 +177,10 @@ field_octets_are m p Name v q a f = lowered_octets v.labels (labels_stand f.is.s
 field_octets_are m p Rest v q a f = AreOctets-at m p v q a f.is
 field_octets_are m p Options v q a f =
     let all = options_octets m p v q _ a f.is in
-    AreOctets-flat_map (λ x. x) (sorted octets_cmp (map piece (option_pieces v))) (sorted_all octets_cmp AreOctets (map piece (option_pieces v)) all)
+    AreOctets-flat_map (λ x. x) (sorted octets_cmp (map tlv (option_tlvs v))) (sorted_all octets_cmp AreOctets (map tlv (option_tlvs v)) all)
 field_octets_are m p Parameters v q a f =
-    pieces_octets (parameter_pieces v) (held_octets ParameterHeld parameter_octets (λ k d w h o. body_octets d w h.2 o) f.is.read v f.is.held
-    (AreOctets-at m p (pieces f.is.read) q a f.is.at))
+    tlvs_octets (parameter_tlvs v) (held_octets ParameterHeld parameter_octets (λ k d w h o. body_octets d w h.2 o) f.is.read v f.is.held
+    (AreOctets-at m p (tlvs f.is.read) q a f.is.at))
 field_octets_are m p Bitmap v q a f = minimal_octets v
 field_octets_are m p k v q a f = AreOctets-at m p _ q a f.is.1
 

@@ -5,7 +5,7 @@ use Rattle.std.specs.Cmp.{IsTotalOrder, then_total, on_total, nat_cmp_total, boo
 use Rattle.std.specs.Cmp.Lexicographic.{pointwise, slice_cmp, lists_total, lists_ties, texts_ties, nat_list_cmp_total}
 use Rattle.dns_fields.specs.{Labels.lowname, Comparing.is_qualified, Order.kind_cmp, Order.values_cmp}
 use Rattle.dns_fields.specs.Equal.{Key, key_eq, key_cmp, option_keys, parameter_keys, kind_eq, values_eq}
-use Rattle.dns_fields.specs.Fields.{Kind, Number, Name, Texts, Options, Parameters, Value, Values}
+use Rattle.dns_fields.specs.Fields.{Kind, Number, Name, CharacterStrings, Options, Parameters, Value, Values}
 
 pub key_total : IsTotalOrder key_cmp
 key_total = lists_total nat_list_cmp_total
@@ -13,7 +13,7 @@ key_total = lists_total nat_list_cmp_total
 pub kind_total : (k : Kind) → IsTotalOrder (kind_cmp k)
 kind_total (Number w) = nat_cmp_total
 kind_total Name = then_total (on_total lowname nat_list_cmp_total) (on_total is_qualified bool_cmp_total)
-kind_total Texts = lists_total nat_list_cmp_total
+kind_total CharacterStrings = lists_total nat_list_cmp_total
 kind_total Options = on_total option_keys (lists_total key_total)
 kind_total Parameters = on_total parameter_keys (lists_total key_total)
 kind_total k = nat_list_cmp_total
@@ -36,7 +36,7 @@ pub kind_ties : (k : Kind) (a b : Value k) → kind_eq k a b ≡ is_eq (kind_cmp
 kind_ties (Number w) a b = unsigned_ties a b
 kind_ties Name a b = both_tied _ _ (slice_cmp nat_cmp (lowname a) (lowname b)) (bool_cmp a.fully_qualified b.fully_qualified)
     (texts_ties (lowname a) (lowname b)) (booleans_tie a.fully_qualified b.fully_qualified)
-kind_ties Texts a b = lists_ties (slice_cmp nat_cmp) texts_ties a b
+kind_ties CharacterStrings a b = lists_ties (slice_cmp nat_cmp) texts_ties a b
 kind_ties Options a b = keys_tie (option_keys a) (option_keys b)
 kind_ties Parameters a b = keys_tie (parameter_keys a) (parameter_keys b)
 kind_ties k a b = texts_ties a b

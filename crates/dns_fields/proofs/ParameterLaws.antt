@@ -2,9 +2,9 @@
 use Rattle.std.proofs.Common.{◌≡◌, ℕ, ◌≤◌, ◌<◌, ◌^◌, List, [], ◌∷◌, ◌++◌, length, refl, sym, ap, ◌∙◌, arith}
 use Rattle.std.specs.{List.flat_map, List.AllByRecursion, Int.bytes_high_first}
 use Rattle.std.proofs.lemmas.List.{length-append, append-nil}
-use Rattle.dns_fields.specs.Pieces.{string, ParameterValue, Mandatory, Alpn, NoDefaultAlpn, Port, Ipv4Hint, Ipv6Hint, Opaque, parameter_octets}
-use Rattle.dns_fields.specs.Pieces.{IsBody, ParameterHeld, ParameterFits}
-use Rattle.dns_fields.proofs.{Numbers.length-bytes, Pieces.parts, Pieces.joined_same, Pieces.number_first}
+use Rattle.dns_fields.specs.Tlvs.{string, ParameterValue, Mandatory, Alpn, NoDefaultAlpn, Port, Ipv4Hint, Ipv6Hint, Opaque, parameter_octets}
+use Rattle.dns_fields.specs.Tlvs.{IsBody, ParameterHeld, ParameterFits}
+use Rattle.dns_fields.proofs.{Numbers.length-bytes, Tlvs.parts, Tlvs.joined_same, Tlvs.number_first}
 
 -- ---- lists of parts of a known length
 

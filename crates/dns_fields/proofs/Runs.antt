@@ -2,7 +2,7 @@
 use Rattle.std.proofs.Common.{◌≡◌, ℕ, ◌≤◌, List, [], ◌∷◌, ◌++◌, length, refl, sym, ◌∙◌, ap, append_assoc, arith}
 use Rattle.std.proofs.lemmas.List.{append-nil}
 use Rattle.dns_fields.specs.Labels.{IsLabel, AreLabels, wire}
-use Rattle.dns_fields.proofs.Pieces.{parts}
+use Rattle.dns_fields.proofs.Tlvs.{parts}
 
 -- no length of a label
 abbrev pub IsStop : ℕ → Type 0

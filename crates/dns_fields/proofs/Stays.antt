@@ -25,7 +25,7 @@ stays {m} {p} {e} {x} more (whole b h s ends) =
     let before = stands_before (whole b h s ends) in
     whole (b ++ more) h (longer m more (wire x) (0 ∷ b) p before s) ends
 stays {m} {p} {e} {x} more (pointed f rest t re b h s lt lp st j ends) =
-    let before = stands_before (pointed {message = m} {place = p} {end = e} {labels = x} f rest t re b h s lt lp st j ends) in
+    let before = stands_before (pointed {message = m} {offset = p} {end = e} {labels = x} f rest t re b h s lt lp st j ends) in
     let same : take p (m ++ more) ≡ take p m = take-append-le p m more (omega arith) in
     pointed f rest t re (b ++ more) h (longer m more (wire f) (pointer t ++ b) p before s) lt lp
     (subst (λ (w : List ℕ). LabelsStand w t rest re) (sym same) st) j ends

@@ -1,4 +1,4 @@
--- From one place stands at most one name.
+-- From one offset stands at most one name.
 use Rattle.std.proofs.Common.{◌≡◌, ℕ, ◌+◌, ◌/◌, ◌%◌, List, ◌∷◌, ◌++◌, length, take, sym, ◌∙◌, ap, subst, arith}
 use Rattle.dns_fields.specs.{Labels.wire, Names.LabelsStand, Names.pointer, Names.LabelsStand.whole, Names.LabelsStand.pointed}
 use Rattle.dns_fields.proofs.Runs.{IsStop, same_run}

@@ -54,7 +54,7 @@ packed f (suc n) = packed f n * 2 ^ 1 + f n
 unfoldable pub mark : List ℕ → ℕ → ℕ
 mark v t = if contains t v then 1 else 0
 
--- x before what is left behind it, if either is more than zeros
+-- x before what is left after it, if either is more than zeros
 abbrev pub keep : ℕ → List ℕ → List ℕ
 keep zero [] = []
 keep (suc n) [] = suc n ∷ []

@@ -1,11 +1,12 @@
 -- When fields are equal. Of options and parameters this is the equality of values that were read: a value that a caller
--- builds may have parts that no octets give, as two variants of a code with one number, and is compared by keys of its own.
+-- builds may have parts that no octets give, as two variants of a code with one number, and is compared by keys of its
+-- own.
 use Rattle.std.specs.Prelude.{ℕ, Bool, true, ◌&&◌, List, [], ◌∷◌, map, nat_eq}
 use Rattle.std.specs.{Cmp.Lexicographic.pointwise, Cmp.Lexicographic.slice_cmp, Ordering.nat_cmp, declared.cmp.Ordering.Ordering}
 use Rattle.dns_fields.specs.{Sorting.sorted, Comparing.name_eq}
-use Rattle.dns_fields.specs.Pieces.{Numbered, OptionValue, Subnet, Plain, ParameterValue, Mandatory, Alpn, NoDefaultAlpn, Port, Ipv4Hint, Ipv6Hint}
-use Rattle.dns_fields.specs.Pieces.{Opaque}
-use Rattle.dns_fields.specs.Fields.{Kind, Number, Octets, Name, Text, Texts, Rest, Options, Parameters, Bitmap, Value, Values}
+use Rattle.dns_fields.specs.Tlvs.{Numbered, OptionValue, Subnet, OpaqueOption, ParameterValue, Mandatory, Alpn, NoDefaultAlpn, Port, Ipv4Hint, Ipv6Hint}
+use Rattle.dns_fields.specs.Tlvs.{Opaque}
+use Rattle.dns_fields.specs.Fields.{Kind, Number, Octets, Name, CharacterString, CharacterStrings, Rest, Options, Parameters, Bitmap, Value, Values}
 
 -- a pair as lists of numbers: its number and what its value is, and then what the value holds
 abbrev pub Key : Type 0
@@ -18,8 +19,9 @@ abbrev pub key_cmp : Key → Key → Ordering
 key_cmp = slice_cmp (slice_cmp nat_cmp)
 
 abbrev pub option_key_of : ℕ → OptionValue → Key
-option_key_of code (Subnet family source scope address) = (code ∷ 0 ∷ []) ∷ (family ∷ source ∷ scope ∷ []) ∷ address ∷ []
-option_key_of code (Plain s) = (code ∷ 1 ∷ []) ∷ s ∷ []
+option_key_of code (Subnet family source scope address) =
+    (code ∷ 0 ∷ []) ∷ (family ∷ source ∷ scope ∷ []) ∷ address ∷ []
+option_key_of code (OpaqueOption s) = (code ∷ 1 ∷ []) ∷ s ∷ []
 
 abbrev pub option_key : Numbered OptionValue → Key
 option_key x = option_key_of x.0 x.1
@@ -48,8 +50,8 @@ abbrev pub kind_eq : (k : Kind) → Value k → Value k → Bool
 kind_eq (Number w) a b = nat_eq a b
 kind_eq (Octets n) a b = pointwise nat_eq a b
 kind_eq Name a b = name_eq a b
-kind_eq Text a b = pointwise nat_eq a b
-kind_eq Texts a b = pointwise (pointwise nat_eq) a b
+kind_eq CharacterString a b = pointwise nat_eq a b
+kind_eq CharacterStrings a b = pointwise (pointwise nat_eq) a b
 kind_eq Rest a b = pointwise nat_eq a b
 kind_eq Options a b = pointwise key_eq (option_keys a) (option_keys b)
 kind_eq Parameters a b = pointwise key_eq (parameter_keys a) (parameter_keys b)

@@ -10,14 +10,15 @@ IsShape [] = Unit {0}
 IsShape (k ∷ []) = Unit {0}
 IsShape (k ∷ l ∷ kinds) = EndsItself k × IsShape (l ∷ kinds)
 
--- what stands can be emitted, is of a read, and is one value
+-- values that are encoded can be emitted, can be read, and are one
 abbrev pub StandsLaw : Type 0
 StandsLaw = (m : List ℕ) (p : ℕ) (s : List Kind) (a : Values s) (e : ℕ) → IsShape s → Stands m p s a e
     → AllFit s a × AllLawful s a × ((b : Values s) → Stands m p s b e → a ≡ b)
 
 -- a field that says itself where it ends has one end
 abbrev pub OneEnd : Type 0
-OneEnd = (m : List ℕ) (p : ℕ) (k : Kind) (a b : Value k) (e f : ℕ) → EndsItself k → Field m p k a e → Field m p k b f → e ≡ f
+OneEnd = (m : List ℕ) (p : ℕ) (k : Kind) (a b : Value k) (e f : ℕ) → EndsItself k → Field m p k a e → Field m p k b f
+    → e ≡ f
 
 -- equal values have equal canonical octets, and no others
 abbrev pub CanonicalLaw : Type 0
@@ -31,14 +32,16 @@ CanonicalReads = (s : List Kind) (a : Values s) → AllFit s a → AllLawful s a
 
 -- what was written is read as an equal value
 abbrev pub WrittenReads : Type 0
-WrittenReads = (mode : RDataEncoding) (m : List ℕ) (s : List Kind) (a : Values s) (m' : List ℕ) → AllLawful s a → Wrote mode m s a m'
+WrittenReads = (mode : RDataEncoding) (m : List ℕ) (s : List Kind) (a : Values s) (m' : List ℕ) → AllLawful s a
+    → Wrote mode m s a m'
     → (b : Values s) × Same s a b × Stands m' (length m) s b (length m')
 
--- canonical octets of what stands in octets are octets
+-- the canonical octets of values that are read from octets are octets
 abbrev pub OctetsLaw : Type 0
-OctetsLaw = (m : List ℕ) (p : ℕ) (s : List Kind) (a : Values s) (e : ℕ) → AreOctets m → Stands m p s a e → AreOctets (canonical s a)
+OctetsLaw = (m : List ℕ) (p : ℕ) (s : List Kind) (a : Values s) (e : ℕ) → AreOctets m → Stands m p s a e
+    → AreOctets (canonical s a)
 
--- `==` tells whether values are the same, where their names are fully qualified, as those that stand are
+-- `==` tells whether values are the same, if their names are fully qualified, as those that are read are
 abbrev pub EqualLaw : Type 0
 EqualLaw = (s : List Kind) (a b : Values s) → AllFull s a → AllFull s b → Decides (values_eq s a b) (Same s a b)
 
@@ -50,6 +53,6 @@ EquivalenceLaw = (s : List Kind) → IsEquivalence (values_eq s)
 abbrev pub OrderLaw : Type 0
 OrderLaw = (s : List Kind) → IsTotalOrder (values_cmp s)
 
--- the order answers Equal exactly where `==` holds
+-- the order is Equal exactly if `==` holds
 abbrev pub TiesLaw : Type 0
 TiesLaw = (s : List Kind) (a b : Values s) → values_eq s a b ≡ is_eq (values_cmp s a b)

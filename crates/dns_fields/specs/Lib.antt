@@ -2,7 +2,7 @@ pub mod Octets
 pub mod Labels
 pub mod Names
 pub mod Sorting
-pub mod Pieces
+pub mod Tlvs
 pub mod Bitmaps
 pub mod Fields
 pub mod Comparing

@@ -3,14 +3,14 @@ use Rattle.std.specs.Prelude.{List, [], ◌∷◌}
 use Rattle.std.specs.{Cmp.Lexicographic.slice_cmp, Ordering.nat_cmp, Ordering.ordering_then, declared.cmp.Ordering.Ordering}
 use Rattle.std.specs.declared.cmp.Ordering.TheVariants.{Equal}
 use Rattle.dns_fields.specs.{Comparing.name_cmp, Equal.key_cmp, Equal.option_keys, Equal.parameter_keys}
-use Rattle.dns_fields.specs.Fields.{Kind, Number, Octets, Name, Text, Texts, Rest, Options, Parameters, Bitmap, Value, Values}
+use Rattle.dns_fields.specs.Fields.{Kind, Number, Octets, Name, CharacterString, CharacterStrings, Rest, Options, Parameters, Bitmap, Value, Values}
 
 abbrev pub kind_cmp : (k : Kind) → Value k → Value k → Ordering
 kind_cmp (Number w) a b = nat_cmp a b
 kind_cmp (Octets n) a b = slice_cmp nat_cmp a b
 kind_cmp Name a b = name_cmp a b
-kind_cmp Text a b = slice_cmp nat_cmp a b
-kind_cmp Texts a b = slice_cmp (slice_cmp nat_cmp) a b
+kind_cmp CharacterString a b = slice_cmp nat_cmp a b
+kind_cmp CharacterStrings a b = slice_cmp (slice_cmp nat_cmp) a b
 kind_cmp Rest a b = slice_cmp nat_cmp a b
 kind_cmp Options a b = slice_cmp key_cmp (option_keys a) (option_keys b)
 kind_cmp Parameters a b = slice_cmp key_cmp (parameter_keys a) (parameter_keys b)

@@ -5,20 +5,21 @@ ghost use Rattle.dns_fields.specs.Laws.{StandsLaw, OneEnd, CanonicalLaw, Canonic
 ghost use Rattle.dns_fields.specs.Laws.{TiesLaw};
 ghost use Rattle.dns_fields.specs.Examples.{StringExamples, NameExamples, OptionExamples, ParameterExamples, BitmapExamples};
 
-/// How domain names in record data are written.
+/// How domain names in RDATA are written.
 #[derive(Clone, Copy, Debug, PartialEq, Eq)]
 pub enum RDataEncoding {
-    /// As in the records of RFC 1035: a name may end by a pointer to an earlier one.
+    /// As in the records of RFC 1035: a name may end with a compression pointer to an earlier one.
     StandardRecord,
-    /// Whole, each with its own letters: the types whose form for signing has names in lower case (RFC 4034, 6.2).
+    /// Uncompressed, with case preserved: the types whose canonical form has names in lower case (RFC 4034, section
+    /// 6.2).
     Canonical,
-    /// Whole, each with its own letters: every other type.
+    /// Uncompressed, with case preserved: every other type.
     Other,
 }
 
-/// The laws of every list of kinds of fields.
+/// Laws of reading and writing, for every list of kinds of fields.
 pub fn fields_hold()
-    // What stands at a place can be emitted and is one value.
+    // Fields at an offset have one value, and it can be emitted.
     ensures stands { StandsLaw }
     // A field that says itself where it ends has one end.
     ensures ends { OneEnd }
@@ -26,13 +27,13 @@ pub fn fields_hold()
     ensures canonical { CanonicalLaw }
     // Canonical octets are read as an equal value.
     ensures reads { CanonicalReads }
-    // What was written reads there as an equal value, behind any octets and in any mode.
+    // What was written is read there as an equal value, after any octets and in any mode.
     ensures written { WrittenReads }
-    // Canonical octets of what stands in octets are octets.
+    // The canonical octets of a value that is read from octets are octets.
     ensures octets { OctetsLaw }
 {}
 
-/// The laws of equality and order of every list of kinds of fields.
+/// Laws of equality and order, for every list of kinds of fields.
 pub fn comparing_holds()
     // `==` tells whether values are the same, where their names are fully qualified.
     ensures equal { EqualLaw }
@@ -40,7 +41,7 @@ pub fn comparing_holds()
     ensures equivalence { EquivalenceLaw }
     // The order is total.
     ensures order { OrderLaw }
-    // The order answers `Equal` exactly where `==` holds.
+    // The order is `Equal` exactly if `==` holds.
     ensures ties { TiesLaw }
 {}
 
@@ -48,7 +49,7 @@ pub fn comparing_holds()
 pub fn examples_hold()
     // Numbers, octets and strings.
     ensures strings { StringExamples }
-    // Names, whole and with pointers.
+    // Names, uncompressed and with compression pointers.
     ensures names { NameExamples }
     // Options of EDNS.
     ensures options { OptionExamples }

@@ -1,9 +1,9 @@
 -- A name's lowered octets.
-use Rattle.std.proofs.Common.{◌≡◌, ◌↔◌, IsTrue, ℕ, ◌+◌, ◌<◌, ◌≤◌, take, get_or, Bool, true, List, [], ◌∷◌, ◌++◌, length, map, refl, sym, ◌∙◌, ap}
+use Rattle.std.proofs.Common.{◌≡◌, ◌↔◌, IsTrue, ℕ, ◌≤◌, Bool, true, List, [], ◌∷◌, ◌++◌, length, map, refl, sym, ◌∙◌, ap}
 use Rattle.std.proofs.Common.{append_assoc, arith}
 use Rattle.std.proofs.{Math.Bool.and-true, lemmas.Bool.Decides.nat_tests, lemmas.Bool.Decides.same_from_decides, lemmas.Slice.Eq.bytes_eq-Decides}
-use Rattle.std.proofs.lemmas.List.{map-append, append_cancel_right, take_more, take_more_set}
-use Rattle.std.specs.Prelude.{slice_set, ◌&&◌}
+use Rattle.std.proofs.lemmas.List.{map-append, append_cancel_right}
+use Rattle.std.specs.Prelude.{◌&&◌}
 use Rattle.std.specs.{Str.bytes_eq, Char.to_ascii_lowercase, Cmp.Lexicographic.slice_cmp, declared.cmp.Ordering.Ordering}
 use Rattle.std.specs.Ordering.{nat_cmp, ordering_then}
 use Rattle.dns_fields.{specs.Labels.AreLabels, specs.Labels.wire, specs.Labels.low_labels, specs.Labels.lowered, proofs.NameLaws.low_wire}
@@ -48,12 +48,6 @@ same_lowered a b r h k t =
 pub with_mark : (a b : List ℕ) (r m : Bool) → AreNameOctets a → AreNameOctets b → m ≡ true
     → (IsTrue r ↔ (map to_ascii_lowercase a ≡ map to_ascii_lowercase b)) → r ≡ (bytes_eq (lowered (labels_of a)) (lowered (labels_of b)) && m)
 with_mark a b r m h k same t = rw same (same_lowered a b r h k t ∙ sym (and-true (bytes_eq (lowered (labels_of a)) (lowered (labels_of b)))))
-
--- one octet more is lowered
-pub lowered_more : (octets low : List ℕ) (i x : ℕ) → i < length octets → i < length low → take i low ≡ map to_ascii_lowercase (take i octets)
-    → x ≡ to_ascii_lowercase (get_or octets i 0) → take (i + 1) (slice_set low i x) ≡ map to_ascii_lowercase (take (i + 1) octets)
-lowered_more octets low i x h k e v = take_more_set low i x k
-    ∙ rw (e, v, take_more octets i 0 h) (sym (map-append to_ascii_lowercase (take i octets) (get_or octets i 0 ∷ [])))
 
 -- canonical octets are the same where the lowered labels are
 pub low_labels_same : (a b : List (List ℕ)) → (lowered a ≡ lowered b) ↔ (map (map to_ascii_lowercase) a ≡ map (map to_ascii_lowercase) b)

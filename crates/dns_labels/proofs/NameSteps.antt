@@ -34,7 +34,8 @@ label_set {old} {begun} {new} {start} {count} b a s n some few =
     }
 
 -- a label without octets was read, so no label stands there
-pub label_empty : (old rest : List ℕ) {text : List ℕ} {taken : ℕ} {begun new : List ℕ} {start count : ℕ} → begun ≡ old ++ 0 ∷ [] → AddsOctets text taken begun new
+pub label_empty : (old rest : List ℕ) {text : List ℕ} {taken : ℕ} {begun new : List ℕ} {start count : ℕ} → begun ≡ old ++ 0 ∷ []
+    → AddsOctets text taken begun new
     → start ≡ length old → count ≡ length new - start - 1 → count ≡ 0 → {label t : List ℕ} → LabelText label t → text ≡ t ++ rest → IsLabelEnd rest
     → IsLabel label → ⊥
 label_empty old rest {text} {taken} {begun} b a s n none {label} {t} lt e end is =
@@ -83,7 +84,8 @@ reads_nothing {text} e n =
 
 pub reads_root : {text octets : List ℕ} → octets ≡ [] → length text ≡ 1 → get_or text 0 0 ≡ 46 → AreNameOctets octets × IsNameText (name_of octets true) text
 reads_root {text} e n d =
-    let dot : text ≡ 46 ∷ [] = drop_more text 0 0 (omega arith) ∙ ap (λ (c : ℕ). c ∷ drop 1 text) d ∙ ap (λ (x : List ℕ). 46 ∷ x) (drop_all 1 text (omega arith)) in
+    let dot : text ≡ 46 ∷ [] =
+    drop_more text 0 0 (omega arith) ∙ ap (λ (c : ℕ). c ∷ drop 1 text) d ∙ ap (λ (x : List ℕ). 46 ∷ x) (drop_all 1 text (omega arith)) in
     read_as [] tt e (omega (arith, ap length e)) (rw dot root)
 
 next_left : {label part more text : List ℕ} {labels rest : List (List ℕ)} {mark : Bool} (front : List (List ℕ)) → LabelText label part

@@ -128,7 +128,8 @@ labels_read : (label : List ℕ) (labels : List (List ℕ)) (mark : Bool) → Al
     → LabelsText (label ∷ labels) mark (name_text (record { labels = label ∷ labels; fully_qualified = mark }))
 labels_read label [] true h = dotted (label_text label) (label_reads label (head_label label [] h))
     (ap (λ (t : List ℕ). t ++ 46 ∷ []) (append-nil (label_text label)))
-labels_read label [] false h = rw (append-nil (joined_text (label ∷ []))) (rw (append-nil (label_text label)) (last (label_reads label (head_label label [] h))))
+labels_read label [] false h =
+    rw (append-nil (joined_text (label ∷ []))) (rw (append-nil (label_text label)) (last (label_reads label (head_label label [] h))))
 labels_read label (next ∷ labels) mark h = joined (label_text label) (name_text (record { labels = next ∷ labels; fully_qualified = mark }))
     (label_reads label (head_label label (next ∷ labels) h)) (labels_read next labels mark (All-tail AreOctets label (next ∷ labels) h))
     (append_assoc (label_text label) (46 ∷ joined_text (next ∷ labels)) (if mark then 46 ∷ [] else []))

@@ -14,13 +14,14 @@ labels_in-wire (suc more) (l ∷ labels) h =
     let d : drop (length l) (l ++ wire labels) ≡ wire labels = drop_at l (wire labels) (length l) refl in
     rw (t, d) (ap (λ (r : List (List ℕ)). l ∷ r) (labels_in-wire more labels (omega (arith, length-append l (wire labels)))))
 
--- what stands at a place, and what is behind it
-pub cut_off : (message : List ℕ) (place n : ℕ) {part : List ℕ} → take n (drop place message) ≡ part → drop place message ≡ part ++ drop (place + n) message
-cut_off message place n {part} e = sym (take-append-drop n (drop place message)) ∙ ap (λ (x : List ℕ). x ++ drop n (drop place message)) e
-    ∙ ap (λ (x : List ℕ). part ++ x) (drop-drop n place message)
+-- what stands at an offset, and what is behind it
+pub cut_off : (message : List ℕ) (offset n : ℕ) {part : List ℕ} → take n (drop offset message) ≡ part → drop offset message ≡ part ++ drop (offset + n) message
+cut_off message offset n {part} e = sym (take-append-drop n (drop offset message)) ∙ ap (λ (x : List ℕ). x ++ drop n (drop offset message)) e
+    ∙ ap (λ (x : List ℕ). part ++ x) (drop-drop n offset message)
 
 -- octets of labels in two parts
-pub wire_length : {labels : List (List ℕ)} (front rest : List (List ℕ)) → labels ≡ front ++ rest → length (wire labels) ≡ length (wire front) + length (wire rest)
+pub wire_length : {labels : List (List ℕ)} (front rest : List (List ℕ)) → labels ≡ front ++ rest
+    → length (wire labels) ≡ length (wire front) + length (wire rest)
 wire_length front rest e = ap (λ (x : List (List ℕ)). length (wire x)) e ∙ ap length (wire-append front rest) ∙ length-append (wire front) (wire rest)
 
 pub second_is : (front : List (List ℕ)) (label : List ℕ) (others : List (List ℕ)) → AreLabels (front ++ (label ∷ others)) → IsLabel label

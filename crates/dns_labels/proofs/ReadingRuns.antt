@@ -7,16 +7,16 @@ use Rattle.dns_labels.specs.Reading.{IsRun, AddsRun, IsNameAt}
 use Rattle.dns_fields.proofs.{Runs.same_run, Runs.wire-append, Unique.zero_stop, Unique.pointer_stop, Unique.apart, Unique.same_target}
 use Rattle.dns_labels.proofs.{Octets.wire_length, ReadingSteps.SoFar, ReadingSteps.at_zero}
 
--- these labels stand from where the run that began at this place leads
+-- these labels stand from where the run that began at this offset leads
 abbrev pub RestStands : List ℕ → ℕ → Option ℕ → List (List ℕ) → Type 0
-RestStands window place None rest = rest ≡ []
-RestStands window place (Some target) rest = (end : ℕ) × (target < place) × LabelsStand (take place window) target rest end
+RestStands region offset None rest = rest ≡ []
+RestStands region offset (Some target) rest = (end : ℕ) × (target < offset) × LabelsStand (take offset region) target rest end
 
 -- labels in two parts, of which the second stands where a run leads
-pub record Parts (labels front : List (List ℕ)) (window : List ℕ) (place : ℕ) (stop : Option ℕ) : Type 0 where
+pub record Parts (labels front : List (List ℕ)) (region : List ℕ) (offset : ℕ) (stop : Option ℕ) : Type 0 where
   pub rest : List (List ℕ)
   pub joined : labels ≡ front ++ rest
-  pub stands : RestStands window place stop rest
+  pub stands : RestStands region offset stop rest
 
 pub run_stands : {w : List ℕ} {p end : ℕ} {front : List (List ℕ)} (stop : Option ℕ) (rest : List (List ℕ)) → IsRun w p front stop end
     → RestStands w p stop rest → LabelsStand w p (front ++ rest) end
@@ -64,13 +64,13 @@ has_run {w} {p} {e} {labels} (pointed f rest t re b h s lt lp st j ends) =
     record { front = f; stop = Some t; end = e; rest = rest; run = record { are = h; behind = b; stands = s; target = lt; ends = ends }; joined = j }
 
 -- the runs that were read so far begin the name, and the last one leads on
-pub record Pending (message : List ℕ) (start end : ℕ) (window : List ℕ) (place : ℕ) (next : Option ℕ) (octets : List ℕ) : Type 0 where
+pub record Pending (message : List ℕ) (start end : ℕ) (region : List ℕ) (offset : ℕ) (next : Option ℕ) (octets : List ℕ) : Type 0 where
   pub front : List (List ℕ)
   pub same : octets ≡ wire front
   pub room : length octets ≤ 254
-  pub within : place ≤ length window
-  pub sound : (rest : List (List ℕ)) → RestStands window place next rest → LabelsStand message start (front ++ rest) end
-  pub complete : (labels : List (List ℕ)) (e : ℕ) → LabelsStand message start labels e → Parts labels front window place next
+  pub within : offset ≤ length region
+  pub sound : (rest : List (List ℕ)) → RestStands region offset next rest → LabelsStand message start (front ++ rest) end
+  pub complete : (labels : List (List ℕ)) (e : ℕ) → LabelsStand message start labels e → Parts labels front region offset next
 
 pub first_run : {message : List ℕ} {start end : ℕ} {stop : Option ℕ} {old octets : List ℕ} → old ≡ [] → start ≤ length message → length octets ≤ 254
     → AddsRun message start stop end old octets → Pending message start end message start stop octets
@@ -83,14 +83,14 @@ first_run {stop} none within room a = record {
   complete = λ labels e s. stands_run stop a.run s;
 }
 
-module _ {message : List ℕ} {start end : ℕ} {window : List ℕ} {place target : ℕ} {octets : List ℕ} (p : Pending message start end window place (Some target) octets) where
-  pub next_run : {new : List ℕ} {stop : Option ℕ} {end' : ℕ} → target < place → length new ≤ 254
-      → AddsRun (take place window) target stop end' octets new → Pending message start end (take place window) target stop new
+module _ {message : List ℕ} {start end : ℕ} {region : List ℕ} {offset target : ℕ} {octets : List ℕ} (p : Pending message start end region offset (Some target) octets) where
+  pub next_run : {new : List ℕ} {stop : Option ℕ} {end' : ℕ} → target < offset → length new ≤ 254
+      → AddsRun (take offset region) target stop end' octets new → Pending message start end (take offset region) target stop new
   next_run {new} {stop} {end'} before room a = record {
     front = p.front ++ a.front;
     same = a.octets ∙ ap (λ (t : List ℕ). t ++ wire a.front) p.same ∙ sym (wire-append p.front a.front);
     room = room;
-    within = omega (arith, length-take place window, p.within);
+    within = omega (arith, length-take offset region, p.within);
     sound = λ rest s. subst (λ (x : List (List ℕ)). LabelsStand message start x end) (sym (append_assoc p.front a.front rest))
         (p.sound (a.front ++ rest) (end', before, run_stands stop rest a.run s));
     complete = λ labels e s.
@@ -104,11 +104,11 @@ module _ {message : List ℕ} {start end : ℕ} {window : List ℕ} {place targe
   }
 
   -- no pointer leads forward
-  pub not_before : place ≤ target → (labels : List (List ℕ)) (e : ℕ) → LabelsStand message start labels e → FitsName labels → ⊥
+  pub not_before : offset ≤ target → (labels : List (List ℕ)) (e : ℕ) → LabelsStand message start labels e → FitsName labels → ⊥
   not_before h labels e s fits = let k = (p.complete labels e s).stands in omega (arith, k.1)
 
   -- where no run can be read, no name stands
-  pub next_refused : ((front : List (List ℕ)) (stop : Option ℕ) (e : ℕ) → IsRun (take place window) target front stop e
+  pub next_refused : ((front : List (List ℕ)) (stop : Option ℕ) (e : ℕ) → IsRun (take offset region) target front stop e
       → length octets + length (wire front) ≤ 254 → ⊥) → (labels : List (List ℕ)) (e : ℕ) → LabelsStand message start labels e → FitsName labels → ⊥
   next_refused none labels e s fits =
       let k = p.complete labels e s in
@@ -122,7 +122,7 @@ first_refused empty none labels e s fits =
     let r = has_run s in
     none r.front r.stop r.end r.run (omega (arith, fits, ap length empty, wire_length r.front r.rest r.joined))
 
-pub no_more : {message : List ℕ} {start end : ℕ} {window : List ℕ} {place : ℕ} {octets : List ℕ} → Pending message start end window place None octets
+pub no_more : {message : List ℕ} {start end : ℕ} {region : List ℕ} {offset : ℕ} {octets : List ℕ} → Pending message start end region offset None octets
     → IsNameAt message start octets end
 no_more {message} {start} {end} p = record {
   labels = p.front;
@@ -132,17 +132,18 @@ no_more {message} {start} {end} p = record {
 }
 
 -- the octets of labels that were read up to an octet 0 stand there whole, and are a name
-pub plain_length : {message : List ℕ} {start at : ℕ} {octets : List ℕ} → SoFar message start at [] octets → at ≡ start + length octets
-plain_length s = omega (arith, s.at_is, ap length s.octets)
+pub uncompressed_length : {message : List ℕ} {start at : ℕ} {octets : List ℕ} → SoFar message start at [] octets → at ≡ start + length octets
+uncompressed_length s = omega (arith, s.at_is, ap length s.octets)
 
-plain_part : {message : List ℕ} {start at : ℕ} {octets : List ℕ} → SoFar message start at [] octets → take (at - start) (drop start message) ≡ octets
-plain_part {message} {start} {at} {octets} s =
+uncompressed_part : {message : List ℕ} {start at : ℕ} {octets : List ℕ} → SoFar message start at [] octets → take (at - start) (drop start message) ≡ octets
+uncompressed_part {message} {start} {at} {octets} s =
     ap (λ (n : ℕ). take n (drop start message)) (omega (arith, s.at_is)) ∙ ap (λ (x : List ℕ). take (length (wire s.front)) x) s.stands
     ∙ take-append_seam (wire s.front) (drop at message) ∙ sym s.octets
 
-pub plain_name : {message : List ℕ} {start at : ℕ} {octets : List ℕ} → SoFar message start at [] octets → start ≤ length message → get_or message at 0 ≡ 0
+pub uncompressed_name : {message : List ℕ} {start at : ℕ} {octets : List ℕ} → SoFar message start at [] octets → start ≤ length message
+    → get_or message at 0 ≡ 0
     → at < length message
     → IsNameAt message start (take (at - start) (drop start message)) (start + length (take (at - start) (drop start message)) + 1)
-plain_name {message} {start} {at} {octets} s within zero room =
+uncompressed_name {message} {start} {at} {octets} s within zero room =
     let found = no_more (first_run refl within s.room (at_zero s zero room)) in
-    rw (plain_part s) (subst (λ (e : ℕ). IsNameAt message start octets e) (omega (arith, plain_length s)) found)
+    rw (uncompressed_part s) (subst (λ (e : ℕ). IsNameAt message start octets e) (omega (arith, uncompressed_length s)) found)

@@ -9,16 +9,16 @@ use Rattle.dns_labels.proofs.Octets.{cut_off, wire_length}
 use Rattle.dns_fields.proofs.{Runs.RestOf, Runs.rest_of, Runs.wire-append, Runs.AreLabels-append, Unique.zero_stop, Unique.pointer_stop}
 
 -- the labels that were read so far
-pub record SoFar (message : List ℕ) (place at : ℕ) (old new : List ℕ) : Type 0 where
+pub record SoFar (message : List ℕ) (offset at : ℕ) (old new : List ℕ) : Type 0 where
   pub front : List (List ℕ)
   pub are : AreLabels front
   pub octets : new ≡ old ++ wire front
-  pub stands : drop place message ≡ wire front ++ drop at message
-  pub at_is : at ≡ place + length (wire front)
+  pub stands : drop offset message ≡ wire front ++ drop at message
+  pub at_is : at ≡ offset + length (wire front)
   pub within : at ≤ length message
   pub room : length new ≤ 254
 
-pub so_far_none : {message : List ℕ} {place : ℕ} {old : List ℕ} → place ≤ length message → length old ≤ 254 → SoFar message place place old old
+pub so_far_none : {message : List ℕ} {offset : ℕ} {old : List ℕ} → offset ≤ length message → length old ≤ 254 → SoFar message offset offset old old
 so_far_none {old} within room =
     record { front = []; are = tt; octets = sym (append-nil old); stands = refl; at_is = omega arith; within = within; room = room }
 
@@ -46,9 +46,9 @@ next_of (l ∷ rest) stop behind s h e =
     let hi : length l ≤ 63 = h.0.1 in
     rw e (record { some = omega arith; pointer = λ n. absurd (omega arith); label = λ n k. (omega arith, omega arith) })
 
--- what stands at the reader's place, if a run stands where it began
-pub onward : {message : List ℕ} {place at : ℕ} {old new : List ℕ} {front : List (List ℕ)} {stop : Option ℕ} {end : ℕ} → SoFar message place at old new
-    → IsRun message place front stop end → (rest : List (List ℕ)) × Onward (get_or message at 0) (length message - at) rest
+-- what stands at the reader's offset, if a run stands where it began
+pub onward : {message : List ℕ} {offset at : ℕ} {old new : List ℕ} {front : List (List ℕ)} {stop : Option ℕ} {end : ℕ} → SoFar message offset at old new
+    → IsRun message offset front stop end → (rest : List (List ℕ)) × Onward (get_or message at 0) (length message - at) rest
     × (length old + length (wire front) ≡ length new + length (wire rest))
 onward {message} {at} {old} {new} {front} {stop} s r =
     let k = left s.front front (drop at message) r.behind stop s.are r.are (sym s.stands ∙ r.stands) in
@@ -57,8 +57,8 @@ onward {message} {at} {old} {new} {front} {stop} s r =
     (k.rest, rw (g, length-drop at message) at n, omega (arith, wire_length s.front k.rest k.joined, ap length s.octets, length-append old (wire s.front)))
 
 -- what ends a run stands behind the labels that were read
-stopped : {message : List ℕ} {place at : ℕ} {old new : List ℕ} (stop : Option ℕ) (behind : List ℕ) → SoFar message place at old new
-    → drop at message ≡ stop_octets stop ++ behind → IfSome stop (λ q. q < 16384) → AddsRun message place stop (at + length (stop_octets stop)) old new
+stopped : {message : List ℕ} {offset at : ℕ} {old new : List ℕ} (stop : Option ℕ) (behind : List ℕ) → SoFar message offset at old new
+    → drop at message ≡ stop_octets stop ++ behind → IfSome stop (λ q. q < 16384) → AddsRun message offset stop (at + length (stop_octets stop)) old new
 stopped stop behind s e target = record {
   front = s.front;
   run = record {
@@ -71,8 +71,8 @@ stopped stop behind s e target = record {
   octets = s.octets;
 }
 
-pub at_zero : {message : List ℕ} {place at : ℕ} {old new : List ℕ} → SoFar message place at old new → get_or message at 0 ≡ 0 → at < length message
-    → AddsRun message place None (at + 1) old new
+pub at_zero : {message : List ℕ} {offset at : ℕ} {old new : List ℕ} → SoFar message offset at old new → get_or message at 0 ≡ 0 → at < length message
+    → AddsRun message offset None (at + 1) old new
 at_zero {message} {at} s zero room =
     stopped None (drop (at + 1) message) s (drop_more message at 0 room ∙ ap (λ (k : ℕ). k ∷ drop (at + 1) message) zero) tt
 
@@ -83,9 +83,9 @@ pointer_of h l lo hi low =
     let b : ((h - 192) * 256 + l) % 256 ≡ l = omega arith in
     cc
 
-pub at_pointer : {message : List ℕ} {place at : ℕ} {old new : List ℕ} → SoFar message place at old new → ((i : ℕ) → get_or message i 0 < 256)
+pub at_pointer : {message : List ℕ} {offset at : ℕ} {old new : List ℕ} → SoFar message offset at old new → ((i : ℕ) → get_or message i 0 < 256)
     → 192 ≤ get_or message at 0 → at + 2 ≤ length message
-    → AddsRun message place (Some ((get_or message at 0 - 192) * 256 + get_or message (at + 1) 0)) (at + 2) old new
+    → AddsRun message offset (Some ((get_or message at 0 - 192) * 256 + get_or message (at + 1) 0)) (at + 2) old new
 at_pointer {message} {at} s octets high room =
     let h = get_or message at 0 in
     let l = get_or message (at + 1) 0 in
@@ -97,9 +97,9 @@ at_pointer {message} {at} s octets high room =
     (e ∙ ap (λ (t : List ℕ). t ++ drop (at + 1 + 1) message) (sym (pointer_of h l high hi lo))) (omega arith)
 
 -- one label more
-pub one_more : {message : List ℕ} {place at : ℕ} {old new part : List ℕ} → SoFar message place at old new → 1 ≤ get_or message at 0
+pub one_more : {message : List ℕ} {offset at : ℕ} {old new part : List ℕ} → SoFar message offset at old new → 1 ≤ get_or message at 0
     → get_or message at 0 ≤ 63 → at + get_or message at 0 + 1 ≤ length message → length new + get_or message at 0 < 254
-    → part ≡ take (get_or message at 0 + 1) (drop at message) → SoFar message place (at + (get_or message at 0 + 1)) old (new ++ part)
+    → part ≡ take (get_or message at 0 + 1) (drop at message) → SoFar message offset (at + (get_or message at 0 + 1)) old (new ++ part)
 one_more {message} {at} {old} {new} {part} s low high room short part_is =
     let n = get_or message at 0 in
     let label = take n (drop (at + 1) message) in

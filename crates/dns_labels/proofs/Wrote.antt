@@ -38,9 +38,9 @@ cut_wrote {message} {old} {part} {new} {octets} {cut} {target} {stop} same n k w
     }
 
 -- a pointer to where the name stands already wrote it
-pub pointer_wrote : {mode : RDataEncoding} {old new octets : List ℕ} (place : ℕ) → new ≡ old ++ pointer place → StandsFor old place octets
-    → mode ≡ modes.StandardRecord → AreNameOctets octets → 0 < length octets → place < 16384 → (mark : Bool) → NameWrote mode old (name_of octets mark) new
-pointer_wrote {old = old} {octets = octets} place e s is n some low = cut_wrote refl n (whole_found old octets place n some low s)
+pub pointer_wrote : {mode : RDataEncoding} {old new octets : List ℕ} (offset : ℕ) → new ≡ old ++ pointer offset → StandsFor old offset octets
+    → mode ≡ modes.StandardRecord → AreNameOctets octets → 0 < length octets → offset < 16384 → (mark : Bool) → NameWrote mode old (name_of octets mark) new
+pointer_wrote {old = old} {octets = octets} offset e s is n some low = cut_wrote refl n (whole_found old octets offset n some low s)
     (λ other. absurd (other is)) (sym (append-nil old)) refl e
 
 -- its octets and a 0 wrote it

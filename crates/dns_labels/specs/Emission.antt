@@ -2,17 +2,18 @@
 use Rattle.std.specs.Prelude.{◌≡◌, ℕ, ◌<◌, ◌≤◌, List, [], length, take, drop, Option, Some, None}
 use Rattle.dns_fields.specs.{Labels.AreLabels, Labels.wire, Names.LabelsStand}
 
--- these octets stand for labels from that place
-pub record StandsFor (message : List ℕ) (place : ℕ) (octets : List ℕ) : Type 0 where
+-- these octets are the labels of the name at that offset
+pub record StandsFor (message : List ℕ) (offset : ℕ) (octets : List ℕ) : Type 0 where
   pub labels : List (List ℕ)
   pub end : ℕ
-  pub stands : LabelsStand message place labels end
+  pub stands : LabelsStand message offset labels end
   pub same : octets ≡ wire labels
 
--- no labels are left, or they stand from that place already
+-- no labels are left, or they are at that offset already
 abbrev pub LeadsTo : List ℕ → Option ℕ → List (List ℕ) → Type 0
 LeadsTo message None rest = rest ≡ []
-LeadsTo message (Some target) rest = (target < 16384) × (1 ≤ length rest) × ((end : ℕ) × LabelsStand message target rest end)
+LeadsTo message (Some target) rest = (target < 16384) × (1 ≤ length rest)
+    × ((end : ℕ) × LabelsStand message target rest end)
 
 -- the octets are labels up to the cut, and labels from there on
 pub record CutAt (octets : List ℕ) (cut : ℕ) : Type 0 where

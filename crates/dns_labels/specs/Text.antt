@@ -9,33 +9,38 @@ IsGraphic c = (33 ≤ c) × (c ≤ 126)
 -- A text of one octet of a label: the character itself, `\` and three digits, or `\` and a character that is no digit.
 pub data OctetText : ℕ → List ℕ → Type 0 where
   plain : {c : ℕ} → IsGraphic c → c ≢ 46 → c ≢ 92 → OctetText c (c ∷ [])
-  decimal : {n : ℕ} (h t o : ℕ) → h < 10 → t < 10 → o < 10 → n ≡ 100 * h + 10 * t + o → n < 256 → OctetText n (92 ∷ (48 + h) ∷ (48 + t) ∷ (48 + o) ∷ [])
+  decimal : {n : ℕ} (h t o : ℕ) → h < 10 → t < 10 → o < 10 → n ≡ 100 * h + 10 * t + o → n < 256
+      → OctetText n (92 ∷ (48 + h) ∷ (48 + t) ∷ (48 + o) ∷ [])
   quoted : {c : ℕ} → IsGraphic c → (48 ≤ c → 57 < c) → OctetText c (92 ∷ c ∷ [])
 
--- A text of a label: those of its octets, one behind the other.
+-- A text of a label: those of its octets, one after the other.
 pub data LabelText : List ℕ → List ℕ → Type 0 where
   no_octet : LabelText [] []
-  octet : {n : ℕ} {label text : List ℕ} (front rest : List ℕ) → OctetText n front → LabelText label rest → text ≡ front ++ rest → LabelText (n ∷ label) text
+  octet : {n : ℕ} {label text : List ℕ} (front rest : List ℕ) → OctetText n front → LabelText label rest
+      → text ≡ front ++ rest → LabelText (n ∷ label) text
 
 -- A text of one label or more, joined by dots; a dot at the end marks them fully qualified.
 pub data LabelsText : List (List ℕ) → Bool → List ℕ → Type 0 where
   last : {label text : List ℕ} → LabelText label text → LabelsText (label ∷ []) false text
-  dotted : {label text : List ℕ} (front : List ℕ) → LabelText label front → text ≡ front ++ 46 ∷ [] → LabelsText (label ∷ []) true text
-  joined : {label text : List ℕ} {labels : List (List ℕ)} {mark : Bool} (front rest : List ℕ) → LabelText label front → LabelsText labels mark rest
+  dotted : {label text : List ℕ} (front : List ℕ) → LabelText label front → text ≡ front ++ 46 ∷ []
+      → LabelsText (label ∷ []) true text
+  joined : {label text : List ℕ} {labels : List (List ℕ)} {mark : Bool} (front rest : List ℕ) → LabelText label front
+      → LabelsText labels mark rest
       → text ≡ front ++ 46 ∷ rest → LabelsText (label ∷ labels) mark text
 
 -- A dot is the root and no text the relative name without labels; every other text is that of labels.
 pub data MarkedText : List (List ℕ) → Bool → List ℕ → Type 0 where
   root : MarkedText [] true (46 ∷ [])
   nothing : MarkedText [] false []
-  labelled : {labels : List (List ℕ)} {mark : Bool} {text : List ℕ} → LabelsText labels mark text → MarkedText labels mark text
+  labelled : {labels : List (List ℕ)} {mark : Bool} {text : List ℕ} → LabelsText labels mark text
+      → MarkedText labels mark text
 
 -- the text is one of the name's
 pub record IsNameText (name : DomainName) (text : List ℕ) : Type 0 where
   pub is_name : IsName name
   pub reads : MarkedText name.labels name.fully_qualified text
 
--- the text that is printed of an octet: `.` and `\` stand behind a `\`, what is no graphic character as three digits
+-- the text that is printed of an octet: `.` and `\` after a `\`, what is no graphic character as a `\` and three digits
 abbrev pub printed : ℕ → List ℕ
 printed c = if c == 46 || c == 92 then 92 ∷ c ∷ [] else
     (if nat_le 33 c && nat_le c 126 then c ∷ [] else 92 ∷ (48 + c / 100) ∷ (48 + c / 10 % 10) ∷ (48 + c % 10) ∷ [])
@@ -43,7 +48,7 @@ printed c = if c == 46 || c == 92 then 92 ∷ c ∷ [] else
 abbrev pub label_text : List ℕ → List ℕ
 label_text label = flat_map printed label
 
--- the first label, and each other one behind a dot
+-- the first label, and each other one after a dot
 abbrev pub joined_text : List (List ℕ) → List ℕ
 joined_text [] = []
 joined_text (label ∷ labels) = label_text label ++ flat_map (λ other. 46 ∷ label_text other) labels

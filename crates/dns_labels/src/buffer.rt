@@ -77,11 +77,11 @@ impl NameBuffer {
     }
 
     /// Sets the octet at an index.
-    pub(crate) fn set(&mut self, place: usize, octet: u8)
-        requires { place < length self.old }
-        ensures { self.new ≡ slice_set self.old place octet }
+    pub(crate) fn set(&mut self, index: usize, octet: u8)
+        requires { index < length self.old }
+        ensures { self.new ≡ slice_set self.old index octet }
     {
-        self.octets.as_mut_slice()[place] = octet;
+        self.octets.as_mut_slice()[index] = octet;
     }
 
     /// Copies the octets to a vector without spare capacity.

@@ -39,8 +39,8 @@ pub fn hash_lowered<H: Hasher>(octets: &[u8], state: &mut H)
     ensures { state.new ≡ H.write state.old (lowered_octets octets.now) }
 {
     let mut lowered = [0u8; 255];
-    for (place, octet) in octets.iter().enumerate() {
-        lowered[place] = octet.to_ascii_lowercase();
+    for (index, octet) in octets.iter().enumerate() {
+        lowered[index] = octet.to_ascii_lowercase();
     }
     lowered[octets.len()] = 0;
     state.write(&lowered[..octets.len() + 1]);

@@ -8,7 +8,7 @@ use thiserror::Error;
 /// Why octets or a text are not a name.
 #[derive(Clone, Copy, Debug, PartialEq, Eq, Error)]
 pub enum NameError {
-    /// A request for memory was refused.
+    /// An allocation failed.
     #[error("out of memory")]
     Memory,
     /// The octets or the text are not a name.
@@ -39,7 +39,7 @@ impl<T: Drop> From<AllocFailed<T>> for NameError {
 /// Why a text is not a name.
 #[derive(Clone, Copy, Debug, PartialEq, Eq, Error)]
 pub enum NameTextError {
-    /// A request for memory was refused.
+    /// An allocation failed.
     #[error("out of memory")]
     Memory,
     /// The text is not a name; this says why.
@@ -60,7 +60,7 @@ impl From<AllocError> for NameTextError {
 /// Why a name was not written.
 #[derive(Clone, Copy, Debug, PartialEq, Eq, Error)]
 pub enum WriteError {
-    /// A request for memory was refused.
+    /// An allocation failed.
     #[error("out of memory")]
     Memory,
     /// The name needs more octets than are left.

@@ -40,7 +40,7 @@ const WEIGHTS: [u64; 32] = [
     0x22dd_f2ff_cee4_81eb,
 ];
 
-// The factor by which a hash is mixed before it is cut to 32 bits.
+// The factor by which a hash is mixed before 32 bits of it are kept.
 const FACTOR: u64 = 0x9e37_79b9_7f4a_7c15;
 
 /// The hash of a name's octets.
@@ -87,17 +87,17 @@ fn front_hash(name: &[u8], at: usize) -> u64
     if len % 8 == 0 {
         return 0;
     }
-    WEIGHTS[len / 8 % 32].wrapping_mul(word_at(name, at, len % 8))
+    WEIGHTS[len / 8 % 32].wrapping_mul(token_at(name, at, len % 8))
 }
 
 /// Up to eight octets from an offset on as a number, the first one lowest.
 #[inline]
-fn word_at(name: &[u8], at: usize, count: usize) -> u64
+fn token_at(name: &[u8], at: usize, count: usize) -> u64
     requires count { (0 < count) × (count ≤ 8) }
     requires within { at + count ≤ length name.now }
 {
     let len = name.len();
-    let word = if len - at >= 8 {
+    let token = if len - at >= 8 {
         LittleEndian::read_u64(&name[at..at + 8])
     } else if len >= 8 {
         LittleEndian::read_u64(&name[len - 8..]) >> (8 * (8 - (len - at)) as u32)
@@ -105,9 +105,9 @@ fn word_at(name: &[u8], at: usize, count: usize) -> u64
         name[at..]
             .iter()
             .rev()
-            .fold(0u64, |word, octet| (word << 8) | *octet as u64)
+            .fold(0u64, |token, octet| (token << 8) | *octet as u64)
     };
-    word & (u64::MAX >> (8 * (8 - count) as u32))
+    token & (u64::MAX >> (8 * (8 - count) as u32))
 }
 
 #[inline]
@@ -115,8 +115,8 @@ pub(crate) fn short_hash(hash: u64) -> u32 {
     ((hash ^ (hash >> 32)).wrapping_mul(FACTOR) >> 32) as u32
 }
 
-// Which of so many buckets a hash is in. Their number is a power of two, so that the last bits of the hash are the answer,
-// without a division.
+// Which of so many buckets a hash is in. Their number is a power of two, so that the last bits of the hash are the
+// answer, without a division.
 #[inline]
 pub(crate) fn bucket_of(hash: u32, count: usize) -> usize
     requires { 0 < count }

@@ -9,16 +9,16 @@ ghost use Rattle.dns_labels.specs.Text.{IsNameText, HasOctets, name_text};
 /// What holds of names in messages, of written names, and of their order.
 #[tactic(auto, using(crate::proofs::Wrote::name_laws))]
 pub fn names_hold()
-    // from one place stands at most one name, and it has one end
+    // at one offset is at most one name, and it has one end
     ensures one { (m : List ℕ) (p : ℕ) (x y : DomainName) (e f : ℕ) →
         IsNameIn m p x e → IsNameIn m p y f → (x ≡ y) × (e ≡ f) }
-    // what stands behind a message changes no name in it
+    // octets after a message change no name in it
     ensures stays { (m more : List ℕ) (p : ℕ) (x : DomainName) (e : ℕ) →
         IsNameIn m p x e → IsNameIn (m ++ more) p x e }
-    // what stands for a name ends behind its place, in the message
+    // a name takes at least one octet, and ends in the message
     ensures inside { (m : List ℕ) (p : ℕ) (x : DomainName) (e : ℕ) →
         IsNameIn m p x e → (p < e) × (e ≤ length m) }
-    // what was written is read as that very name, fully qualified, behind any octets and whatever follows
+    // what was written is read as that very name, fully qualified, after any octets and whatever follows
     ensures written { (mode : RDataEncoding) (m octets more : List ℕ) (x : DomainName) → NameWrote mode m x octets →
         IsNameIn (octets ++ more) (length m) (full_name x) (length octets) }
     // canonical octets are the same where the labels are, but for the case of their letters

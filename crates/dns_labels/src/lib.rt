@@ -10,7 +10,7 @@ pub mod labels;
 pub mod laws;
 mod matching;
 pub mod message;
-pub mod places;
+pub mod name_offsets;
 pub mod reading;
 pub mod text;
 pub mod writing;
@@ -18,7 +18,7 @@ pub mod writing;
 use dns_types::SmallOctets;
 pub use error::{NameError, NameTextError, WriteError};
 pub use message::MessageOctets;
-pub use places::Places;
+pub use name_offsets::NameOffsets;
 
 /// The octets of one name. Up to 32 are kept in the value itself, without an allocation.
 pub type NameOctets = SmallOctets<32>;

@@ -1,4 +1,4 @@
-//! Whether a name's octets stand as a name at a place.
+//! Whether a message has a given name at an offset.
 
 ghost use Rattle.std.specs.Prelude.{◌≡◌, ℕ, List, ◌≤◌, ◌↔◌, [], IsTrue, length, take, IfSome};
 ghost use Rattle.std.specs.Bool.{OnTrue};
@@ -10,12 +10,12 @@ use dns_types::comparing::{same_middle, same_octets};
 /// Returns how many of the octets the message has there as labels, up to a 0 or a compression pointer, and the
 /// pointer's target.
 #[tactic(auto, using(crate::proofs::WritingSteps::one_matched))]
-fn match_run(message: &[u8], place: usize, octets: &[u8]) -> Option<(usize, Option<usize>)>
-    requires place { place ≤ length message.now }
+fn match_run(message: &[u8], offset: usize, octets: &[u8]) -> Option<(usize, Option<usize>)>
+    requires offset { offset ≤ length message.now }
     requires short { length octets.now ≤ 254 }
-    ensures { IfSome result (λ r. (end : ℕ) × AddsRun message.now place r.1 end [] (take r.0 octets.now) × (r.0 ≤ length octets.now)) }
+    ensures { IfSome result (λ r. (end : ℕ) × AddsRun message.now offset r.1 end [] (take r.0 octets.now) × (r.0 ≤ length octets.now)) }
 {
-    let mut at = place;
+    let mut at = offset;
     let mut taken = 0usize;
     'labels: loop {
         if at >= message.len() {
@@ -52,18 +52,18 @@ fn match_run(message: &[u8], place: usize, octets: &[u8]) -> Option<(usize, Opti
 /// are found are of this form.
 #[inline]
 #[tactic(auto, using(crate::proofs::Tails::tail_whole))]
-pub(crate) fn stands_whole(message: &[u8], place: usize, octets: &[u8]) -> bool
+pub(crate) fn stands_whole(message: &[u8], offset: usize, octets: &[u8]) -> bool
     requires { (labels : List (List ℕ)) × AreLabels labels × (octets.now ≡ wire labels) }
-    ensures { OnTrue result (StandsFor message.now place octets.now) }
+    ensures { OnTrue result (StandsFor message.now offset octets.now) }
 {
     let len = octets.len();
-    if place >= message.len() || message.len() - place <= len {
+    if offset >= message.len() || message.len() - offset <= len {
         return false;
     }
-    if message[place + len] != 0 {
+    if message[offset + len] != 0 {
         return false;
     }
-    if !same_labels(&message[place..place + len], octets) {
+    if !same_labels(&message[offset..offset + len], octets) {
         return false;
     }
     true
@@ -84,27 +84,27 @@ fn same_labels(a: &[u8], b: &[u8]) -> bool
 /// Returns whether the message has the first of these octets, which are labels, at that offset, followed by a pointer
 /// to where the others are uncompressed. Most names that share a suffix are of this form.
 #[inline]
-pub(crate) fn stands_in_two(message: &[u8], place: usize, octets: &[u8], front: usize) -> bool
+pub(crate) fn stands_in_two(message: &[u8], offset: usize, octets: &[u8], front: usize) -> bool
     requires short { length octets.now ≤ 254 }
     requires labels { (labels : List (List ℕ)) × AreLabels labels × (octets.now ≡ wire labels) }
-    ensures { OnTrue result (StandsFor message.now place octets.now) }
+    ensures { OnTrue result (StandsFor message.now offset octets.now) }
 {
-    if front >= octets.len() || place >= message.len() || message.len() - place < front + 2 {
+    if front >= octets.len() || offset >= message.len() || message.len() - offset < front + 2 {
         return false;
     }
-    let first = message[place + front] as usize;
-    let second = message[place + front + 1] as usize;
-    if first < 192 || (first - 192) * 256 + second >= place {
+    let first = message[offset + front] as usize;
+    let second = message[offset + front + 1] as usize;
+    if first < 192 || (first - 192) * 256 + second >= offset {
         return false;
     }
-    if !same_labels(&message[place..place + front], &octets[..front]) {
+    if !same_labels(&message[offset..offset + front], &octets[..front]) {
         return false;
     }
     if !is_cut(octets, front) {
         return false;
     }
     stands_whole(
-        &message[..place],
+        &message[..offset],
         (first - 192) * 256 + second,
         &octets[front..],
     )
@@ -127,18 +127,18 @@ fn is_cut(octets: &[u8], front: usize) -> bool
 }
 
 /// Returns whether these labels are the name at that offset of the message.
-pub(crate) fn stands_at(message: &[u8], place: usize, octets: &[u8]) -> bool
+pub(crate) fn stands_at(message: &[u8], offset: usize, octets: &[u8]) -> bool
     requires { length octets.now ≤ 254 }
-    ensures { OnTrue result (StandsFor message.now place octets.now) }
+    ensures { OnTrue result (StandsFor message.now offset octets.now) }
 {
-    if place >= message.len() {
+    if offset >= message.len() {
         return false;
     }
-    let mut window = message;
-    let mut begin = place;
+    let mut region = message;
+    let mut begin = offset;
     let mut matched = 0usize;
     'runs: loop {
-        let Some((taken, stop)) = match_run(window, begin, &octets[matched..]) else {
+        let Some((taken, stop)) = match_run(region, begin, &octets[matched..]) else {
             return false;
         };
         matched += taken;
@@ -148,7 +148,7 @@ pub(crate) fn stands_at(message: &[u8], place: usize, octets: &[u8]) -> bool
         if target >= begin {
             return false;
         }
-        window = &window[..begin];
+        region = &region[..begin];
         begin = target;
     }
 }

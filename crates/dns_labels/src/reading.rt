@@ -18,15 +18,15 @@ struct Run {
 
 /// Reads labels up to a 0 or a compression pointer.
 #[tactic(auto, using(crate::proofs::ReadingSteps::at_pointer, crate::proofs::ReadingSteps::so_far_none))]
-fn read_run(message: &[u8], place: usize, octets: &mut NameBuffer) -> Option<Run>
-    requires { place ≤ length message.now }
-    ensures some { IfSome result (λ r. AddsRun message.now place r.next r.end octets.old octets.new) }
+fn read_run(message: &[u8], offset: usize, octets: &mut NameBuffer) -> Option<Run>
+    requires { offset ≤ length message.now }
+    ensures some { IfSome result (λ r. AddsRun message.now offset r.next r.end octets.old octets.new) }
     ensures end { IfSome result (λ r. r.end ≤ length message.now) }
     ensures room { length octets.new ≤ 254 }
     ensures none { IfNone result ((front : List (List ℕ)) (stop : Option ℕ) (end : ℕ) →
-        IsRun message.now place front stop end → length octets.old + length (wire front) ≤ 254 → ⊥) }
+        IsRun message.now offset front stop end → length octets.old + length (wire front) ≤ 254 → ⊥) }
 {
-    let mut at = place;
+    let mut at = offset;
     let mut len = octets.len();
     'labels: loop {
         if at >= message.len() {
@@ -71,16 +71,16 @@ fn read_runs(message: &[u8], start: usize, octets: &mut NameBuffer) -> Option<us
 {
     let first = read_run(message, start, octets)?;
     let end = first.end;
-    let mut window = message;
-    let mut place = start;
+    let mut region = message;
+    let mut offset = start;
     let mut next = first.next;
     'runs: while let Some(target) = next {
-        if target >= place {
+        if target >= offset {
             return None;
         }
-        window = &window[..place];
-        let run = read_run(window, target, octets)?;
-        place = target;
+        region = &region[..offset];
+        let run = read_run(region, target, octets)?;
+        offset = target;
         next = run.next;
     }
     Some(end)
@@ -88,7 +88,7 @@ fn read_runs(message: &[u8], start: usize, octets: &mut NameBuffer) -> Option<us
 
 /// Returns the octets of an uncompressed name; `None` if it has a pointer, or if no name is there.
 #[inline]
-fn plain_octets(message: &[u8], start: usize) -> Option<&[u8]>
+fn uncompressed_octets(message: &[u8], start: usize) -> Option<&[u8]>
     requires { start ≤ length message.now }
     ensures some { IfSome result (λ octets. IsNameAt message.now start octets.now (start + length octets.now + 1)) }
     ensures end { IfSome result (λ octets. start + length octets.now + 1 ≤ length message.now) }
@@ -129,7 +129,7 @@ pub fn read_octets(
     ensures refused { result ≡ Err NameError.Invalid → (name : DomainName) (end : ℕ) →
         IsNameIn message.now start name end → ⊥ }
 {
-    if let Some(octets) = plain_octets(message, start) {
+    if let Some(octets) = uncompressed_octets(message, start) {
         let end = start + octets.len() + 1;
         return Ok((NameOctets::from_slice(alloc, octets)?, end));
     }

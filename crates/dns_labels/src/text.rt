@@ -269,8 +269,8 @@ impl<'a> NameText<'a> {
     }
 }
 
-// Writes the text of a name where each octet of its labels stands for itself and there is room; else what it writes is
-// of no use.
+// Writes the text of a name whose octets need no escape. Returns `false` if one needs an escape or there is no room;
+// the text written so far is then of no use.
 fn write_plain(octets: &[u8], is_fqdn: bool, text: &mut NameBuffer) -> bool
     requires octets { AreNameOctets octets.now }
     requires empty { text.old ≡ [] }

@@ -1,4 +1,4 @@
-//! Names written behind other octets, with a pointer in place of a tail that stands there already.
+//! Names appended to a message, with a compression pointer for a suffix that the message already has.
 
 ghost use Rattle.std.specs.Prelude.{◌≡◌, ◌≢◌, ℕ, ◌+◌, ◌++◌, ◌<◌, ◌≤◌, Bool, [], ◌∷◌, None, Err, length, IfOk, OnOk, OnErr};
 ghost use Rattle.dns_fields.specs.{Octets.AreOctets, Names.NameWrote, Names.pointer};
@@ -7,7 +7,7 @@ ghost use Rattle.dns_labels.specs.{Messages.StaysInVector, Labels.AreNameOctets,
 use crate::error::WriteError;
 use crate::hashes::name_hash;
 use crate::message::MessageOctets;
-use crate::places::Places;
+use crate::name_offsets::NameOffsets;
 use dns_fields::RDataEncoding;
 use std::alloc::AllocError;
 
@@ -35,7 +35,7 @@ struct Cut {
 #[inline]
 #[tactic(auto, using(crate::proofs::CutSteps::cut_whole))]
 fn cut_for(
-    places: &mut Places,
+    name_offsets: &mut NameOffsets,
     mode: RDataEncoding,
     message: &[u8],
     name: &[u8],
@@ -44,18 +44,18 @@ fn cut_for(
     ensures cut { IfOk result (λ c. IsNameCut message.now name.now c.written c.target) }
     ensures whole { mode ≢ RDataEncoding.StandardRecord → IfOk result (λ c. (c.written ≡ length name.now) × (c.target ≡ None)) }
 {
-    if places.is_empty() {
+    if name_offsets.is_empty() {
         return Ok(Cut {
             written: name.len(),
             target: None,
             note: Note::First,
         });
     }
-    places.note_deferred(message)?;
+    name_offsets.note_deferred(message)?;
     let hash = name_hash(name);
     match mode {
         RDataEncoding::StandardRecord => {
-            let (written, target) = places.longest_tail(message, name, hash);
+            let (written, target) = name_offsets.longest_tail(message, name, hash);
             Ok(Cut {
                 written,
                 target,
@@ -63,7 +63,7 @@ fn cut_for(
             })
         }
         RDataEncoding::Canonical | RDataEncoding::Other => {
-            let note = if places.stands(message, name, hash) {
+            let note = if name_offsets.stands(message, name, hash) {
                 Note::Nothing
             } else {
                 Note::Hash(hash)
@@ -112,7 +112,7 @@ fn append_front(out: &mut MessageOctets<'_>, front: &[u8]) -> Result<(), AllocEr
 /// passes the limit, and the uncompressed name does so too. After an error the octets are unchanged.
 #[inline(never)]
 pub fn write_name(
-    places: &mut Places,
+    name_offsets: &mut NameOffsets,
     out: &mut MessageOctets<'_>,
     mode: RDataEncoding,
     limit: usize,
@@ -126,9 +126,9 @@ pub fn write_name(
     ensures err { OnErr result (out.new.items ≡ out.old.items) }
     ensures full { result ≡ Err WriteError.Buffer → limit < length out.old.items + (length name.now + 1) }
 {
-    match places.stands_recently(out.as_slice(), name) {
-        Some(place) => write_again(out, mode, limit, name, place),
-        None => write_new(places, out, mode, limit, name),
+    match name_offsets.stands_recently(out.as_slice(), name) {
+        Some(offset) => write_again(out, mode, limit, name, offset),
+        None => write_new(name_offsets, out, mode, limit, name),
     }
 }
 
@@ -141,12 +141,12 @@ fn write_again(
     mode: RDataEncoding,
     limit: usize,
     name: &[u8],
-    place: usize,
+    offset: usize,
 ) -> Result<(), WriteError>
     requires name { AreNameOctets name.now }
     requires some { 0 < length name.now }
-    requires place { place < 16384 }
-    requires stands { StandsFor out.old.items place name.now }
+    requires offset { offset < 16384 }
+    requires stands { StandsFor out.old.items offset name.now }
     ensures ok { OnOk result ((mark : Bool) → NameWrote mode out.old.items (name_of name.now mark) out.new.items) }
     ensures within { OnOk result (length out.new.items ≤ limit) }
     ensures stays { StaysInVector out.old out.new }
@@ -159,7 +159,7 @@ fn write_again(
             if out.len() + 2 > limit {
                 return Err(WriteError::Buffer);
             }
-            out.extend_from_slice(&[(192 + place / 256) as u8, (place % 256) as u8])?;
+            out.extend_from_slice(&[(192 + offset / 256) as u8, (offset % 256) as u8])?;
             Ok(())
         }
         RDataEncoding::Canonical | RDataEncoding::Other => {
@@ -179,7 +179,7 @@ fn write_again(
 #[inline(never)]
 #[tactic(auto, using(crate::proofs::Wrote::cut_wrote))]
 fn write_new(
-    places: &mut Places,
+    name_offsets: &mut NameOffsets,
     out: &mut MessageOctets<'_>,
     mode: RDataEncoding,
     limit: usize,
@@ -194,7 +194,7 @@ fn write_new(
     ensures full { result ≡ Err WriteError.Buffer → limit < length out.old.items + (length name.now + 1) }
 {
     let start = out.len();
-    let cut = cut_for(places, mode, out.as_slice(), name)?;
+    let cut = cut_for(name_offsets, mode, out.as_slice(), name)?;
     let front = &name[..cut.written];
     let len = front.len() + stop_len(cut.target);
     if start > limit || limit - start < len {
@@ -203,13 +203,15 @@ fn write_new(
     out.reserve(len)?;
     match cut.note {
         Note::Nothing => {}
-        Note::First => places.defer(start, cut.written),
-        Note::Hash(hash) => places.note(start, name, cut.written, hash)?,
+        Note::First => name_offsets.defer(start, cut.written),
+        Note::Hash(hash) => name_offsets.note(start, name, cut.written, hash)?,
     }
     append_front(out, front)?;
     match cut.target {
         None => out.extend_from_slice(&[0])?,
-        Some(place) => { out.extend_from_slice(&[(192 + place / 256) as u8, (place % 256) as u8])? }
+        Some(offset) => {
+            out.extend_from_slice(&[(192 + offset / 256) as u8, (offset % 256) as u8])?
+        }
     }
     Ok(())
 }

@@ -9,7 +9,7 @@ use Rattle.dns_fields.specs.Labels.{DomainName, AreLabels, IsName, wire, low_lab
 use Rattle.dns_fields.proofs.{NameLaws.are_low, NameLaws.low_wire, Runs.wire-append}
 use Rattle.dns_labels.specs.{Labels.AreNameOctets, Labels.labels_of, Text.IsNameText}
 use Rattle.dns_labels.proofs.{Built.AreJoined, Lowered.lowered-of, NameTexts.one_name, Octets.labels_from, Octets.are_name_octets, Octets.first_label}
-use Rattle.dns_names_wire.specs.NameValues.{qualified, completed, IsParsed, IsTextRefusal}
+use Rattle.dns_names_wire.specs.NameValues.{qualified, completed, IsParsed, IsTextError}
 
 pub wire_low : (octets : List ℕ) → AreNameOctets octets → map to_ascii_lowercase octets ≡ wire (low_labels (labels_of octets))
 wire_low octets n = append_cancel_right (map to_ascii_lowercase octets) (wire (low_labels (labels_of octets))) (0 ∷ [])
@@ -66,13 +66,13 @@ none_parsed : {text : List ℕ} {origin : Option DomainName} {read : DomainName}
 none_parsed {text} {origin} {read} is none x p =
     none (subst IsName (p.same ∙ ap (λ (y : DomainName). completed y origin) (one_name text p.read read p.is_text is)) p.is_name)
 
-refusal_map : (e : ProtoError) (P Q : Type 0) → (P → Q) → IsTextRefusal e P → IsTextRefusal e Q
-refusal_map proto.Memory P Q f h = tt
-refusal_map (proto.Message t) P Q f h = f h
-refusal_map e P Q f h = h
+error_map : (e : ProtoError) (P Q : Type 0) → (P → Q) → IsTextError e P → IsTextError e Q
+error_map proto.Memory P Q f h = tt
+error_map (proto.Message t) P Q f h = f h
+error_map e P Q f h = h
 
 pub refused_parsed : {T : Type 0} {text : List ℕ} (origin : Option DomainName) {read : DomainName} (r : Result T ProtoError) → IsNameText read text
-    → IfErr r (λ e. IsTextRefusal e (IsName (completed read origin) → ⊥)) → IfErr r (λ e. IsTextRefusal e ((x : DomainName) → IsParsed text origin x → ⊥))
+    → IfErr r (λ e. IsTextError e (IsName (completed read origin) → ⊥)) → IfErr r (λ e. IsTextError e ((x : DomainName) → IsParsed text origin x → ⊥))
 refused_parsed origin (Ok x) is h = tt
 refused_parsed {text = text} origin {read = read} (Err e) is h =
-    refusal_map e (IsName (completed read origin) → ⊥) ((x : DomainName) → IsParsed text origin x → ⊥) (none_parsed is) h
+    error_map e (IsName (completed read origin) → ⊥) ((x : DomainName) → IsParsed text origin x → ⊥) (none_parsed is) h

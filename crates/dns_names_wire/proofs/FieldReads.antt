@@ -1,7 +1,7 @@
 -- Reading fields one after the other.
 use Rattle.std.proofs.Common.{◌≡◌, ℕ, ◌+◌, ◌≤◌, ◌<◌, List, [], ◌∷◌, length, refl, sym, ◌∙◌, arith, subst}
 use Rattle.dns_names_wire.specs.State.{Reading}
-use Rattle.dns_names_wire.specs.Words.{TookField, LacksField, Took, Lacks, StaysBehind, UnlessMemory, RefusedField, Refused, IsLong}
+use Rattle.dns_names_wire.specs.Terms.{TookField, LacksField, Took, Lacks, StaysBehind, UnlessMemory, RefusedField, Refused, IsLong}
 use Rattle.dns_fields.specs.Fields.{Kind, Number, Value, Values, Field, Stands, EndsItself}
 use Rattle.dns_types.specs.declared.error.DecodeError.{DecodeError}
 use Rattle.dns_types.specs.declared.error.DecodeError.TheVariants as decode
@@ -40,7 +40,7 @@ lacks_then {d} {b} {k} {v} {kinds} {condition} ends f l = record {
       l.none vs.1 e rest (subst (λ (w : Value k). condition (w, vs.1) e) first c);
 }
 
--- or where the end is before the place
+-- or if the end is before the offset
 pub lacks_past : {d : Reading} {kinds : List Kind} {condition : Values kinds → ℕ → Type 0} → ((vs : Values kinds) (e : ℕ) → condition vs e → e < d.index)
     → Lacks d kinds condition
 lacks_past {d} {kinds} past = record { none = λ vs e s c. let h = past vs e c in let i = stands_inside d.message d.index kinds vs e s in omega arith }
@@ -59,7 +59,7 @@ pub unless_all : (e : DecodeError) {P : Type 0} → P → UnlessMemory e P
 unless_all decode.Memory h = tt
 unless_all e h = h
 
--- ---- a refusal on the way
+-- ---- an error on the way
 
 pub refused_first : {e : DecodeError} {d n : Reading} {k : Kind} {kinds : List Kind} {condition : Values (k ∷ kinds) → ℕ → Type 0} → RefusedField e d k n
     → Refused e d (k ∷ kinds) condition n
@@ -74,7 +74,7 @@ stands_within m p [] a e h f = elim h [ ]
 stands_within m p (k ∷ []) a e h f = omega (arith, (field_inside f.1).1, f.2)
 stands_within m p (k ∷ l ∷ kinds) a e h f = stands_within m f.0 (l ∷ kinds) a.1 e tt f.2
 
--- an end before the place
+-- an end before the offset
 pub refused_past : {e : DecodeError} (d : Reading) {kinds : List Kind} {condition : Values kinds → ℕ → Type 0}
     → ((vs : Values kinds) (q : ℕ) → condition vs q → q < d.index) → Refused e d kinds condition d
 refused_past {e} d f = record { behind = stays d; none = unless_all e (lacks_past f) }

@@ -4,8 +4,8 @@ use Rattle.std.proofs.Common.{Result, Ok, Err}
 use Rattle.std.proofs.{lemmas.List.length-append, lemmas.List.append-nil, Math.Bool.and-false}
 use Rattle.std.specs.Result.{IsErrAnd}
 use Rattle.dns_names_wire.specs.State.{Writing}
-use Rattle.dns_names_wire.specs.Words.{AppendedField, Appended, Keeps, WithinLimit, Extends, NoRoomField, NoRoom, UnfitField, Unfit, Because}
-use Rattle.dns_names_wire.specs.Words.{StoppedField, Stopped, Emits, EmitsAs, EmitsField}
+use Rattle.dns_names_wire.specs.Terms.{AppendedField, Appended, Keeps, WithinLimit, Extends, NoRoomField, NoRoom, UnfitField, Unfit, Because}
+use Rattle.dns_names_wire.specs.Terms.{StoppedField, Stopped, Emits, EmitsAs, EmitsField}
 use Rattle.dns_fields.specs.declared.RDataEncoding.{RDataEncoding}
 use Rattle.dns_fields.specs.Fields.{Kind, Octets, Rest, Value, Values, Wrote, is_emittable, canonical, field_octets}
 use Rattle.dns_types.specs.declared.error.ProtoError.{ProtoError}
@@ -78,11 +78,12 @@ pub stopped_then : {e : ProtoError} {w b n : Writing} {k : Kind} {v : Value k} {
 stopped_then {e} f s = record { extends = extends_then f s.extends; why = because_map e _ _ _ _ (no_room_then f) unfit_then s.why }
 
 -- the second field is refused
-pub stopped_second : {e : ProtoError} {w b n : Writing} {k j : Kind} {v : Value k} {u : Value j} {kinds : List Kind} {vs : Values kinds} → StoppedField e b j u n
+pub stopped_second : {e : ProtoError} {w b n : Writing} {k j : Kind} {v : Value k} {u : Value j} {kinds : List Kind} {vs : Values kinds}
+    → StoppedField e b j u n
     → AppendedField w k v b → Stopped e w (k ∷ j ∷ kinds) (v, (u, vs)) n
 stopped_second s f = stopped_then f (stopped_first s)
 
--- a refusal on the way, handed on by `?`
+-- an error on the way, returned by `?`
 pub exit_emit : {kinds : List Kind} {vs : Values kinds} {old new : Writing} (r : Result (Unit {0}) ProtoError) (e : ProtoError) → IsErrAnd r (λ y. y ≡ e)
     → Stopped e old kinds vs new → Emits kinds vs r old new
 exit_emit (Ok x) e h f = elim h [ ]

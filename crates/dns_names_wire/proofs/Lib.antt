@@ -1,8 +1,8 @@
 pub mod FieldReads
 pub mod FieldWrites
-pub mod PlainWrites
+pub mod NamelessWrites
 pub mod Strings
-pub mod WindowReads
+pub mod RegionReads
 pub mod Names
 pub mod NameFacts
 pub mod Building

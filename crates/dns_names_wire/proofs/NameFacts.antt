@@ -29,7 +29,7 @@ get_first xs ys i h =
 get_end : (xs : List ℕ) (y i : ℕ) → i ≡ length xs → slice_get (xs ++ y ∷ []) i ≡ Some y
 get_end xs y i e = slice_get-get_or (xs ++ y ∷ []) i y (omega (arith, e, length-append xs (y ∷ []))) ∙ ap (λ (x : ℕ). Some x) (get_or_push xs y y i (sym e))
 
--- the canonical octet at a place of the octets, at their end, and past it
+-- the canonical octet at an index of the octets, at their end, and past it
 pub octet_within : (octets : List ℕ) (mark : Bool) (i x : ℕ) → AreNameOctets octets → i < length octets → x ≡ get_or octets i x
     → slice_get (lowname (name_of octets mark)) i ≡ Some (to_ascii_lowercase x)
 octet_within octets mark i x n h e =

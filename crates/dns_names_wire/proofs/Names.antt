@@ -8,7 +8,7 @@ use Rattle.dns_fields.specs.declared.RDataEncoding.{RDataEncoding}
 use Rattle.dns_fields.proofs.NameLaws.{lowname_length, name_inside}
 use Rattle.dns_types.specs.declared.error.ProtoError.{ProtoError}
 use Rattle.dns_names_wire.specs.State.{Reading, Writing}
-use Rattle.dns_names_wire.specs.Words.{NoRoomField, UnfitField, Because, EmitsField, TookField, StaysBehind}
+use Rattle.dns_names_wire.specs.Terms.{NoRoomField, UnfitField, Because, EmitsField, TookField, StaysBehind}
 use Rattle.dns_names_wire.proofs.FieldWrites.{because_map, within_limit, as_long}
 
 no_room_name : (w : Writing) (octets : List ℕ) (mark : Bool) → AreNameOctets octets → w.limit < length w.octets + (length octets + 1)

@@ -2,8 +2,8 @@
 use Rattle.std.proofs.Common.{◌≡◌, ℕ, ◌+◌, ◌%◌, List, [], ◌∷◌, ◌++◌, length, take, drop, refl, sym, ap, ◌∙◌, arith, subst}
 use Rattle.std.proofs.lemmas.List.{length-append, drop-drop, take-take, take_at, drop_at, drop-take, take-append-drop}
 use Rattle.std.proofs.Math.Nat.{mod-eq_of_lt}
-use Rattle.dns_names_wire.specs.{State.Reading, Words.TookField}
-use Rattle.dns_fields.specs.{Fields.Number, Fields.Octets, Fields.Text, Fields.Rest, Fields.Field, Octets.At}
+use Rattle.dns_names_wire.specs.{State.Reading, Terms.TookField}
+use Rattle.dns_fields.specs.{Fields.Number, Fields.Octets, Fields.CharacterString, Fields.Rest, Fields.Field, Octets.At}
 
 -- the front and the rest of octets that stand
 pub at_front : {m : List ℕ} {p r : ℕ} (x y : List ℕ) → At m p (x ++ y) r → At m p x (p + length x)
@@ -41,7 +41,7 @@ octet_at {m} {p} {n} {q} f = let e : n % 256 ≡ n = mod-eq_of_lt f.is.0 in subs
 
 -- ---- a character string is an octet of length, and the octets
 
-pub text_then : {d b e : Reading} {n : ℕ} {s : List ℕ} → TookField d (Number 1) n b → TookField b Rest s e → length s ≡ n → TookField d Text s e
+pub text_then : {d b e : Reading} {n : ℕ} {s : List ℕ} → TookField d (Number 1) n b → TookField b Rest s e → length s ≡ n → TookField d CharacterString s e
 text_then {d} {b} {e} {n} {s} f g len = record {
   message = g.message ∙ f.message;
   field = record {
@@ -54,5 +54,5 @@ text_then {d} {b} {e} {n} {s} f g len = record {
 }
 
 -- the octets of the length that was read, behind it
-pub text_taken : {d b e : Reading} {n l : ℕ} {s : List ℕ} → l ≡ n → TookField d (Number 1) n b → TookField b (Octets l) s e → TookField d Text s e
+pub text_taken : {d b e : Reading} {n l : ℕ} {s : List ℕ} → l ≡ n → TookField d (Number 1) n b → TookField b (Octets l) s e → TookField d CharacterString s e
 text_taken {d} {b} {e} {n} {l} {s} same f g = text_then f (record { message = g.message; field = record { is = g.field.is.1 } }) (g.field.is.0 ∙ same)

@@ -1,5 +1,5 @@
 pub mod State
-pub mod Words
+pub mod Terms
 pub mod Facts
 pub mod NameValues
 pub use Rattle.dns_fields.specs.Octets

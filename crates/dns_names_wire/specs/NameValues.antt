@@ -7,10 +7,10 @@ use Rattle.dns_fields.specs.Labels.{DomainName, IsName, low_labels}
 use Rattle.dns_labels.specs.Text.{IsNameText}
 
 -- memory ran out, or a message says that the fact holds
-abbrev pub IsTextRefusal : ProtoError → Type 0 → Type 0
-IsTextRefusal proto.Memory fact = Unit {0}
-IsTextRefusal (proto.Message text) fact = fact
-IsTextRefusal e fact = ⊥
+abbrev pub IsTextError : ProtoError → Type 0 → Type 0
+IsTextError proto.Memory fact = Unit {0}
+IsTextError (proto.Message text) fact = fact
+IsTextError e fact = ⊥
 
 abbrev pub qualified : List (List ℕ) → DomainName
 qualified labels = record { labels = labels; fully_qualified = true }
@@ -18,7 +18,7 @@ qualified labels = record { labels = labels; fully_qualified = true }
 abbrev pub root_name : DomainName
 root_name = qualified []
 
--- one label more, behind the others
+-- one label more, after the others
 abbrev pub with_label : DomainName → List ℕ → DomainName
 with_label name label = record name { labels = name.labels ++ label ∷ [] }
 
@@ -56,6 +56,6 @@ abbrev pub has_asterisk : List (List ℕ) → Bool
 has_asterisk [] = false
 has_asterisk (label ∷ labels) = pointwise nat_eq label (42 ∷ [])
 
--- the labels without an asterisk in front (RFC 4034, 3.1.3)
+-- the labels without a leading asterisk (RFC 4034, section 3.1.3)
 abbrev pub label_count : List (List ℕ) → ℕ
 label_count labels = if has_asterisk labels then length (drop 1 labels) else length labels

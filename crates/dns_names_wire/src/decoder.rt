@@ -2,8 +2,8 @@
 
 ghost use Rattle.std.specs.Prelude.{◌≡◌, true, ◌+◌, ◌*◌, ◌-◌, ◌/◌, ◌^◌, ◌<◌, ◌≤◌, ◌⊎◌, ℕ, ◌↔◌, IsTrue, length, drop, slice_get, IfOk, IfErr, OnOk, OnErr};
 ghost use Rattle.std.specs.Int.{cast_unsigned, w32};
-ghost use Rattle.dns_fields.specs.{Fields.Number, Fields.Octets, Fields.Text, Fields.Name, Octets.AreOctets};
-ghost use Rattle.dns_names_wire.specs.Words.{TookField, LacksField, ReadsField, LacksOctets, LacksText};
+ghost use Rattle.dns_fields.specs.{Fields.Number, Fields.Octets, Fields.CharacterString, Fields.Name, Octets.AreOctets};
+ghost use Rattle.dns_names_wire.specs.Terms.{TookField, LacksField, ReadsField, LacksOctets, LacksText};
 ghost use Rattle.dns_labels.specs.Labels.{AreNameOctets, name_of};
 
 use dns_labels::reading::read_octets;
@@ -118,7 +118,7 @@ impl<'a> BinDecoder<'a> {
     /// The offset of the next octet, counted from the first octet of the message.
     #[inline]
     pub fn index(&self) -> usize
-        ensures place { result ≡ self.now.index }
+        ensures offset { result ≡ self.now.index }
         ensures inside { self.now.index ≤ length self.now.message }
         ensures octets { AreOctets self.now.message }
         ensures small { result < 2 ^ 63 }
@@ -336,7 +336,7 @@ impl<'a> BinDecoder<'a> {
     /// there.
     #[inline]
     pub fn read_character_data(&mut self) -> Result<Restrict<&'a [u8]>, DecodeError>
-        ensures taken { ReadsField Text (λ s. s.now) result self.old self.new }
+        ensures taken { ReadsField CharacterString (λ s. s.now) result self.old self.new }
         ensures lacking { IfErr result (λ e. (e ≡ DecodeError.InsufficientBytes) × LacksText self.old self.new) }
     {
         let len = self.read_u8()?.unverified();

@@ -3,13 +3,13 @@
 ghost use Rattle.std.specs.Prelude.{◌≡◌, ◌≢◌, ◌+◌, ◌<◌, ◌≤◌, ◌^◌, ◌↔◌, ◌⊎◌, ℕ, Bool, IsTrue, IfErr, List, [], ◌∷◌, ◌++◌, length, take, drop, IfOk};
 ghost use Rattle.std.specs.Prelude.{OnOk, OnErr};
 ghost use Rattle.std.specs.Int.{cast_unsigned, bytes_high_first, w32};
-ghost use Rattle.dns_fields.specs.{Fields.Number, Fields.Rest, Fields.Text, Fields.Name, Octets.AreOctets, Names.NameWrote};
-ghost use Rattle.dns_names_wire.specs.Words.{EmitsField, AppendedField, StoppedField, Keeps, Because};
+ghost use Rattle.dns_fields.specs.{Fields.Number, Fields.Rest, Fields.CharacterString, Fields.Name, Octets.AreOctets, Names.NameWrote};
+ghost use Rattle.dns_names_wire.specs.Terms.{EmitsField, AppendedField, StoppedField, Keeps, Because};
 ghost use Rattle.dns_labels.specs.{Messages.StaysInVector, Labels.AreNameOctets, Labels.name_of};
 
 use dns_fields::RDataEncoding;
 use dns_labels::writing::write_name;
-use dns_labels::{MessageOctets, Places, WriteError};
+use dns_labels::{MessageOctets, NameOffsets, WriteError};
 use dns_types::ProtoError;
 use std::alloc::Global;
 use std::marker::Model;
@@ -48,7 +48,7 @@ pub struct BinEncoder<'a> {
     limit: usize,
     mode: RDataEncoding,
     // the offsets of labels of names
-    places: Places,
+    name_offsets: NameOffsets,
 }
 
 impl<'a> Model for BinEncoder<'a> {
@@ -124,7 +124,7 @@ impl<'a> BinEncoder<'a> {
             message: MessageOctets::new(start, octets),
             limit: MAX_SIZE,
             mode: RDataEncoding::StandardRecord,
-            places: Places::new(alloc),
+            name_offsets: NameOffsets::new(alloc),
         }
     }
 
@@ -276,7 +276,7 @@ impl<'a> BinEncoder<'a> {
     #[inline]
     #[tactic(auto, unfolding(dns_fields::specs::Fields::field_octets))]
     pub fn emit_character_data(&mut self, octets: &[u8]) -> Result<(), ProtoError>
-        ensures emits { EmitsField Text octets.now result self.old self.new }
+        ensures emits { EmitsField CharacterString octets.now result self.old self.new }
         ensures room { OnOk result (length self.old.octets + 1 + length octets.now ≤ self.old.limit) }
         ensures whole { OnErr result (self.new ≡ self.old) }
     {
@@ -311,7 +311,7 @@ impl<'a> BinEncoder<'a> {
     {
         let _ = is_fqdn;
         append_name(
-            &mut self.places,
+            &mut self.name_offsets,
             &mut self.message,
             self.mode,
             self.limit,
@@ -360,7 +360,7 @@ fn append_both(message: &mut MessageOctets<'_>, front: &[u8], rest: &[u8]) -> Re
 // Appends a name's octets in a mode, or nothing.
 #[inline(always)]
 fn append_name(
-    places: &mut Places,
+    name_offsets: &mut NameOffsets,
     message: &mut MessageOctets<'_>,
     mode: RDataEncoding,
     limit: usize,
@@ -374,7 +374,7 @@ fn append_name(
     ensures full { IfErr result (λ e. Because e (limit < length message.old.items + (length name.now + 1)) ⊥) }
     ensures octets { AreOctets message.new.items }
 {
-    match write_name(places, message, mode, limit, name) {
+    match write_name(name_offsets, message, mode, limit, name) {
         Ok(()) => Ok(()),
         Err(WriteError::Memory) => Err(ProtoError::Memory),
         Err(WriteError::Buffer) => Err(ProtoError::MaxBufferSizeExceeded),

@@ -1,4 +1,4 @@
-//! Domain names and the wire form of DNS messages: a decoder and an encoder.
+//! Domain names and the wire format of DNS messages: a decoder and an encoder.
 #![tactic(auto)]
 
 pub mod binary;

@@ -1,14 +1,14 @@
 //! Domain names (RFC 1035, section 3.1).
 
 ghost use Rattle.std.specs.Prelude.{◌≡◌, ◌≤◌, ◌<◌, ◌↔◌, ◌⊎◌, ℕ, Bool, true, false, [], length, slice_get, IsTrue, IfOk, IfErr, IfSome, OnOk, OnErr};
-ghost use Rattle.dns_fields.specs.{Labels.IsName, Labels.lowname, Names.IsNameIn, Octets.AreOctets, Fields.Name as NameKind};
+ghost use Rattle.dns_fields.specs.{Labels.IsName, Labels.lowname, Labels.wire, Names.IsNameIn, Octets.AreOctets, Fields.Name as NameKind};
 ghost use Rattle.dns_labels.specs.{Comparing.lowered_octets, Labels.AreNameOctets, Labels.name_of, Text.HasOctets};
-ghost use Rattle.dns_names_wire.specs.Words.{ReadsField, ReadsBy, LacksField, EmitsField, Extends, IsNoName};
+ghost use Rattle.dns_names_wire.specs.Terms.{ReadsField, ReadsBy, LacksField, EmitsField, Extends, IsNoName};
 ghost use Rattle.dns_names_wire.specs.NameValues.{root_name, label_count, has_asterisk};
 
 mod building;
 mod comparing;
-mod mark;
+mod fqdn_flag;
 mod texts;
 
 use crate::binary::{BinDecodable, BinEncodable};
@@ -17,7 +17,7 @@ use crate::encoder::BinEncoder;
 use dns_labels::NameOctets;
 use dns_labels::labels::LabelIter;
 use dns_types::{DecodeError, ProtoError};
-use mark::Mark;
+use fqdn_flag::FqdnFlag;
 use std::alloc::{AllocError, Global};
 use std::marker::Model;
 
@@ -38,7 +38,7 @@ use std::marker::Model;
 pub struct Name {
     // each label's length and its octets, without the 0 at the end
     octets: NameOctets,
-    is_fqdn: Mark,
+    is_fqdn: FqdnFlag,
 }
 
 impl Model for Name {
@@ -62,7 +62,7 @@ impl Name {
         are_octets(octets.as_slice());
         Name {
             octets,
-            is_fqdn: Mark::new(is_fqdn),
+            is_fqdn: FqdnFlag::new(is_fqdn),
         }
     }
 
@@ -105,7 +105,7 @@ impl Name {
     pub fn set_fqdn(&mut self, is_fqdn: bool)
         ensures { self.new ≡ record self.old { fully_qualified = is_fqdn } }
     {
-        self.is_fqdn = Mark::new(is_fqdn);
+        self.is_fqdn = FqdnFlag::new(is_fqdn);
     }
 
     /// The labels from the left, each without its length octet. Allocates nothing.
@@ -158,26 +158,28 @@ impl Name {
 
     /// The octet at an index of the canonical octets: uncompressed, with A to Z lowercased.
     #[inline]
-    pub fn octet(&self, place: usize) -> Option<u8>
-        ensures value { result ≡ slice_get (lowname self.now) place }
-        ensures room { IfSome result (λ _. place < 255) }
+    pub fn octet(&self, index: usize) -> Option<u8>
+        ensures value { result ≡ slice_get (lowname self.now) index }
+        ensures room { IfSome result (λ _. index < 255) }
     {
         let octets = self.octets.as_slice();
         let len = octets.len();
-        if place < len {
-            Some(octets[place].to_ascii_lowercase())
-        } else if place == len {
+        if index < len {
+            Some(octets[index].to_ascii_lowercase())
+        } else if index == len {
             Some(0)
         } else {
             None
         }
     }
 
-    /// The octets of the labels, each after its length octet, with case preserved. Lowercased and with a final zero
-    /// octet they are the canonical octets. Allocates nothing.
+    /// The octets of the labels, each after its length octet, with case preserved. With a final zero octet they are the
+    /// uncompressed octets, and lowercased the canonical octets. Allocates nothing.
     #[inline]
     pub fn label_octets(&self) -> &[u8]
-        ensures { lowname self.now ≡ lowered_octets result.now }
+        ensures lowercased { lowname self.now ≡ lowered_octets result.now }
+        ensures uncompressed { result.now ≡ wire self.now.labels }
+        ensures name { IsName self.now }
     {
         self.octets.as_slice()
     }
@@ -226,7 +228,7 @@ impl BinEncodable for Name {
     ghost emits = { EmitsField NameKind };
 
     /// Appends the name in the encoder's mode, with case preserved: labels and a zero octet (RFC 1035, section 3.1),
-    /// or, in the mode `StandardRecord`, with a compression pointer in place of the longest suffix that the encoder
+    /// or, in the mode `StandardRecord`, with a compression pointer instead of the longest suffix that the encoder
     /// wrote before (section 4.1.4).
     #[inline(always)]
     fn emit(&self, encoder: &mut BinEncoder<'_>) -> Result<(), ProtoError>
@@ -248,7 +250,7 @@ impl Clone for Name {
     fn clone(&self) -> Result<Name, AllocError> {
         Ok(Name {
             octets: self.octets.clone()?,
-            is_fqdn: Mark::new(self.is_fqdn.get()),
+            is_fqdn: FqdnFlag::new(self.is_fqdn.get()),
         })
     }
 }

@@ -1,15 +1,15 @@
--- Cursors over record data.
+-- Cursors over RDATA.
 use Rattle.std.proofs.Common.{◌≡◌, ◌↔◌, IsTrue, true≢false, Bool, true, false, if◌then◌else◌, Some, None, map, refl, sym, ◌∙◌}
 use Rattle.std.proofs.{Math.Bool.and-true, lemmas.List.append-nil}
 use Rattle.std.specs.List.{flat_map}
-use Rattle.dns_fields.specs.Pieces.{string, parameters_emittable}
+use Rattle.dns_fields.specs.Tlvs.{string, parameters_emittable}
 use Rattle.dns_fields.specs.Fields.{field_octets, canonical}
-use Rattle.dns_pieces.specs.Cursor.{course_of, begins}
-use Rattle.dns_pieces.proofs.Cursors.{emittable_short}
+use Rattle.dns_canonical.specs.Cursor.{course_of, begins}
+use Rattle.dns_canonical.proofs.Cursors.{emittable_short}
 use Rattle.dns_rdata_base.specs as base
 use Rattle.dns_rdata_options.specs as options
 use Rattle.dns_rdata_service.specs as service
-use Rattle.dns_rdata_sets.specs as sets
+use Rattle.dns_rdata_caa_csync.specs as caa_csync
 use Rattle.dns_rdata.specs.{declared.record_data.RData.RData, Data.fields_of, Data.data_octets}
 use Rattle.dns_rdata.specs.Cursor.{can_emit, data_left, data_windows, data_options, data_options_left, data_course, DataAt, DataKept}
 use Rattle.dns_rdata.specs.declared.record_data.RData.TheVariants as rdata
@@ -23,10 +23,10 @@ cannot : (c : Bool) → (c ≡ true → IsTrue false) → c ≡ false
 cannot true h = absurd (true≢false (sym (h refl)))
 cannot false h = refl
 
--- ---- the first place
+-- ---- the first position
 
 pub begins_at : (v : RData) → can_emit v ≡ true → DataAt v 0 0 0
-begins_at (rdata.CAA x) h = emittable_short sets.CAA.caa_shape (sets.CAA.caa_fields x) h
+begins_at (rdata.CAA x) h = emittable_short caa_csync.CAA.caa_shape (caa_csync.CAA.caa_fields x) h
 begins_at (rdata.HINFO x) h = emittable_short base.HINFO.hinfo_shape (base.HINFO.hinfo_fields x) h
 begins_at (rdata.HTTPS x) h = sym (and-true (parameters_emittable (map service.Parameters.parameter_of x.0.svc_params))) ∙ h
 begins_at (rdata.NAPTR x) h = emittable_short base.NAPTR.naptr_shape (base.NAPTR.naptr_fields x) h
@@ -49,7 +49,7 @@ first_options : (v : RData) → data_options_left v 0 0 0 ≡ data_options v
 first_options (rdata.OPT x) = refl
 first_options v = refl
 
--- a cursor at the first place of a value, which is tested
+-- a cursor at the first position of a value, which is tested
 pub begun : (v : RData) (b : Bool) → (IsTrue b ↔ (can_emit v ≡ true)) → let r = begins (course_of data_course (if b then Some v else None)) in
     (r.octets ≡ data_octets v) × (r.options ≡ (if can_emit v then data_options v else 0))
     × (r.all_options ≡ (if can_emit v then data_options v else 0)) × (r.windows ≡ (if can_emit v then data_windows v 0 0 else 0))

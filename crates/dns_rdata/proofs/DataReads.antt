@@ -3,36 +3,36 @@ use Rattle.std.proofs.Common.{[], ◌∷◌, ◌≡◌, ◌≢◌, ℕ, ◌+◌,
 use Rattle.std.proofs.Common.{subst, ap, ◌∙◌, Result, Ok, Err}
 use Rattle.std.specs.Result.{IfOk, IfErr, OnOk}
 use Rattle.std.proofs.lemmas.Bool.Decides.{eqb_tells}
-use Rattle.dns_fields.specs.{Octets.AreOctets, Fields.Values, Fields.Kind, Fields.Number, Fields.Name, Fields.Text}
+use Rattle.dns_fields.specs.{Octets.AreOctets, Fields.Values, Fields.Kind, Fields.Number, Fields.Name, Fields.CharacterString}
 use Rattle.dns_types.specs.{declared.error.DecodeError.DecodeError, declared.record_type.RecordType.RecordType, RecordTypes.number_of}
 use Rattle.dns_types.specs.declared.error.DecodeError.TheVariants as decode
 use Rattle.dns_types.specs.declared.record_type.RecordType.TheVariants as types
 use Rattle.dns_names_wire.specs.{Facts.Facts, State.Reading}
-use Rattle.dns_names_wire.specs.Words.{StaysBehind, UnlessMemory, NoWindow, Took, TookWindow, RefusedWindow, ReadsIf, ReadsWindow}
+use Rattle.dns_names_wire.specs.Terms.{StaysBehind, UnlessMemory, NoRegion, Took, TookRegion, RefusedRegion, ReadsIf, ReadsRegion}
 use Rattle.dns_names_wire.proofs.FieldReads.{stays, unless_all, unless_map}
 use Rattle.dns_rdata_base.specs.declared.null.NULL.{NULL}
-use Rattle.dns_rdata_options.proofs.Refusals.{opt_never}
+use Rattle.dns_rdata_options.proofs.OptionErrors.{opt_never}
 use Rattle.dns_rdata_service.proofs.SvcbValues.{svcb_never}
 use Rattle.dns_rdata_base.specs as base
-use Rattle.dns_rdata_sets.specs as sets
+use Rattle.dns_rdata_caa_csync.specs as caa_csync
 use Rattle.dns_rdata_base.specs.Counted.{by_length}
 use Rattle.dns_rdata.specs.declared.record_data.RData.{RData}
-use Rattle.dns_rdata.specs.Refusals.{IsOwnRefusal, IsOwnTaken, IsRefusal, OwnRefusal, OwnResult, OwnTaken, without}
-use Rattle.dns_rdata.specs.Data.{TypeRow, row, unread, rowless, row_of, kinds_of, MeetsConditionOf, IsRowlessRow, IsNever, FieldsOf, shape, MeetsCondition}
-use Rattle.dns_rdata.specs.Data.{IsRowless, IsValue, IsTaken, Fills, HasValue, NoValue, TookData, RefusedData, ReadsData, type_of, IsNeverRead}
+use Rattle.dns_rdata.specs.ReadErrors.{IsOwnError, IsOwnTaken, IsReadError, OwnError, OwnResult, OwnTaken, without}
+use Rattle.dns_rdata.specs.Data.{TypeRow, row, unread, formatless, row_of, kinds_of, MeetsConditionOf, IsFormatless, IsNever, FieldsOf, shape, MeetsCondition}
+use Rattle.dns_rdata.specs.Data.{IsUnknownType, IsValue, IsTaken, Fills, HasValue, NoValue, TookData, RefusedData, ReadsData, type_of, IsNeverRead}
 use Rattle.dns_rdata.specs.declared.record_data.RData.TheVariants as rdata
 
--- what fills a window as fields fills it as a value
+-- what fills a region as fields fills it as a value
 pub data_took : {old new : Reading} (t : RecordType) (n : ℕ) (v : RData) (vs : Values (shape t)) → IsValue t vs v
-    → TookWindow old n (shape t) (MeetsCondition t) vs new → TookData old t n v new
+    → TookRegion old n (shape t) (MeetsCondition t) vs new → TookData old t n v new
 data_took t n v vs value w = record {
   behind = w.behind;
-  here = λ e. record { values = vs; window = w.here e; value = value };
+  here = λ e. record { values = vs; region = w.here e; value = value };
   elsewhere = w.elsewhere;
 }
 
--- what is refused under a type
-pub data_refuses : {old new : Reading} (t : RecordType) (n : ℕ) (e : DecodeError) → RefusedWindow e old n (shape t) (MeetsCondition t) new
+-- an error under a type
+pub data_refuses : {old new : Reading} (t : RecordType) (n : ℕ) (e : DecodeError) → RefusedRegion e old n (shape t) (MeetsCondition t) new
     → RefusedData e old t n new
 data_refuses t n e w = record { behind = w.behind; none = w.none }
 
@@ -42,20 +42,20 @@ data_zero d n short inside octets = record {
   behind = stays d;
   here = λ e. record {
     values = tt;
-    window = record { octets = octets; short = short; within = rw (← e) inside; stands = e; holds = tt };
+    region = record { octets = octets; short = short; within = rw (← e) inside; stands = e; holds = tt };
     value =
-        record { type = refl; fields = refl; plain = tt };
+        record { type = refl; fields = refl; can_be_read = tt };
   };
   elsewhere = λ ne. record { none = λ vs w. ne w.stands };
 }
 
--- ---- types without a row
+-- ---- unknown types
 
 abbrev fields_as : (s : List Kind) → Values s → FieldsOf
 fields_as s vs = record { kinds = s; values = vs }
 
-pub record HasNoRow (t : RecordType) : Type 0 where
-  pub rowless : IsRowless t
+pub record HasNoFormat (t : RecordType) : Type 0 where
+  pub formatless : IsUnknownType t
   pub read : IsNeverRead t → ⊥
 
 -- the type is none of these
@@ -63,29 +63,34 @@ abbrev pub IsNone : RecordType → List RecordType → Type 0
 IsNone t [] = Unit {0}
 IsNone t (u ∷ us) = (t ≢ u) × IsNone t us
 
--- the types that have a row of their own, and those that are never read
-abbrev pub row_types : List RecordType
-row_types = types.A ∷ types.AAAA ∷ types.ANAME ∷ types.CAA ∷ types.CERT ∷ types.CNAME ∷ types.CSYNC ∷ types.HINFO ∷ types.HTTPS ∷ types.MX ∷ types.NAPTR ∷ types.NULL ∷ types.NS ∷ types.OPENPGPKEY ∷ types.OPT ∷ types.PTR ∷ types.SMIMEA ∷ types.SOA ∷ types.SRV ∷ types.SSHFP ∷ types.SVCB ∷ types.TLSA ∷ types.TXT ∷ types.ZERO ∷ types.ANY ∷ types.AXFR ∷ types.IXFR ∷ []
+-- the types that have a format of their own, and those that are never read
+abbrev pub known_types : List RecordType
+known_types =
+    types.A ∷ types.AAAA ∷ types.ANAME ∷ types.CAA ∷ types.CERT ∷ types.CNAME ∷ types.CSYNC ∷ types.HINFO ∷ types.HTTPS ∷ types.MX ∷ types.NAPTR ∷ types.NULL
+    ∷ types.NS ∷ types.OPENPGPKEY ∷ types.OPT ∷ types.PTR ∷ types.SMIMEA ∷ types.SOA ∷ types.SRV ∷ types.SSHFP ∷ types.SVCB ∷ types.TLSA ∷ types.TXT
+    ∷ types.ZERO ∷ types.ANY ∷ types.AXFR ∷ types.IXFR ∷ []
 
-pub has_no_row : (t : RecordType) → IsNone t row_types → HasNoRow t
-has_no_row types.A none = absurd (none.0 refl)
-has_no_row t none = grind arith
+pub has_no_format : (t : RecordType) → IsNone t known_types → HasNoFormat t
+has_no_format types.A none = absurd (none.0 refl)
+has_no_format t none = grind arith
 
-took_rowless : (r : TypeRow) {old new : Reading} {n : ℕ} (vs : Values base.NULL.null_shape) → IsRowlessRow r → TookWindow old n base.NULL.null_shape (λ _. Unit {0}) vs new
-    → (ws : Values (kinds_of r)) × TookWindow old n (kinds_of r) (MeetsConditionOf r) ws new × (fields_as base.NULL.null_shape vs ≡ fields_as (kinds_of r) ws)
-took_rowless (row kinds asked refusal taken) vs h w = absurd h
-took_rowless unread vs h w = absurd h
-took_rowless rowless vs h w = (vs, w, refl)
+took_formatless : (r : TypeRow) {old new : Reading} {n : ℕ} (vs : Values base.NULL.null_shape) → IsFormatless r
+    → TookRegion old n base.NULL.null_shape (λ _. Unit {0}) vs new
+    → (ws : Values (kinds_of r)) × TookRegion old n (kinds_of r) (MeetsConditionOf r) ws new × (fields_as base.NULL.null_shape vs ≡ fields_as (kinds_of r) ws)
+took_formatless (row kinds asked rejects taken) vs h w = absurd h
+took_formatless unread vs h w = absurd h
+took_formatless formatless vs h w = (vs, w, refl)
 
-pub unknown_took : {old new : Reading} (t : RecordType) (n : ℕ) (x : NULL) → HasNoRow t → TookWindow old n base.NULL.null_shape (λ _. Unit {0}) (base.NULL.null_fields x) new
+pub unknown_took : {old new : Reading} (t : RecordType) (n : ℕ) (x : NULL) → HasNoFormat t
+    → TookRegion old n base.NULL.null_shape (λ _. Unit {0}) (base.NULL.null_fields x) new
     → TookData old t n (rdata.Unknown t x) new
 unknown_took t n x h w =
-    let r = took_rowless (row_of t) (base.NULL.null_fields x) h.rowless w in
-    data_took t n (rdata.Unknown t x) r.0 (record { type = refl; fields = r.2; plain = h.rowless }) r.1
+    let r = took_formatless (row_of t) (base.NULL.null_fields x) h.formatless w in
+    data_took t n (rdata.Unknown t x) r.0 (record { type = refl; fields = r.2; can_be_read = h.formatless }) r.1
 
--- ---- what reading answers, once the octets that were taken are counted
+-- ---- what reading returns, after the number of octets is compared with RDLENGTH
 
--- What the record gave is answered where it has to be said first, and where just the length was taken; else that another number was.
+-- The record's own result is returned if it comes first, or if exactly RDLENGTH octets were read; otherwise the error that another number was read.
 data Answered (n : ℕ) (old new : Reading) : Result RData DecodeError → Result RData DecodeError → Type 0 where
   memory : Answered n old new (Err decode.Memory) (Err decode.Memory)
   number : (k : ℕ) → Answered n old new (Err (decode.UnknownRecordTypeValue k)) (Err (decode.UnknownRecordTypeValue k))
@@ -106,8 +111,8 @@ answered n (Err decode.Memory) b = memory
 answered n (Err (decode.UnknownRecordTypeValue k)) b = number k
 answered n o b = by_count n b (λ e. cc e) (λ k e. cc e)
 
-no_value : {m : List ℕ} {p n : ℕ} (t : RecordType) → NoWindow m p n (shape t) (MeetsCondition t) → NoValue m p n t
-no_value t w = record { none = λ v f. w.none f.values f.window }
+no_value : {m : List ℕ} {p n : ℕ} (t : RecordType) → NoRegion m p n (shape t) (MeetsCondition t) → NoValue m p n t
+no_value t w = record { none = λ v f. w.none f.values f.region }
 
 unless_none : {P : Type 0} (e : DecodeError) → UnlessMemory e P → e ≢ decode.Memory → P
 unless_none decode.Memory h some = absurd (some refl)
@@ -137,29 +142,29 @@ data_refused t {o = Err x} h (whole e) = unless_map x _ _ (no_value t) h.none
 data_refused t {o = Ok v} h (other some known e) = no_value t (h.elsewhere e)
 data_refused t {o = Err x} h (other some known e) = no_value t (unless_none x h.none (λ q. some (cc q)))
 
-first_never : (kinds : List Kind) (old new : Reading) (k : ℕ) → base.Refusing.FirstLack kinds old (decode.UnknownRecordTypeValue k) new → ⊥
+first_never : (kinds : List Kind) (old new : Reading) (k : ℕ) → base.FieldErrors.FirstLack kinds old (decode.UnknownRecordTypeValue k) new → ⊥
 first_never [] old new k h = h
 first_never (Number w ∷ kinds) old new k (inl h) = let e = h.0 in cc e
 first_never (Name ∷ kinds) old new k (inl h) = let e = h.0 in cc e
-first_never (Text ∷ kinds) old new k (inl h) = let e = h.0 in cc e
+first_never (CharacterString ∷ kinds) old new k (inl h) = let e = h.0 in cc e
 first_never (l ∷ kinds) old new k (inl h) = h
 first_never (l ∷ kinds) old new k (inr h) = first_never kinds h.1 new k h.3
 
-lack_never : (kinds : List Kind) (old new : Reading) (k : ℕ) → base.Refusing.IsLack kinds old (decode.UnknownRecordTypeValue k) new → ⊥
+lack_never : (kinds : List Kind) (old new : Reading) (k : ℕ) → base.FieldErrors.IsLack kinds old (decode.UnknownRecordTypeValue k) new → ⊥
 lack_never kinds old new k (inl e) = cc e
 lack_never kinds old new k (inr h) = first_never kinds old new k h
 
-tag_never : (n t : ℕ) (old new : Reading) (k : ℕ) → sets.CAA.IsTagRefusal n t old (decode.UnknownRecordTypeValue k) new → ⊥
+tag_never : (n t : ℕ) (old new : Reading) (k : ℕ) → caa_csync.CAA.IsTagError n t old (decode.UnknownRecordTypeValue k) new → ⊥
 tag_never n t old new k h = grind arith
 
 either_never : (k : ℕ) {P : Type 0} → (decode.UnknownRecordTypeValue k ≡ decode.Memory) ⊎ ((decode.UnknownRecordTypeValue k ≡ decode.InsufficientBytes) × P) → ⊥
 either_never k h = grind arith
 
-bitmap_never : (n : ℕ) (old new : Reading) (k : ℕ) → sets.RecordTypeSet.IsBitmapRefusal n old (decode.UnknownRecordTypeValue k) new → ⊥
+bitmap_never : (n : ℕ) (old new : Reading) (k : ℕ) → caa_csync.RecordTypeSet.IsBitmapError n old (decode.UnknownRecordTypeValue k) new → ⊥
 bitmap_never n old new k h = grind arith
 
--- the refusal by number is that of types that are never read
-own_never : (t : RecordType) (n : ℕ) (old new : Reading) (k : ℕ) → OwnRefusal t n old new (decode.UnknownRecordTypeValue k) → IsNeverRead t × (k ≡ number_of t)
+-- the error with a type number is that of types that are never read
+own_never : (t : RecordType) (n : ℕ) (old new : Reading) (k : ℕ) → OwnError t n old new (decode.UnknownRecordTypeValue k) → IsNeverRead t × (k ≡ number_of t)
 own_never types.ANY n old new k h = let e = h.0 in (tt, cc e)
 own_never types.AXFR n old new k h = let e = h.0 in (tt, cc e)
 own_never types.IXFR n old new k h = let e = h.0 in (tt, cc e)
@@ -185,9 +190,9 @@ own_never types.HTTPS n old new k h = absurd (svcb_never n old new k h)
 own_never types.SVCB n old new k h = absurd (svcb_never n old new k h)
 own_never t n old new k h = absurd (grind arith)
 
-data_why : (t : RecordType) {n : ℕ} {old new : Reading} {o r : Result RData DecodeError} → IfErr o (λ e. UnlessMemory e (OwnRefusal t n old new e))
+data_why : (t : RecordType) {n : ℕ} {old new : Reading} {o r : Result RData DecodeError} → IfErr o (λ e. UnlessMemory e (OwnError t n old new e))
     → IfOk o (λ v. OwnTaken t n old new) → (IsNeverRead t → (new ≡ old) × (o ≡ Err (decode.UnknownRecordTypeValue (number_of t))))
-    → Answered n old new o r → IfErr r (IsRefusal t n old new)
+    → Answered n old new o r → IfErr r (IsReadError t n old new)
 data_why t own taken never memory = tt
 data_why t {n} {old = old} {new = new} own taken never (number k) = let x = own_never t n old new k own in (x.0, x.1, (never x.0).0)
 data_why t {o = Ok v} own taken never (whole e) = tt
@@ -201,7 +206,7 @@ data_why t {o = Ok v} own taken never (other some known e) =
 data_why t {o = Err x} own taken never (other some known e) =
     inl (e, refl, refl, record { own = Err x; is_own = own; some = λ q. some (cc q); read = λ h. known _ (never h).1 })
 
--- ---- a record's answer, as that of the value that holds it
+-- ---- a record's result, as that of the value that holds it
 
 abbrev pub mapped : {X : Type 0} → (X → RData) → Result X DecodeError → Result RData DecodeError
 mapped f (Ok x) = Ok (f x)
@@ -232,11 +237,11 @@ without_mapped f (Err e) = refl
 -- what reading a type gives by itself, before the octets that it took are counted
 pub record ReadsOwn (t : RecordType) (n : ℕ) (outcome : Result RData DecodeError) (old new : Reading) : Type 0 where
   pub reads : ReadsData t n outcome old new
-  pub own : IfErr outcome (λ e. UnlessMemory e (OwnRefusal t n old new e))
+  pub own : IfErr outcome (λ e. UnlessMemory e (OwnError t n old new e))
   pub taken : IfOk outcome (λ v. OwnTaken t n old new)
   pub never : IsNeverRead t → (new ≡ old) × (outcome ≡ Err (decode.UnknownRecordTypeValue (number_of t)))
 
--- what reading a type answers: what its fields gave, by how many octets they took
+-- what reading a type returns: what its fields gave, by how many octets they took
 pub record ReadsCounted (t : RecordType) (n : ℕ) (result : Result RData DecodeError) (old new : Reading) : Type 0 where
   pub outcome : Result RData DecodeError
   pub given : ReadsOwn t n outcome old new
@@ -244,14 +249,14 @@ pub record ReadsCounted (t : RecordType) (n : ℕ) (result : Result RData Decode
 
 pub counted_own : {X : Type 0} {n start : ℕ} {old new : Reading} {s : Result X DecodeError} (t : RecordType) (f : X → RData) (r : Result X DecodeError)
     → start ≡ old.index → s ≡ by_length r (new.index - start) n → ReadsOwn t n (mapped f r) old new → ReadsCounted t n (mapped f s) old new
-counted_own {n = n} {old = old} {new = new} t f r place c given = record {
+counted_own {n = n} {old = old} {new = new} t f r starts c given = record {
   outcome = mapped f r;
   given = given;
-  counted = ap (mapped f) (c ∙ ap (λ k. by_length r (new.index - k) n) place) ∙ mapped_length f r (new.index - old.index) n;
+  counted = ap (mapped f) (c ∙ ap (λ k. by_length r (new.index - k) n) starts) ∙ mapped_length f r (new.index - old.index) n;
 }
 
 reads_mapped : {X : Type 0} (old new : Reading) (t : RecordType) (n : ℕ) (f : X → RData) (fields : X → Values (shape t)) (r : Result X DecodeError)
-    → ReadsWindow (shape t) (MeetsCondition t) fields n r old new → ((x : X) → r ≡ Ok x → IsValue t (fields x) (f x)) → ReadsData t n (mapped f r) old new
+    → ReadsRegion (shape t) (MeetsCondition t) fields n r old new → ((x : X) → r ≡ Ok x → IsValue t (fields x) (f x)) → ReadsData t n (mapped f r) old new
 reads_mapped old new t n f fields (Ok x) w value = data_took t n (f x) (fields x) (value x refl) w
 reads_mapped old new t n f fields (Err e) w value = data_refuses t n e w
 
@@ -264,10 +269,10 @@ pub of_read : {X E : Type 0} {r : Result X E} {x : X} (P : X → Type 0) → IfO
 of_read P h e = subst (λ z. IfOk z P) e h
 
 pub reads_own : {X : Type 0} {n : ℕ} {old new : Reading} (t : RecordType) (f : X → RData) (fields : X → Values (shape t)) (r : Result X DecodeError)
-    → (IsNeverRead t → ⊥) → ReadsWindow (shape t) (MeetsCondition t) fields n r old new → IfErr r (OwnRefusal t n old new)
+    → (IsNeverRead t → ⊥) → ReadsRegion (shape t) (MeetsCondition t) fields n r old new → IfErr r (OwnError t n old new)
     → IfOk r (λ x. OwnTaken t n old new) → ((x : X) → r ≡ Ok x → IsValue t (fields x) (f x)) → ReadsOwn t n (mapped f r) old new
-reads_own {n = n} {old = old} {new = new} t f fields r never window own taken value = record {
-  reads = reads_mapped old new t n f fields r window value;
+reads_own {n = n} {old = old} {new = new} t f fields r never region own taken value = record {
+  reads = reads_mapped old new t n f fields r region value;
   own = own_mapped f r _ (unless_each r _ own);
   taken = taken_mapped f r _ taken;
   never = λ h. absurd (never h);
@@ -277,58 +282,59 @@ reads_own {n = n} {old = old} {new = new} t f fields r never window own taken va
 
 -- where the fields say themselves where they end
 pub taken_fields : {X : Type 0} (f : Facts X) (n : ℕ) (old new : Reading) (r : Result X DecodeError)
-    → ReadsIf f.kinds (λ vs _. f.condition vs) f.fields r old new → IfOk r (λ x. f.made n x old new) → IfOk r (λ x. IsTaken f n old new)
-taken_fields f n old new (Ok x) reads made = record { value = x; took = reads.0; holds = reads.1; made = made }
-taken_fields f n old new (Err e) reads made = tt
+    → ReadsIf f.kinds (λ vs _. f.condition vs) f.fields r old new → IfOk r (λ x. f.after_read n x old new) → IfOk r (λ x. IsTaken f n old new)
+taken_fields f n old new (Ok x) reads after_read = record { value = x; took = reads.0; holds = reads.1; after_read = after_read }
+taken_fields f n old new (Err e) reads after_read = tt
 
 -- where they fill the length
 pub taken_filling : {X : Type 0} (f : Facts X) (n : ℕ) (old new : Reading) (r : Result X DecodeError)
-    → ((x : X) → f.made n x old new → new.index ≡ old.index + n) → ReadsWindow f.kinds f.condition f.fields n r old new
-    → IfOk r (λ x. f.made n x old new) → IfOk r (λ x. IsTaken f n old new)
-taken_filling f n old new (Ok x) all w made =
-    let h = w.here (all x made) in
-    record { value = x; took = record { message = w.behind.message; stands = rw (all x made) h.stands }; holds = h.holds; made = made }
-taken_filling f n old new (Err e) all w made = tt
+    → ((x : X) → f.after_read n x old new → new.index ≡ old.index + n) → ReadsRegion f.kinds f.condition f.fields n r old new
+    → IfOk r (λ x. f.after_read n x old new) → IfOk r (λ x. IsTaken f n old new)
+taken_filling f n old new (Ok x) all w after_read =
+    let h = w.here (all x after_read) in
+    record { value = x; took = record { message = w.behind.message; stands = rw (all x after_read) h.stands }; holds = h.holds; after_read = after_read }
+taken_filling f n old new (Err e) all w after_read = tt
 
 -- and where what its reader says of a value says so
 pub taken_made : {X : Type 0} (f : Facts X) (n : ℕ) (old new : Reading) (r : Result X DecodeError)
-    → ((x : X) → f.made n x old new → Took old f.kinds (f.fields x) new × f.condition (f.fields x))
-    → IfOk r (λ x. f.made n x old new) → IfOk r (λ x. IsTaken f n old new)
-taken_made f n old new (Ok x) all made = let h = all x made in record { value = x; took = h.0; holds = h.1; made = made }
-taken_made f n old new (Err e) all made = tt
+    → ((x : X) → f.after_read n x old new → Took old f.kinds (f.fields x) new × f.condition (f.fields x))
+    → IfOk r (λ x. f.after_read n x old new) → IfOk r (λ x. IsTaken f n old new)
+taken_made f n old new (Ok x) all after_read = let h = all x after_read in record { value = x; took = h.0; holds = h.1; after_read = after_read }
+taken_made f n old new (Err e) all after_read = tt
 
--- ---- types without a row of their own
+-- ---- unknown types, read
 
-refused_rowless : (q : TypeRow) (old new : Reading) (n : ℕ) (e : DecodeError) → IsRowlessRow q → RefusedWindow e old n base.NULL.null_shape (λ _. Unit {0}) new
-    → RefusedWindow e old n (kinds_of q) (MeetsConditionOf q) new
-refused_rowless (row kinds asked refusal taken) old new n e h w = absurd h
-refused_rowless unread old new n e h w = absurd h
-refused_rowless rowless old new n e h w = w
+refused_formatless : (q : TypeRow) (old new : Reading) (n : ℕ) (e : DecodeError) → IsFormatless q
+    → RefusedRegion e old n base.NULL.null_shape (λ _. Unit {0}) new
+    → RefusedRegion e old n (kinds_of q) (MeetsConditionOf q) new
+refused_formatless (row kinds asked rejects taken) old new n e h w = absurd h
+refused_formatless unread old new n e h w = absurd h
+refused_formatless formatless old new n e h w = w
 
-reads_rowless : (old new : Reading) (t : RecordType) (n : ℕ) (r : Result NULL DecodeError) → HasNoRow t
-    → ReadsWindow base.NULL.null_shape (λ _. Unit {0}) base.NULL.null_fields n r old new → ReadsData t n (mapped (λ x. rdata.Unknown t x) r) old new
-reads_rowless old new t n (Ok x) h w = unknown_took t n x h w
-reads_rowless old new t n (Err e) h w = data_refuses t n e (refused_rowless (row_of t) old new n e h.rowless w)
+reads_formatless : (old new : Reading) (t : RecordType) (n : ℕ) (r : Result NULL DecodeError) → HasNoFormat t
+    → ReadsRegion base.NULL.null_shape (λ _. Unit {0}) base.NULL.null_fields n r old new → ReadsData t n (mapped (λ x. rdata.Unknown t x) r) old new
+reads_formatless old new t n (Ok x) h w = unknown_took t n x h w
+reads_formatless old new t n (Err e) h w = data_refuses t n e (refused_formatless (row_of t) old new n e h.formatless w)
 
-own_rowless : (t : RecordType) (q : TypeRow) (old new : Reading) (n : ℕ) (r : Result NULL DecodeError) → IsRowlessRow q
-    → IfErr r (λ e. base.NULL.IsNullRefusal n old e new) → IfErr r (IsOwnRefusal t q n old new)
-own_rowless t (row kinds asked refusal taken) old new n r h w = absurd h
-own_rowless t unread old new n r h w = absurd h
-own_rowless t rowless old new n r h w = w
+own_formatless : (t : RecordType) (q : TypeRow) (old new : Reading) (n : ℕ) (r : Result NULL DecodeError) → IsFormatless q
+    → IfErr r (λ e. base.NULL.IsNullError n old e new) → IfErr r (IsOwnError t q n old new)
+own_formatless t (row kinds asked rejects taken) old new n r h w = absurd h
+own_formatless t unread old new n r h w = absurd h
+own_formatless t formatless old new n r h w = w
 
-taken_rowless : (q : TypeRow) (old new : Reading) (n : ℕ) (r : Result NULL DecodeError) → IsRowlessRow q
+taken_formatless : (q : TypeRow) (old new : Reading) (n : ℕ) (r : Result NULL DecodeError) → IsFormatless q
     → IfOk r (λ x. IsTaken base.NULL.null_facts n old new) → IfOk r (λ x. IsOwnTaken q n old new)
-taken_rowless (row kinds asked refusal taken) old new n r h w = absurd h
-taken_rowless unread old new n r h w = absurd h
-taken_rowless rowless old new n r h w = w
+taken_formatless (row kinds asked rejects taken) old new n r h w = absurd h
+taken_formatless unread old new n r h w = absurd h
+taken_formatless formatless old new n r h w = w
 
-pub unknown_own : {n : ℕ} {old new : Reading} (t : RecordType) (r : Result NULL DecodeError) → HasNoRow t
-    → ReadsWindow base.NULL.null_shape (λ _. Unit {0}) base.NULL.null_fields n r old new → IfErr r (λ e. base.NULL.IsNullRefusal n old e new)
+pub unknown_own : {n : ℕ} {old new : Reading} (t : RecordType) (r : Result NULL DecodeError) → HasNoFormat t
+    → ReadsRegion base.NULL.null_shape (λ _. Unit {0}) base.NULL.null_fields n r old new → IfErr r (λ e. base.NULL.IsNullError n old e new)
     → IfOk r (λ x. IsTaken base.NULL.null_facts n old new) → ReadsOwn t n (mapped (λ x. rdata.Unknown t x) r) old new
-unknown_own {n} {old} {new} t r h window own taken = record {
-  reads = reads_rowless old new t n r h window;
-  own = own_mapped (λ x. rdata.Unknown t x) r _ (unless_each r _ (own_rowless t (row_of t) old new n r h.rowless own));
-  taken = taken_mapped (λ x. rdata.Unknown t x) r _ (taken_rowless (row_of t) old new n r h.rowless taken);
+unknown_own {n} {old} {new} t r h region own taken = record {
+  reads = reads_formatless old new t n r h region;
+  own = own_mapped (λ x. rdata.Unknown t x) r _ (unless_each r _ (own_formatless t (row_of t) old new n r h.formatless own));
+  taken = taken_mapped (λ x. rdata.Unknown t x) r _ (taken_formatless (row_of t) old new n r h.formatless taken);
   never = λ e. absurd (h.read e);
 }
 
@@ -344,21 +350,21 @@ zero_own {n} {d} short inside octets = record {
 
 pub zero_counted : {n start : ℕ} {d : Reading} {s : Result RData DecodeError} → n < 65536 → d.index ≤ length d.message → AreOctets d.message
     → start ≡ d.index → s ≡ by_length (Ok rdata.ZERO) (d.index - start) n → ReadsCounted types.ZERO n s d d
-zero_counted {n = n} {d = d} short inside octets place c = record {
+zero_counted {n = n} {d = d} short inside octets starts c = record {
   outcome = Ok rdata.ZERO;
   given = zero_own short inside octets;
-  counted = c ∙ ap (λ k. by_length (Ok rdata.ZERO) (d.index - k) n) place;
+  counted = c ∙ ap (λ k. by_length (Ok rdata.ZERO) (d.index - k) n) starts;
 }
 
-unread_none : (q : TypeRow) (m : List ℕ) (p n : ℕ) → IsNever q → NoWindow m p n (kinds_of q) (MeetsConditionOf q)
-unread_none (row kinds asked refusal taken) m p n h = absurd h
+unread_none : (q : TypeRow) (m : List ℕ) (p n : ℕ) → IsNever q → NoRegion m p n (kinds_of q) (MeetsConditionOf q)
+unread_none (row kinds asked rejects taken) m p n h = absurd h
 unread_none unread m p n h = record { none = λ vs w. w.holds }
-unread_none rowless m p n h = absurd h
+unread_none formatless m p n h = absurd h
 
-own_unread : (t : RecordType) (q : TypeRow) (d : Reading) (n : ℕ) → IsNever q → IsOwnRefusal t q n d d (decode.UnknownRecordTypeValue (number_of t))
-own_unread t (row kinds asked refusal taken) d n h = absurd h
+own_unread : (t : RecordType) (q : TypeRow) (d : Reading) (n : ℕ) → IsNever q → IsOwnError t q n d d (decode.UnknownRecordTypeValue (number_of t))
+own_unread t (row kinds asked rejects taken) d n h = absurd h
 own_unread t unread d n h = (refl, refl)
-own_unread t rowless d n h = absurd h
+own_unread t formatless d n h = absurd h
 
 never_own : (t : RecordType) (n : ℕ) (d : Reading) → IsNeverRead t → ReadsOwn t n (Err (decode.UnknownRecordTypeValue (number_of t))) d d
 never_own t n d h = record {
@@ -423,7 +429,7 @@ pub reads_refused : {t : RecordType} {n : ℕ} {r : Result RData DecodeError} {o
 reads_refused {t} {n} {r} {old} {new} h = rw h.counted (data_refused t h.given.reads (answered n h.outcome (reads_behind h)))
 
 pub reads_why : {t : RecordType} {n : ℕ} {r : Result RData DecodeError} {old new : Reading} → ReadsCounted t n r old new
-    → IfErr r (IsRefusal t n old new)
+    → IfErr r (IsReadError t n old new)
 reads_why {t} {n} {r} {old} {new} h = rw h.counted (data_why t h.given.own h.given.taken h.given.never (answered n h.outcome (reads_behind h)))
 
 pub reads_never : {t : RecordType} {n : ℕ} {r : Result RData DecodeError} {old new : Reading} → ReadsCounted t n r old new → IsNeverRead t

@@ -3,7 +3,7 @@ pub mod DataReads
 pub mod OwnReads
 pub mod DataLaws
 pub mod CursorSteps
-pub mod DataWords
+pub mod DataTokens
 pub mod QuickOrders
 pub mod OrderReads
 pub mod Ranks

@@ -1,16 +1,17 @@
--- An order that the fields tell is that of record data.
+-- An order that the fields tell is that of RDATA.
 use Rattle.std.proofs.Common.{◌≡◌, ◌≢◌, ◌&&◌, Bool, true, Option, Some, None, IfSome, List, refl, sym, ap, ◌∙◌}
 use Rattle.std.specs.{Cmp.Lexicographic.slice_cmp, Ordering.nat_cmp, declared.cmp.Ordering.Ordering}
 use Rattle.std.specs.declared.cmp.Ordering.TheVariants.{Less, Equal, Greater}
 use Rattle.dns_fields.specs.Fields.{Kind, Values, all_emittable, canonical}
-use Rattle.dns_pieces.specs.Fronts.{canonical_cmp}
-use Rattle.dns_pieces.proofs.Comparing.{then_kept}
+use Rattle.dns_canonical.specs.Fronts.{canonical_cmp}
+use Rattle.dns_canonical.proofs.Comparing.{then_kept}
 use Rattle.dns_rdata_base.specs.Ordered.{IsOrder, IfSomeOrder}
 use Rattle.dns_rdata.specs.{declared.record_data.RData.RData, Data.data_octets, Data.fields_of, Data.octets_of, Equal.equal, Order.rdata_cmp}
 use Rattle.dns_rdata.specs.Ties.{equal_is, rdata_ties}
 
 differs : (v w : RData) (s : List Kind) (a b : Values s) (o : Ordering) → fields_of v ≡ record { kinds = s; values = a }
-    → fields_of w ≡ record { kinds = s; values = b } → o ≢ Equal → all_emittable s a ≡ true → all_emittable s b ≡ true → o ≡ canonical_cmp s a b → o ≡ rdata_cmp v w
+    → fields_of w ≡ record { kinds = s; values = b } → o ≢ Equal → all_emittable s a ≡ true → all_emittable s b ≡ true → o ≡ canonical_cmp s a b
+    → o ≡ rdata_cmp v w
 differs v w s a b o f g n first second e =
     let left : data_octets v ≡ canonical s a = ap octets_of f ∙ rw first refl in
     let right : data_octets w ≡ canonical s b = ap octets_of g ∙ rw second refl in

@@ -1,13 +1,13 @@
--- A value of record data is told by its type and its fields.
+-- A value of RDATA is told by its type and its fields.
 use Rattle.std.proofs.Common.{◌≡◌, ◌↔◌, ℕ, ◌+◌, Bool, true, false, List, [], ◌∷◌, refl, sym, ap, ◌∙◌, arith}
 use Rattle.std.proofs.{lemmas.Bool.Decides.nat_tests, Math.Bool.and-true}
 use Rattle.std.specs.{Bool.Decides, Net.Addr.segments_of, Net.Addr.octets_of}
-use Rattle.dns_fields.specs.Fields.{Kind, Number, Octets, Name, Text, Texts, Rest, Options, Parameters, Bitmap, Value, Values, AllFull, Same}
+use Rattle.dns_fields.specs.Fields.{Kind, Number, Octets, Name, CharacterString, CharacterStrings, Rest, Options, Parameters, Bitmap, Value, Values, AllFull, Same}
 use Rattle.dns_fields.specs.Equal.{values_eq}
 use Rattle.dns_fields.proofs.{EqualLaws.values_decide, OctetLaws.AreOctets-at, Laws.stands_fit}
 use Rattle.dns_types.specs.declared.record_type.RecordType.{RecordType}
 use Rattle.dns_types.specs.declared.record_type.RecordType.TheVariants as types
-use Rattle.dns_names_wire.specs.Words.{Window}
+use Rattle.dns_names_wire.specs.Terms.{Region}
 use Rattle.dns_rdata_base.proofs.SoaValues.{soa_from, soa_from-fields, soa_fields-from, soa_from-seconds}
 use Rattle.dns_rdata_base.proofs.Addresses.{octets_of-segments, segments_of-octets_of}
 use Rattle.dns_rdata_certs.proofs.Values.{cert_from, cert_from-fields, cert_fields-from, cert_from-read, cert_keys-same, smimea_from}
@@ -16,17 +16,17 @@ use Rattle.dns_rdata_certs.proofs.Values.{sshfp_fields-from, sshfp_from-read, ss
 use Rattle.dns_rdata_certs.proofs.Values.{tlsa_from-read, tlsa_keys-same}
 use Rattle.dns_rdata_service.proofs.SvcbValues.{https_from, https_from-fields, https_fields-from, https_from-read, https_equal, svcb_from}
 use Rattle.dns_rdata_service.proofs.SvcbValues.{svcb_from-fields, svcb_fields-from, svcb_from-read, svcb_equal}
-use Rattle.dns_rdata_sets.proofs.CaaValues.{caa_from, caa_from-fields, caa_fields-from, caa_from-read, caa_keys-same}
-use Rattle.dns_rdata_sets.proofs.CsyncValues.{csync_from, csync_from-fields, csync_fields-from, csync_from-read, csync_keys-same}
+use Rattle.dns_rdata_caa_csync.proofs.CaaValues.{caa_from, caa_from-fields, caa_fields-from, caa_from-read, caa_keys-same}
+use Rattle.dns_rdata_caa_csync.proofs.CsyncValues.{csync_from, csync_from-fields, csync_fields-from, csync_from-read, csync_keys-same}
 use Rattle.dns_rdata_options.proofs.Values.{opt_from-fields, opt_fields-from, opt_from-read, opt_equal}
 use Rattle.dns_rdata_base.specs.declared.null.NULL.{NULL}
 use Rattle.dns_rdata_base.specs as base
 use Rattle.dns_rdata_certs.specs as certs
 use Rattle.dns_rdata_options.specs as options
 use Rattle.dns_rdata_service.specs as service
-use Rattle.dns_rdata_sets.specs as sets
+use Rattle.dns_rdata_caa_csync.specs as caa_csync
 use Rattle.dns_rdata.specs.{declared.record_data.RData.RData, Equal.equal, Equal.record_type_eq}
-use Rattle.dns_rdata.specs.Data.{shape, MeetsCondition, FieldsOf, fields_of, type_of, IsRowless, IsPlain, IsValue}
+use Rattle.dns_rdata.specs.Data.{shape, MeetsCondition, FieldsOf, fields_of, type_of, IsUnknownType, CanBeRead, IsValue}
 use Rattle.dns_rdata.specs.declared.record_data.RData.TheVariants as rdata
 
 -- ---- values as those of other kinds
@@ -40,8 +40,8 @@ value_as : (k l : Kind) → Value l → Value k
 value_as (Number w) (Number x) v = v
 value_as (Octets n) (Octets l) v = v
 value_as Name Name v = v
-value_as Text Text v = v
-value_as Texts Texts v = v
+value_as CharacterString CharacterString v = v
+value_as CharacterStrings CharacterStrings v = v
 value_as Rest Rest v = v
 value_as Options Options v = v
 value_as Parameters Parameters v = v
@@ -99,33 +99,33 @@ value_for t vs = rdata.Unknown t (record { anything = vs.0 })
 from_fields : RecordType → FieldsOf → RData
 from_fields t f = value_for t (values_as (shape t) f.kinds f.values)
 
-unknown_plain : (code : RecordType) (x : NULL) → IsRowless code → rdata.Unknown code x ≡ from_fields code (fields_of (rdata.Unknown code x))
+read_unknown : (code : RecordType) (x : NULL) → IsUnknownType code → rdata.Unknown code x ≡ from_fields code (fields_of (rdata.Unknown code x))
 unfolding from_fields value_for values_as value_as
-unknown_plain types.A x h = absurd h
-unknown_plain code x h = first_of (cc, grind arith)
+read_unknown types.A x h = absurd h
+read_unknown code x h = first_of (cc, grind arith)
 
-plain_value : (v : RData) → IsPlain v → v ≡ from_fields (type_of v) (fields_of v)
+read_value : (v : RData) → CanBeRead v → v ≡ from_fields (type_of v) (fields_of v)
 unfolding from_fields value_for values_as value_as
-plain_value (rdata.AAAA x) h = ap (λ (s : List ℕ). rdata.AAAA (record { 0 = record { segments = s } })) (sym (segments_of-octets_of x.0.segments))
-plain_value (rdata.CAA x) h = ap rdata.CAA (caa_from-fields x h)
-plain_value (rdata.CERT x) h = ap rdata.CERT (cert_from-fields x h)
-plain_value (rdata.CSYNC x) h = ap rdata.CSYNC (csync_from-fields x h)
-plain_value (rdata.OPT x) h = ap rdata.OPT (opt_from-fields x h)
-plain_value (rdata.SVCB x) h = ap rdata.SVCB (svcb_from-fields x h)
-plain_value (rdata.HTTPS x) h = ap rdata.HTTPS (https_from-fields x h)
-plain_value (rdata.SMIMEA x) h = ap rdata.SMIMEA (smimea_from-fields x h)
-plain_value (rdata.SOA x) h = ap rdata.SOA (soa_from-fields x h)
-plain_value (rdata.SSHFP x) h = ap rdata.SSHFP (sshfp_from-fields x h)
-plain_value (rdata.TLSA x) h = ap rdata.TLSA (tlsa_from-fields x h)
-plain_value (rdata.Update0 t) h = absurd h
-plain_value (rdata.Unknown code x) h = unknown_plain code x h
-plain_value v h = refl
+read_value (rdata.AAAA x) h = ap (λ (s : List ℕ). rdata.AAAA (record { 0 = record { segments = s } })) (sym (segments_of-octets_of x.0.segments))
+read_value (rdata.CAA x) h = ap rdata.CAA (caa_from-fields x h)
+read_value (rdata.CERT x) h = ap rdata.CERT (cert_from-fields x h)
+read_value (rdata.CSYNC x) h = ap rdata.CSYNC (csync_from-fields x h)
+read_value (rdata.OPT x) h = ap rdata.OPT (opt_from-fields x h)
+read_value (rdata.SVCB x) h = ap rdata.SVCB (svcb_from-fields x h)
+read_value (rdata.HTTPS x) h = ap rdata.HTTPS (https_from-fields x h)
+read_value (rdata.SMIMEA x) h = ap rdata.SMIMEA (smimea_from-fields x h)
+read_value (rdata.SOA x) h = ap rdata.SOA (soa_from-fields x h)
+read_value (rdata.SSHFP x) h = ap rdata.SSHFP (sshfp_from-fields x h)
+read_value (rdata.TLSA x) h = ap rdata.TLSA (tlsa_from-fields x h)
+read_value (rdata.Update0 t) h = absurd h
+read_value (rdata.Unknown code x) h = read_unknown code x h
+read_value v h = refl
 
 -- a value of these fields is the one that is made of them
 pub value_is : (t : RecordType) (vs : Values (shape t)) (v : RData) → IsValue t vs v → v ≡ value_for t vs
 unfolding from_fields
 value_is t vs v h =
-    plain_value v h.plain
+    read_value v h.can_be_read
     ∙ ap (λ (u : RecordType). from_fields u (fields_of v)) h.type
     ∙ ap (λ (f : FieldsOf). value_for t (values_as (shape t) f.kinds f.values)) h.fields
     ∙ ap (value_for t) (values_as-same (shape t) vs)
@@ -136,33 +136,40 @@ with_kinds s vs = record { kinds = s; values = vs }
 of_kinds : (s : List Kind) {a b : Values s} → a ≡ b → with_kinds s a ≡ with_kinds s b
 of_kinds s e = ap (with_kinds s) e
 
--- and the fields of a window make one
-pub window_value : (m : List ℕ) (p n : ℕ) (t : RecordType) (vs : Values (shape t)) → Window m p n (shape t) (MeetsCondition t) vs → IsValue t vs (value_for t vs)
+-- and the fields of a region make one
+pub region_value : (m : List ℕ) (p n : ℕ) (t : RecordType) (vs : Values (shape t)) → Region m p n (shape t) (MeetsCondition t) vs
+    → IsValue t vs (value_for t vs)
 unfolding value_for
-window_value m p n types.AAAA vs w =
+region_value m p n types.AAAA vs w =
     let e : octets_of (segments_of vs.0) ≡ vs.0 = octets_of-segments 8 vs.0 w.stands.1.is.0 (AreOctets-at m p vs.0 w.stands.0 w.octets w.stands.1.is.1) in
-    record { type = refl; fields = of_kinds (Octets 16 ∷ []) (ap (λ (o : List ℕ). (o, tt)) e); plain = tt }
-window_value m p n types.CAA vs w =
-    let f = stands_fit m p sets.CAA.caa_shape vs (p + n) w.stands in
-    record { type = refl; fields = of_kinds sets.CAA.caa_shape (caa_fields-from vs f); plain = caa_from-read vs }
-window_value m p n types.CERT vs w = record { type = refl; fields = of_kinds certs.CERT.cert_shape (cert_fields-from vs); plain = cert_from-read vs }
-window_value m p n types.CSYNC vs w = record { type = refl; fields = of_kinds sets.CSYNC.csync_shape (csync_fields-from vs); plain = csync_from-read vs }
-window_value m p n types.OPT vs w = record
-    { type = refl; fields = of_kinds options.OPT.opt_shape (opt_fields-from m p vs (p + n) w.octets w.stands); plain = opt_from-read m p vs (p + n) w.octets w.stands }
-window_value m p n types.SVCB vs w = record
-    { type = refl; fields = of_kinds service.SVCB.svcb_shape (svcb_fields-from m p n (MeetsCondition types.SVCB) vs w); plain = svcb_from-read vs }
-window_value m p n types.HTTPS vs w = record
-    { type = refl; fields = of_kinds service.HTTPS.https_shape (https_fields-from m p n (MeetsCondition types.HTTPS) vs w); plain = https_from-read vs }
-window_value m p n types.SMIMEA vs w = record { type = refl; fields = of_kinds certs.SMIMEA.smimea_shape (smimea_fields-from vs); plain = smimea_from-read vs }
-window_value m p n types.SOA vs w =
+    record { type = refl; fields = of_kinds (Octets 16 ∷ []) (ap (λ (o : List ℕ). (o, tt)) e); can_be_read = tt }
+region_value m p n types.CAA vs w =
+    let f = stands_fit m p caa_csync.CAA.caa_shape vs (p + n) w.stands in
+    record { type = refl; fields = of_kinds caa_csync.CAA.caa_shape (caa_fields-from vs f); can_be_read = caa_from-read vs }
+region_value m p n types.CERT vs w = record { type = refl; fields = of_kinds certs.CERT.cert_shape (cert_fields-from vs); can_be_read = cert_from-read vs }
+region_value m p n types.CSYNC vs w =
+    record { type = refl; fields = of_kinds caa_csync.CSYNC.csync_shape (csync_fields-from vs); can_be_read = csync_from-read vs }
+region_value m p n types.OPT vs w = record {
+  type = refl;
+  fields =
+      of_kinds options.OPT.opt_shape (opt_fields-from m p vs (p + n) w.octets w.stands);
+  can_be_read = opt_from-read m p vs (p + n) w.octets w.stands;
+}
+region_value m p n types.SVCB vs w = record
+    { type = refl; fields = of_kinds service.SVCB.svcb_shape (svcb_fields-from m p n (MeetsCondition types.SVCB) vs w); can_be_read = svcb_from-read vs }
+region_value m p n types.HTTPS vs w = record
+    { type = refl; fields = of_kinds service.HTTPS.https_shape (https_fields-from m p n (MeetsCondition types.HTTPS) vs w); can_be_read = https_from-read vs }
+region_value m p n types.SMIMEA vs w =
+    record { type = refl; fields = of_kinds certs.SMIMEA.smimea_shape (smimea_fields-from vs); can_be_read = smimea_from-read vs }
+region_value m p n types.SOA vs w =
     let f = stands_fit m p base.SOA.soa_shape vs (p + n) w.stands in
-    record { type = refl; fields = of_kinds base.SOA.soa_shape (soa_fields-from vs f); plain = soa_from-seconds vs f }
-window_value m p n types.SSHFP vs w = record { type = refl; fields = of_kinds certs.SSHFP.sshfp_shape (sshfp_fields-from vs); plain = sshfp_from-read vs }
-window_value m p n types.TLSA vs w = record { type = refl; fields = of_kinds certs.TLSA.tlsa_shape (tlsa_fields-from vs); plain = tlsa_from-read vs }
-window_value m p n types.ANY vs w = absurd w.holds
-window_value m p n types.AXFR vs w = absurd w.holds
-window_value m p n types.IXFR vs w = absurd w.holds
-window_value m p n t vs w = record { type = refl; fields = refl; plain = tt }
+    record { type = refl; fields = of_kinds base.SOA.soa_shape (soa_fields-from vs f); can_be_read = soa_from-seconds vs f }
+region_value m p n types.SSHFP vs w = record { type = refl; fields = of_kinds certs.SSHFP.sshfp_shape (sshfp_fields-from vs); can_be_read = sshfp_from-read vs }
+region_value m p n types.TLSA vs w = record { type = refl; fields = of_kinds certs.TLSA.tlsa_shape (tlsa_fields-from vs); can_be_read = tlsa_from-read vs }
+region_value m p n types.ANY vs w = absurd w.holds
+region_value m p n types.AXFR vs w = absurd w.holds
+region_value m p n types.IXFR vs w = absurd w.holds
+region_value m p n t vs w = record { type = refl; fields = refl; can_be_read = tt }
 
 -- ---- values of one type are equal where their fields are
 
@@ -176,7 +183,7 @@ decided_same false false d e s = refl
 decided_same true false d e s = sym (e.1 (s.0 (d.0 refl)))
 decided_same false true d e s = d.1 (s.1 (e.0 refl))
 
--- what is compared in place of the fields gives the same test
+-- what is compared instead of the fields gives the same test
 equal_keys : (s t : List Kind) (a b : Values s) (c d : Values t) → AllFull s a → AllFull s b → AllFull t c → AllFull t d → Same s a b ↔ Same t c d
     → values_eq s a b ≡ values_eq t c d
 equal_keys s t a b c d fa fb fc fd same = decided_same (values_eq s a b) (values_eq t c d) (values_decide s a b fa fb) (values_decide t c d fc fd) same
@@ -184,11 +191,11 @@ equal_keys s t a b c d fa fb fc fd same = decided_same (values_eq s a b) (values
 abbrev pub fields_for : (t : RecordType) → Values (shape t) → Values (shape t)
 fields_for t vs = values_as (shape t) (fields_of (value_for t vs)).kinds (fields_of (value_for t vs)).values
 
-pub equal_values : (t : RecordType) (vs ws : Values (shape t)) → MeetsCondition t vs → IsPlain (value_for t vs) → IsPlain (value_for t ws)
+pub equal_values : (t : RecordType) (vs ws : Values (shape t)) → MeetsCondition t vs → CanBeRead (value_for t vs) → CanBeRead (value_for t ws)
     → equal (value_for t vs) (value_for t ws) ≡ values_eq (shape t) (fields_for t vs) (fields_for t ws)
 unfolding value_for values_as value_as
 equal_values types.CAA vs ws h a b = and-true _
-    ∙ equal_keys sets.CAA.caa_key_shape sets.CAA.caa_shape (sets.CAA.caa_keys (caa_from vs)) (sets.CAA.caa_keys (caa_from ws)) (sets.CAA.caa_fields (caa_from vs)) (sets.CAA.caa_fields (caa_from ws))
+    ∙ equal_keys caa_csync.CAA.caa_key_shape caa_csync.CAA.caa_shape (caa_csync.CAA.caa_keys (caa_from vs)) (caa_csync.CAA.caa_keys (caa_from ws)) (caa_csync.CAA.caa_fields (caa_from vs)) (caa_csync.CAA.caa_fields (caa_from ws))
     (tt, (tt, (tt, (tt, tt)))) (tt, (tt, (tt, (tt, tt)))) (tt, (tt, (tt, tt))) (tt, (tt, (tt, tt)))
     (caa_keys-same (caa_from vs) (caa_from ws) (caa_from-read vs) (caa_from-read ws))
 equal_values types.CERT vs ws h a b = and-true _
@@ -196,8 +203,8 @@ equal_values types.CERT vs ws h a b = and-true _
     (tt, (tt, (tt, (tt, (tt, (tt, tt)))))) (tt, (tt, (tt, (tt, (tt, (tt, tt)))))) (tt, (tt, (tt, (tt, tt)))) (tt, (tt, (tt, (tt, tt))))
     (cert_keys-same (cert_from vs) (cert_from ws) (cert_from-read vs) (cert_from-read ws))
 equal_values types.CSYNC vs ws h a b = and-true _
-    ∙ equal_keys sets.CSYNC.csync_key_shape sets.CSYNC.csync_shape (sets.CSYNC.csync_keys (csync_from vs)) (sets.CSYNC.csync_keys (csync_from ws)) (sets.CSYNC.csync_fields (csync_from vs))
-    (sets.CSYNC.csync_fields (csync_from ws)) (tt, (tt, (tt, (tt, (tt, tt))))) (tt, (tt, (tt, (tt, (tt, tt))))) (tt, (tt, (tt, tt))) (tt, (tt, (tt, tt)))
+    ∙ equal_keys caa_csync.CSYNC.csync_key_shape caa_csync.CSYNC.csync_shape (caa_csync.CSYNC.csync_keys (csync_from vs)) (caa_csync.CSYNC.csync_keys (csync_from ws)) (caa_csync.CSYNC.csync_fields (csync_from vs))
+    (caa_csync.CSYNC.csync_fields (csync_from ws)) (tt, (tt, (tt, (tt, (tt, tt))))) (tt, (tt, (tt, (tt, (tt, tt))))) (tt, (tt, (tt, tt))) (tt, (tt, (tt, tt)))
     (csync_keys-same (csync_from vs) (csync_from ws) (csync_from-read vs) (csync_from-read ws))
 equal_values types.OPT vs ws h a b = and-true _ ∙ opt_equal (options.OPT.opt_from vs) (options.OPT.opt_from ws) a b
 equal_values types.SVCB vs ws h a b = and-true _ ∙ svcb_equal (svcb_from vs) (svcb_from ws) (svcb_from-read vs) (svcb_from-read ws)

@@ -1,26 +1,26 @@
--- Fields that are written with whole names.
+-- Fields that are written with uncompressed names.
 use Rattle.std.proofs.Common.{◌≡◌, ◌≢◌, ◌∙◌, ℕ, List, [], ◌∷◌, ◌++◌, sym, ap, subst, append_assoc, Result, Ok, Err, OnOk}
 use Rattle.std.proofs.lemmas.List.{append-nil}
 use Rattle.dns_fields.specs.declared.RDataEncoding.{RDataEncoding}
 use Rattle.dns_fields.specs.declared.RDataEncoding.TheVariants.{StandardRecord, Other}
-use Rattle.dns_fields.specs.Fields.{Kind, Number, Octets, Name, Text, Texts, Rest, Options, Parameters, Bitmap, Value, Values, Wrote, IsWrittenAs}
+use Rattle.dns_fields.specs.Fields.{Kind, Number, Octets, Name, CharacterString, CharacterStrings, Rest, Options, Parameters, Bitmap, Value, Values, Wrote, IsWrittenAs}
 use Rattle.dns_fields.specs.Fields.{field_octets}
 use Rattle.dns_types.specs.declared.error.ProtoError.{ProtoError}
-use Rattle.dns_names_wire.specs.{State.Writing, Words.EmitsAs}
+use Rattle.dns_names_wire.specs.{State.Writing, Terms.EmitsAs}
 use Rattle.dns_names_wire.proofs.FieldWrites.{emitted_as}
 use Rattle.dns_rdata.specs.{declared.record_data.RData.RData, Data.fields_of, WholeOctets.whole_octets, WholeOctets.all_whole, WholeOctets.whole_data}
 
 other_whole : Other ≢ StandardRecord
 other_whole e = absurd cc
 
--- a field that is written with whole names has its octets there
+-- a field that is written with uncompressed names has its octets there
 wrote_field : (m : List ℕ) (k : Kind) (v : Value k) (m' : List ℕ) → IsWrittenAs Other m k v m' → m' ≡ m ++ whole_octets k v
 unfolding field_octets
 wrote_field m (Number w) v m' h = h.1
 wrote_field m (Octets n) v m' h = h.1
 wrote_field m Name v m' h = h.whole other_whole
-wrote_field m Text v m' h = h.1
-wrote_field m Texts v m' h = h.1
+wrote_field m CharacterString v m' h = h.1
+wrote_field m CharacterStrings v m' h = h.1
 wrote_field m Rest v m' h = h
 wrote_field m Options v m' h = h.1
 wrote_field m Parameters v m' h = h.2
@@ -38,7 +38,8 @@ emits_whole v (Ok x) old new h = wrote_whole old.octets (fields_of v).kinds (fie
 emits_whole v (Err e) old new h = tt
 
 -- in the mode for it, and the earlier one put back
-pub emitted_whole : (v : RData) (earlier : RDataEncoding) (r : Result (Unit {0}) ProtoError) (old set emitted new : Writing) → earlier ≡ old.mode → set ≡ record old { mode = Other }
+pub emitted_whole : (v : RData) (earlier : RDataEncoding) (r : Result (Unit {0}) ProtoError) (old set emitted new : Writing) → earlier ≡ old.mode
+    → set ≡ record old { mode = Other }
     → EmitsAs Other (fields_of v).kinds (fields_of v).values r set emitted → new ≡ record emitted { mode = earlier }
     → EmitsAs Other (fields_of v).kinds (fields_of v).values r old new
 emitted_whole v earlier r old set emitted new e s h n =

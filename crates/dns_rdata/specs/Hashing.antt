@@ -1,4 +1,4 @@
--- What values of record data feed a hasher: equal values the same.
+-- What values of RDATA feed a hasher: equal values feed the same.
 use Rattle.std.specs.Prelude.{◌≡◌, Bool, true, ◌&&◌, ◌++◌}
 use Rattle.std.specs.{Cmp.first_so, Hash.HashWrites}
 use Rattle.std.proofs.Common.{ap, arith, ◌∙◌, refl, true≢false, sym}
@@ -9,16 +9,16 @@ use Rattle.dns_rdata_base.specs.contracts as base
 use Rattle.dns_rdata_certs.specs.contracts as certs
 use Rattle.dns_rdata_options.specs.contracts as options
 use Rattle.dns_rdata_service.specs.contracts as service
-use Rattle.dns_rdata_sets.specs.contracts as sets
-use Rattle.dns_rdata.specs.{declared.record_data.RData.RData, Data.held, Data.fed_in, Data.type_of, Keys.rows}
+use Rattle.dns_rdata_caa_csync.specs.contracts as caa_csync
+use Rattle.dns_rdata.specs.{declared.record_data.RData.RData, Data.held, Data.fed_in, Data.type_of, Keys.variant_keys}
 use Rattle.dns_rdata.specs.Equal.{equal, record_type_eq, types_equal}
 use Rattle.dns_rdata.specs.declared.record_data.RData.TheVariants as rdata
 
--- what the data of the type feeds
+-- what the record in the value feeds
 abbrev pub record_fed : RData → HashWrites
 record_fed v = fed_in (held v)
 
--- the type, and then what the data of the type feeds
+-- the type, and then what the record in the value feeds
 abbrev pub data_fed : RData → HashWrites
 data_fed v = type_hash.ghosts.hash_input (type_of v) ++ record_fed v
 
@@ -28,33 +28,46 @@ alone b h = first_so b true h
 record_fed_same : (v w : RData) → equal v w ≡ true → record_fed v ≡ record_fed w
 record_fed_same (rdata.A x) (rdata.A y) h = base.a.AHash.TheImpl.Laws.respects_eq-law x y (simp and-true at h)
 record_fed_same (rdata.AAAA x) (rdata.AAAA y) h = base.aaaa.AAAAHash.TheImpl.Laws.respects_eq-law x y (alone _ h)
-record_fed_same (rdata.ANAME x) (rdata.ANAME y) h = base.name.ANAMEHash.TheImpl.Laws.respects_eq-law x y (simp and-true at h)
-record_fed_same (rdata.CAA x) (rdata.CAA y) h = sets.caa.CAAHash.TheImpl.Laws.respects_eq-law x y (alone _ h)
-record_fed_same (rdata.CERT x) (rdata.CERT y) h = certs.cert.CERTHash.TheImpl.Laws.respects_eq-law x y (simp and_assoc (simp (and_assoc, and-true) at h))
-record_fed_same (rdata.CNAME x) (rdata.CNAME y) h = base.name.CNAMEHash.TheImpl.Laws.respects_eq-law x y (simp and-true at h)
-record_fed_same (rdata.CSYNC x) (rdata.CSYNC y) h = sets.csync.CSYNCHash.TheImpl.Laws.respects_eq-law x y (grind (arith, h))
-record_fed_same (rdata.HINFO x) (rdata.HINFO y) h = base.hinfo.HINFOHash.TheImpl.Laws.respects_eq-law x y (simp and-true at h)
+record_fed_same (rdata.ANAME x) (rdata.ANAME y) h =
+    base.name.ANAMEHash.TheImpl.Laws.respects_eq-law x y (simp and-true at h)
+record_fed_same (rdata.CAA x) (rdata.CAA y) h = caa_csync.caa.CAAHash.TheImpl.Laws.respects_eq-law x y (alone _ h)
+record_fed_same (rdata.CERT x) (rdata.CERT y) h =
+    certs.cert.CERTHash.TheImpl.Laws.respects_eq-law x y (simp and_assoc (simp (and_assoc, and-true) at h))
+record_fed_same (rdata.CNAME x) (rdata.CNAME y) h =
+    base.name.CNAMEHash.TheImpl.Laws.respects_eq-law x y (simp and-true at h)
+record_fed_same (rdata.CSYNC x) (rdata.CSYNC y) h =
+    caa_csync.csync.CSYNCHash.TheImpl.Laws.respects_eq-law x y (grind (arith, h))
+record_fed_same (rdata.HINFO x) (rdata.HINFO y) h =
+    base.hinfo.HINFOHash.TheImpl.Laws.respects_eq-law x y (simp and-true at h)
 record_fed_same (rdata.HTTPS x) (rdata.HTTPS y) h = service.https.HTTPSHash.TheImpl.Laws.respects_eq-law x y (alone _ h)
 record_fed_same (rdata.MX x) (rdata.MX y) h = base.mx.MXHash.TheImpl.Laws.respects_eq-law x y (simp and-true at h)
-record_fed_same (rdata.NAPTR x) (rdata.NAPTR y) h = base.naptr.NAPTRHash.TheImpl.Laws.respects_eq-law x y (simp and-true at h)
-record_fed_same (rdata.NULL x) (rdata.NULL y) h = base.null.NULLHash.TheImpl.Laws.respects_eq-law x y (simp and-true at h)
+record_fed_same (rdata.NAPTR x) (rdata.NAPTR y) h =
+    base.naptr.NAPTRHash.TheImpl.Laws.respects_eq-law x y (simp and-true at h)
+record_fed_same (rdata.NULL x) (rdata.NULL y) h =
+    base.null.NULLHash.TheImpl.Laws.respects_eq-law x y (simp and-true at h)
 record_fed_same (rdata.NS x) (rdata.NS y) h = base.name.NSHash.TheImpl.Laws.respects_eq-law x y (simp and-true at h)
-record_fed_same (rdata.OPENPGPKEY x) (rdata.OPENPGPKEY y) h = base.openpgpkey.OPENPGPKEYHash.TheImpl.Laws.respects_eq-law x y (simp and-true at h)
+record_fed_same (rdata.OPENPGPKEY x) (rdata.OPENPGPKEY y) h =
+    base.openpgpkey.OPENPGPKEYHash.TheImpl.Laws.respects_eq-law x y (simp and-true at h)
 record_fed_same (rdata.OPT x) (rdata.OPT y) h = options.opt.OPTHash.TheImpl.Laws.respects_eq-law x y (alone _ h)
 record_fed_same (rdata.PTR x) (rdata.PTR y) h = base.name.PTRHash.TheImpl.Laws.respects_eq-law x y (simp and-true at h)
-record_fed_same (rdata.SMIMEA x) (rdata.SMIMEA y) h = certs.smimea.SMIMEAHash.TheImpl.Laws.respects_eq-law x y (simp and_assoc (simp (and_assoc, and-true) at h))
+record_fed_same (rdata.SMIMEA x) (rdata.SMIMEA y) h =
+    certs.smimea.SMIMEAHash.TheImpl.Laws.respects_eq-law x y (simp and_assoc (simp (and_assoc, and-true) at h))
 record_fed_same (rdata.SOA x) (rdata.SOA y) h = base.soa.SOAHash.TheImpl.Laws.respects_eq-law x y (alone _ h)
 record_fed_same (rdata.SRV x) (rdata.SRV y) h = base.srv.SRVHash.TheImpl.Laws.respects_eq-law x y (simp and-true at h)
-record_fed_same (rdata.SSHFP x) (rdata.SSHFP y) h = certs.sshfp.SSHFPHash.TheImpl.Laws.respects_eq-law x y (simp and_assoc (simp (and_assoc, and-true) at h))
+record_fed_same (rdata.SSHFP x) (rdata.SSHFP y) h =
+    certs.sshfp.SSHFPHash.TheImpl.Laws.respects_eq-law x y (simp and_assoc (simp (and_assoc, and-true) at h))
 record_fed_same (rdata.SVCB x) (rdata.SVCB y) h = service.svcb.SVCBHash.TheImpl.Laws.respects_eq-law x y (alone _ h)
-record_fed_same (rdata.TLSA x) (rdata.TLSA y) h = certs.tlsa.TLSAHash.TheImpl.Laws.respects_eq-law x y (simp and_assoc (simp (and_assoc, and-true) at h))
+record_fed_same (rdata.TLSA x) (rdata.TLSA y) h =
+    certs.tlsa.TLSAHash.TheImpl.Laws.respects_eq-law x y (simp and_assoc (simp (and_assoc, and-true) at h))
 record_fed_same (rdata.TXT x) (rdata.TXT y) h = base.txt.TXTHash.TheImpl.Laws.respects_eq-law x y (simp and-true at h)
-record_fed_same (rdata.Unknown a x) (rdata.Unknown b y) h = base.null.NULLHash.TheImpl.Laws.respects_eq-law x y (first_so _ (record_type_eq a b) (simp and-true at h))
+record_fed_same (rdata.Unknown a x) (rdata.Unknown b y) h =
+    base.null.NULLHash.TheImpl.Laws.respects_eq-law x y (first_so _ (record_type_eq a b) (simp and-true at h))
 record_fed_same (rdata.Update0 t) (rdata.Update0 u) h = refl
 record_fed_same rdata.ZERO rdata.ZERO h = refl
 record_fed_same v w h = absurd (true≢false (sym h))
 
 pub fed_same : (v w : RData) → equal v w ≡ true → data_fed v ≡ data_fed w
 fed_same v w h =
-    ap (λ (f : HashWrites). f ++ record_fed v) (type_hash_laws.respects_eq-law (type_of v) (type_of w) (types_equal rows v w h))
+    ap (λ (f : HashWrites). f ++ record_fed v)
+    (type_hash_laws.respects_eq-law (type_of v) (type_of w) (types_equal variant_keys v w h))
     ∙ ap (λ (f : HashWrites). type_hash.ghosts.hash_input (type_of w) ++ f) (record_fed_same v w h)

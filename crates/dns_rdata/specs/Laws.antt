@@ -1,39 +1,42 @@
--- What holds of record data of every type.
+-- What is true of RDATA of every type.
 use Rattle.std.specs.Prelude.{◌≡◌, ◌↔◌, ℕ, ◌-◌, ◌<◌, IsTrue, Bool, Option, Some, None, List, length}
 use Rattle.std.specs.{declared.net.ip_addr.IpAddr.IpAddr, declared.net.ip_addr.IpAddr.TheVariants.V4, declared.net.ip_addr.IpAddr.TheVariants.V6}
 use Rattle.dns_types.specs.declared.record_type.RecordType.{RecordType}
-use Rattle.dns_names_wire.specs.{State.Writing, Words.Window}
+use Rattle.dns_names_wire.specs.{State.Writing, Terms.Region}
 use Rattle.dns_fields.specs.{Fields.Values, Labels.DomainName}
 use Rattle.dns_rdata.specs.{declared.record_data.RData.RData, Data.shape, Data.MeetsCondition, Data.Fills, Data.data_octets, Data.type_of, Equal.equal}
 use Rattle.dns_rdata.specs.declared.record_data.RData.TheVariants as rdata
 
--- octets are the data of at most one value of a type
+-- octets are the RDATA of at most one value of a type
 abbrev pub OneValue : Type 0
 OneValue = (m : List ℕ) (p n : ℕ) (t : RecordType) (v w : RData) → Fills m p n t v → Fills m p n t w → v ≡ w
 
--- octets that the fields of a type fill are the data of a value of the type
-abbrev pub EachWindow : Type 0
-EachWindow = (m : List ℕ) (p n : ℕ) (t : RecordType) (vs : Values (shape t)) → Window m p n (shape t) (MeetsCondition t) vs → (v : RData) × Fills m p n t v
+-- octets that the fields of a type fill are the RDATA of a value of the type
+abbrev pub EachRegion : Type 0
+EachRegion = (m : List ℕ) (p n : ℕ) (t : RecordType) (vs : Values (shape t))
+    → Region m p n (shape t) (MeetsCondition t) vs → (v : RData) × Fills m p n t v
 
--- the n octets from p are the data of a value of the type that is equal to v
+-- the n octets from p are the RDATA of a value of the type that is equal to v
 pub record HasEqual (m : List ℕ) (p n : ℕ) (t : RecordType) (v : RData) : Type 0 where
   pub value : RData
   pub fills : Fills m p n t value
   pub same : IsTrue (equal v value)
 
--- Two values that were read under one type are equal exactly where their canonical octets are the same.
+-- Two values that were read under one type are equal exactly if their canonical octets are the same.
 abbrev pub TellsApart : RData → RData → Bool → Type 0
-TellsApart v w answer = (t : RecordType) (m : List ℕ) (p n : ℕ) (m' : List ℕ) (p' n' : ℕ) → Fills m p n t v → Fills m' p' n' t w
+TellsApart v w answer = (t : RecordType) (m : List ℕ) (p n : ℕ) (m' : List ℕ) (p' n' : ℕ) → Fills m p n t v
+    → Fills m' p' n' t w
     → IsTrue answer ↔ (data_octets v ≡ data_octets w)
 
--- The canonical octets of a value that was read, where they are at most 65535, are the data of an equal value.
+-- The canonical octets of a value that was read are the RDATA of an equal value, if they are at most 65535.
 abbrev pub ReadsCanonical : RecordType → RData → Type 0
 ReadsCanonical t v = length (data_octets v) < 65536 → HasEqual (data_octets v) 0 (length (data_octets v)) t v
 
--- A value that was read under a type and whose octets were appended, at most 65535 of them, stands there again as an
--- equal value, behind what was there.
+-- If a value was read under a type and at most 65535 octets of it were appended, these octets are the RDATA of an equal
+-- value, after the earlier octets.
 abbrev pub ReadsBack : RData → Writing → Writing → Type 0
-ReadsBack v old new = (t : RecordType) (m : List ℕ) (p n : ℕ) → Fills m p n t v → length new.octets - length old.octets < 65536
+ReadsBack v old new = (t : RecordType) (m : List ℕ) (p n : ℕ) → Fills m p n t v
+    → length new.octets - length old.octets < 65536
     → HasEqual new.octets (length old.octets) (length new.octets - length old.octets) t v
 
 -- the address of A and AAAA
@@ -42,7 +45,7 @@ address_of (rdata.A x) = Some (V4 x.0)
 address_of (rdata.AAAA x) = Some (V6 x.0)
 address_of v = None
 
--- the name that the data points to: an alias's, a server's, a host's or a service's
+-- the name that the record points to: of an alias, a server, a host or a service
 abbrev pub target_of : RData → Option DomainName
 target_of (rdata.ANAME x) = Some x.0
 target_of (rdata.CNAME x) = Some x.0
@@ -55,7 +58,7 @@ target_of (rdata.SRV x) = Some x.target
 target_of (rdata.SVCB x) = Some x.target_name
 target_of v = None
 
--- no data, of a record in an update (RFC 2136, 2.4 and 2.5)
+-- a record without RDATA in an update (RFC 2136, 2.4 and 2.5)
 abbrev pub IsUpdate : RData → Type 0
 IsUpdate (rdata.Update0 t) = Unit {0}
 IsUpdate v = ⊥
@@ -65,7 +68,7 @@ pub record VariantOf (A : Type 0) : Type 0 where
   pub wrapped : A → RData
   pub borrowed : RData → Option A
 
--- Data is lent exactly where the value is the one that holds it, which is of this type, and no update.
+-- A record is borrowed exactly if the value holds it; the value then is of this type and no update.
 pub record HoldsOnly {A : Type 0} (values : VariantOf A) (t : RecordType) : Type 0 where
   pub exactly : (v : RData) (x : A) → (values.borrowed v ≡ Some x) ↔ (values.wrapped x ≡ v)
   pub type : (x : A) → type_of (values.wrapped x) ≡ t

@@ -1,6 +1,6 @@
 pub mod Data
 pub mod Cursor
-pub mod DataWords
+pub mod DataTokens
 pub mod Keys
 pub mod Equal
 pub mod Hashing
@@ -8,7 +8,7 @@ pub mod Laws
 pub mod QuickOrders
 pub mod Order
 pub mod Ties
-pub mod Refusals
+pub mod ReadErrors
 pub mod Texts
 pub mod WholeOctets
 pub use Rattle.dns_fields.specs.Octets
@@ -17,9 +17,9 @@ pub use Rattle.dns_fields.specs.Names
 pub use Rattle.dns_fields.specs.Fields
 pub use Rattle.dns_types.specs.RecordTypes
 pub use Rattle.dns_names_wire.specs.State
-pub use Rattle.dns_names_wire.specs.Words
+pub use Rattle.dns_names_wire.specs.Terms
 pub use Rattle.dns_rdata_base.specs.Lossy
-pub use Rattle.dns_rdata_base.specs.Refusing
+pub use Rattle.dns_rdata_base.specs.FieldErrors
 pub use Rattle.dns_rdata_certs.specs.Rests
 pub use Rattle.dns_rdata_base.specs.A
 pub use Rattle.dns_rdata_base.specs.AAAA
@@ -35,9 +35,9 @@ pub use Rattle.dns_rdata_certs.specs.SSHFP
 pub use Rattle.dns_rdata_certs.specs.TLSA
 pub use Rattle.dns_rdata_base.specs.TXT
 pub use Rattle.dns_rdata_options.specs.OPT
-pub use Rattle.dns_rdata_sets.specs.CAA
-pub use Rattle.dns_rdata_sets.specs.CSYNC
-pub use Rattle.dns_rdata_sets.specs.RecordTypeSet
+pub use Rattle.dns_rdata_caa_csync.specs.CAA
+pub use Rattle.dns_rdata_caa_csync.specs.CSYNC
+pub use Rattle.dns_rdata_caa_csync.specs.RecordTypeSet
 pub use Rattle.dns_rdata_service.specs.SvcParamKey
 pub use Rattle.dns_rdata_service.specs.SvcParamValue
 pub use Rattle.dns_rdata_service.specs.Parameters

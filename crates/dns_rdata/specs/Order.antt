@@ -1,4 +1,4 @@
--- The order of record data: by canonical octets, by type, by variant, and by the fields.
+-- The order of RDATA: by canonical octets, by type, by variant, and by the fields.
 use Rattle.std.specs.Prelude.{◌≡◌, ◌==◌, ℕ, IsTrue, not, List, [], ◌∷◌}
 use Rattle.std.specs.{Option.option_cmp, Ordering.on, Ordering.then_cmp, Ordering.nat_cmp, declared.cmp.Ordering.Ordering}
 use Rattle.std.specs.Cmp.{IsTotalOrder, then_total, on_total}
@@ -9,47 +9,50 @@ use Rattle.dns_types.specs.declared.record_type.RecordType.{RecordType}
 use Rattle.dns_types.specs.contracts.record_type.RecordTypeOrd.TheImpl as type_ord
 use Rattle.dns_types.specs.contracts.record_type.RecordTypeOrd.TheImpl.Laws as type_laws
 use Rattle.dns_rdata_options.specs.{Order.opt_cmp, OrderLaws.opt_total}
-use Rattle.dns_rdata.specs.{declared.record_data.RData.RData, Data.held, Data.place_in, Data.type_of, Data.data_octets, Data.Fills}
-use Rattle.dns_rdata.specs.Keys.{KeyRow, fields, options, rows}
+use Rattle.dns_rdata.specs.{declared.record_data.RData.RData, Data.held, Data.rank_in, Data.type_of, Data.data_octets, Data.Fills}
+use Rattle.dns_rdata.specs.Keys.{VariantKey, fields, options, variant_keys}
 
 abbrev pub record_type_cmp : RecordType → RecordType → Ordering
 record_type_cmp = type_ord.ghosts.cmp
 
-abbrev pub row_cmp : KeyRow → RData → RData → Ordering
-row_cmp (fields kinds held) = on held (option_cmp (values_cmp kinds))
-row_cmp (options held) = on held (option_cmp opt_cmp)
+abbrev pub variant_key_cmp : VariantKey → RData → RData → Ordering
+variant_key_cmp (fields kinds held) = on held (option_cmp (values_cmp kinds))
+variant_key_cmp (options held) = on held (option_cmp opt_cmp)
 
--- by the first row that differs, and then by type
-abbrev pub rows_cmp : List KeyRow → RData → RData → Ordering
-rows_cmp [] = on type_of record_type_cmp
-rows_cmp (row ∷ rest) = then_cmp (row_cmp row) (rows_cmp rest)
+-- by the first key that differs, and then by type
+abbrev pub keys_cmp : List VariantKey → RData → RData → Ordering
+keys_cmp [] = on type_of record_type_cmp
+keys_cmp (key ∷ rest) = then_cmp (variant_key_cmp key) (keys_cmp rest)
 
--- the place of the variant among all
+-- the rank of the variant
 abbrev pub rank : RData → ℕ
-rank v = place_in (held v)
+rank v = rank_in (held v)
 
 -- by variant as they are declared, and of one variant by the fields
 abbrev pub variants_cmp : RData → RData → Ordering
-variants_cmp = rows_cmp rows
+variants_cmp = keys_cmp variant_keys
 
 -- by canonical octets, then by type, then by variant, then by the fields
 abbrev pub rdata_cmp : RData → RData → Ordering
 rdata_cmp = then_cmp (on data_octets (slice_cmp nat_cmp)) (then_cmp (on type_of record_type_cmp) variants_cmp)
 
-row_total : (row : KeyRow) → IsTotalOrder (row_cmp row)
-row_total (fields kinds held) = on_total held (options_total (values_total kinds))
-row_total (options held) = on_total held (options_total opt_total)
+variant_key_total : (key : VariantKey) → IsTotalOrder (variant_key_cmp key)
+variant_key_total (fields kinds held) = on_total held (options_total (values_total kinds))
+variant_key_total (options held) = on_total held (options_total opt_total)
 
-rows_total : (given : List KeyRow) → IsTotalOrder (rows_cmp given)
-rows_total [] = on_total type_of type_laws.total-law
-rows_total (row ∷ rest) = then_total (row_total row) (rows_total rest)
+keys_total : (given : List VariantKey) → IsTotalOrder (keys_cmp given)
+keys_total [] = on_total type_of type_laws.total-law
+keys_total (key ∷ rest) = then_total (variant_key_total key) (keys_total rest)
 
 pub rdata_total : IsTotalOrder rdata_cmp
-rdata_total = then_total (on_total data_octets nat_list_cmp_total) (then_total (on_total type_of type_laws.total-law) (rows_total rows))
+rdata_total =
+    then_total (on_total data_octets nat_list_cmp_total)
+    (then_total (on_total type_of type_laws.total-law) (keys_total variant_keys))
 
 -- Two values that were read under one type are ordered by their canonical octets.
 abbrev pub OrdersRead : RData → RData → Ordering → Type 0
-OrdersRead v w answer = (t : RecordType) (m : List ℕ) (p n : ℕ) (m' : List ℕ) (p' n' : ℕ) → Fills m p n t v → Fills m' p' n' t w
+OrdersRead v w answer = (t : RecordType) (m : List ℕ) (p n : ℕ) (m' : List ℕ) (p' n' : ℕ) → Fills m p n t v
+    → Fills m' p' n' t w
     → answer ≡ slice_cmp nat_cmp (data_octets v) (data_octets w)
 
 -- they are of two variants

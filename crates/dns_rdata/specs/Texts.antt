@@ -1,9 +1,9 @@
--- The printed texts of record data.
+-- The display texts of RDATA.
 use Rattle.std.specs.Prelude.{ℕ, Option, Some, None, List, ⊤}
 use Rattle.dns_rdata.specs.{declared.record_data.RData.RData, Data.held, Data.text_in}
 use Rattle.dns_rdata.specs.declared.record_data.RData.TheVariants as rdata
 
--- the text of each value but those of OPT
+-- the text of each value, except those of OPT
 abbrev pub text_of : RData → List ℕ
 text_of v = text_in (held v)
 

@@ -1,4 +1,4 @@
--- `==` of record data holds exactly where its order answers Equal.
+-- `==` of RDATA is true exactly if its order is Equal.
 use Rattle.std.specs.Prelude.{◌≡◌, Bool, true, false, ◌&&◌, if◌then◌else◌, Option, Some, None, List, [], ◌∷◌, refl}
 use Rattle.std.proofs.Common.{ap, ◌∙◌, sym, true≢false, arith, ◌+◌, ◌*◌, ◌/◌, ◌%◌}
 use Rattle.std.specs.{Option.option_cmp, Option.option_eq, Ordering.nat_cmp, Ordering.is_eq, Ordering.ordering_then, declared.cmp.Ordering.Ordering}
@@ -13,24 +13,26 @@ use Rattle.dns_rdata_options.specs.{Order.opt_eq, Order.opt_cmp, OrderLaws.opt_t
 use Rattle.dns_rdata_options.proofs.Values.{opt_permutes}
 use Rattle.dns_rdata_service.specs.declared.svcb.SVCB.{SVCB}
 use Rattle.dns_rdata_service.proofs.OwnValues.{own_fields}
-use Rattle.dns_rdata_sets.specs.CAA.{critical_number}
+use Rattle.dns_rdata_caa_csync.specs.CAA.{critical_number}
 use Rattle.dns_rdata_base.specs as base
 use Rattle.dns_rdata_certs.specs as certs
 use Rattle.dns_rdata_options.specs as options
 use Rattle.dns_rdata_service.specs as service
-use Rattle.dns_rdata_sets.specs as sets
-use Rattle.dns_rdata.specs.{declared.record_data.RData.RData, Data.type_of, Data.octets_of, Data.data_octets, Keys.KeyRow, Keys.rows}
-use Rattle.dns_rdata.specs.Equal.{equal, record_type_eq, row_eq, rows_eq, types_equal}
-use Rattle.dns_rdata.specs.Order.{record_type_cmp, row_cmp, rows_cmp, rdata_cmp}
+use Rattle.dns_rdata_caa_csync.specs as caa_csync
+use Rattle.dns_rdata.specs.{declared.record_data.RData.RData, Data.type_of, Data.octets_of, Data.data_octets, Keys.VariantKey, Keys.variant_keys}
+use Rattle.dns_rdata.specs.Equal.{equal, record_type_eq, variant_key_eq, keys_eq, types_equal}
+use Rattle.dns_rdata.specs.Order.{record_type_cmp, variant_key_cmp, keys_cmp, rdata_cmp}
 use Rattle.dns_rdata.specs.declared.record_data.RData.TheVariants as rdata
 
 -- ---- equal fields have the same octets
 
-pub octets_same : (s : List Kind) (a b : Values s) → Same s a b → octets_of (record { kinds = s; values = a }) ≡ octets_of (record { kinds = s; values = b })
+pub octets_same : (s : List Kind) (a b : Values s) → Same s a b
+    → octets_of (record { kinds = s; values = a }) ≡ octets_of (record { kinds = s; values = b })
 octets_same s a b h = let e = emittable_same s a b h in let f = canonical_same s a b h in rw (e, f) refl
 
 -- of a variant whose fields are its keys
-octets_equal : (s : List Kind) (a b : Values s) → (values_eq s a b && true) ≡ true → octets_of (record { kinds = s; values = a }) ≡ octets_of (record { kinds = s; values = b })
+octets_equal : (s : List Kind) (a b : Values s) → (values_eq s a b && true) ≡ true
+    → octets_of (record { kinds = s; values = a }) ≡ octets_of (record { kinds = s; values = b })
 octets_equal s a b h = octets_same s a b (equal_same s a b (first_so (values_eq s a b) true h))
 
 -- ---- keys tell the fields
@@ -44,39 +46,92 @@ critical_same false false e = refl
 critical_same true false e = absurd (omega (arith, e))
 critical_same false true e = absurd (omega (arith, e))
 
-svcb_octets : (x y : SVCB) → (values_eq service.SVCB.svcb_key_shape (service.SVCB.svcb_keys x) (service.SVCB.svcb_keys y) && true) ≡ true
+svcb_octets : (x y : SVCB)
+    → (values_eq service.SVCB.svcb_key_shape (service.SVCB.svcb_keys x) (service.SVCB.svcb_keys y) && true) ≡ true
     → octets_of (record { kinds = service.SVCB.svcb_shape; values = service.SVCB.svcb_fields x })
     ≡ octets_of (record { kinds = service.SVCB.svcb_shape; values = service.SVCB.svcb_fields y })
-svcb_octets x y h = let s = same_keys service.SVCB.svcb_key_shape (service.SVCB.svcb_keys x) (service.SVCB.svcb_keys y) h in
-    octets_same service.SVCB.svcb_shape (service.SVCB.svcb_fields x) (service.SVCB.svcb_fields y) (s.0, (s.1.0, (record { is = own_fields x.svc_params y.svc_params s.1.1.0.is }, tt)))
+svcb_octets x y h =
+    let s = same_keys service.SVCB.svcb_key_shape (service.SVCB.svcb_keys x) (service.SVCB.svcb_keys y) h in
+    octets_same service.SVCB.svcb_shape (service.SVCB.svcb_fields x) (service.SVCB.svcb_fields y)
+    (s.0, (s.1.0, (record { is = own_fields x.svc_params y.svc_params s.1.1.0.is }, tt)))
 
 -- ---- equal values have the same octets
 
 pub same_octets : (v w : RData) → equal v w ≡ true → data_octets v ≡ data_octets w
 same_octets (rdata.A x) (rdata.A y) h = octets_equal base.A.a_shape (base.A.a_fields x) (base.A.a_fields y) h
-same_octets (rdata.AAAA x) (rdata.AAAA y) h = octets_equal base.AAAA.aaaa_shape (base.AAAA.aaaa_fields x) (base.AAAA.aaaa_fields y) h
-same_octets (rdata.ANAME x) (rdata.ANAME y) h = octets_equal base.NameRecords.name_shape (base.NameRecords.aname_fields x) (base.NameRecords.aname_fields y) h
-same_octets (rdata.CAA x) (rdata.CAA y) h = let s = same_keys sets.CAA.caa_key_shape (sets.CAA.caa_keys x) (sets.CAA.caa_keys y) h in octets_same sets.CAA.caa_shape (sets.CAA.caa_fields x) (sets.CAA.caa_fields y) (record { is = λ i. s.1.0.is i % 128 + (if critical_same x.issuer_critical y.issuer_critical s.0.is i then 128 else 0) }, (s.1.1.0, (s.1.1.1.0, tt)))
-same_octets (rdata.CERT x) (rdata.CERT y) h = let s = same_keys certs.CERT.cert_key_shape (certs.CERT.cert_keys x) (certs.CERT.cert_keys y) h in octets_same certs.CERT.cert_shape (certs.CERT.cert_fields x) (certs.CERT.cert_fields y) (s.0, (s.1.1.0, (s.1.1.1.0, (s.1.1.1.1.1.0, tt))))
-same_octets (rdata.CNAME x) (rdata.CNAME y) h = octets_equal base.NameRecords.name_shape (base.NameRecords.cname_fields x) (base.NameRecords.cname_fields y) h
-same_octets (rdata.CSYNC x) (rdata.CSYNC y) h = let s = same_keys sets.CSYNC.csync_key_shape (sets.CSYNC.csync_keys x) (sets.CSYNC.csync_keys y) h in octets_same sets.CSYNC.csync_shape (sets.CSYNC.csync_fields x) (sets.CSYNC.csync_fields y) (s.0, (record { is = λ i. s.1.1.1.0.is i / 4 * 4 + 2 * s.1.1.0.is i + s.1.0.is i }, (s.1.1.1.1.0, tt)))
-same_octets (rdata.HINFO x) (rdata.HINFO y) h = octets_equal base.HINFO.hinfo_shape (base.HINFO.hinfo_fields x) (base.HINFO.hinfo_fields y) h
+same_octets (rdata.AAAA x) (rdata.AAAA y) h =
+    octets_equal base.AAAA.aaaa_shape (base.AAAA.aaaa_fields x) (base.AAAA.aaaa_fields y) h
+same_octets (rdata.ANAME x) (rdata.ANAME y) h =
+    octets_equal base.NameRecords.name_shape (base.NameRecords.aname_fields x) (base.NameRecords.aname_fields y) h
+same_octets (rdata.CAA x) (rdata.CAA y) h =
+    let s = same_keys caa_csync.CAA.caa_key_shape (caa_csync.CAA.caa_keys x) (caa_csync.CAA.caa_keys y) h in
+    octets_same caa_csync.CAA.caa_shape (caa_csync.CAA.caa_fields x) (caa_csync.CAA.caa_fields y) (
+      record {
+        is = λ i. s.1.0.is i % 128
+            + (if critical_same x.issuer_critical y.issuer_critical s.0.is i then 128 else 0);
+      },
+      (s.1.1.0, (s.1.1.1.0, tt)),
+    )
+same_octets (rdata.CERT x) (rdata.CERT y) h =
+    let s = same_keys certs.CERT.cert_key_shape (certs.CERT.cert_keys x) (certs.CERT.cert_keys y) h in
+    octets_same certs.CERT.cert_shape (certs.CERT.cert_fields x) (certs.CERT.cert_fields y)
+    (s.0, (s.1.1.0, (s.1.1.1.0, (s.1.1.1.1.1.0, tt))))
+same_octets (rdata.CNAME x) (rdata.CNAME y) h =
+    octets_equal base.NameRecords.name_shape (base.NameRecords.cname_fields x) (base.NameRecords.cname_fields y) h
+same_octets (rdata.CSYNC x) (rdata.CSYNC y) h =
+    let s = same_keys caa_csync.CSYNC.csync_key_shape (caa_csync.CSYNC.csync_keys x) (caa_csync.CSYNC.csync_keys y) h in
+    octets_same caa_csync.CSYNC.csync_shape (caa_csync.CSYNC.csync_fields x) (caa_csync.CSYNC.csync_fields y)
+    (s.0, (record { is = λ i. s.1.1.1.0.is i / 4 * 4 + 2 * s.1.1.0.is i + s.1.0.is i }, (s.1.1.1.1.0, tt)))
+same_octets (rdata.HINFO x) (rdata.HINFO y) h =
+    octets_equal base.HINFO.hinfo_shape (base.HINFO.hinfo_fields x) (base.HINFO.hinfo_fields y) h
 same_octets (rdata.HTTPS x) (rdata.HTTPS y) h = svcb_octets x.0 y.0 h
-same_octets (rdata.MX x) (rdata.MX y) h = octets_equal base.NameRecords.mx_facts.kinds (base.NameRecords.mx_facts.fields x) (base.NameRecords.mx_facts.fields y) h
-same_octets (rdata.NAPTR x) (rdata.NAPTR y) h = octets_equal base.NAPTR.naptr_shape (base.NAPTR.naptr_fields x) (base.NAPTR.naptr_fields y) h
-same_octets (rdata.NULL x) (rdata.NULL y) h = octets_equal base.NULL.null_shape (base.NULL.null_fields x) (base.NULL.null_fields y) h
-same_octets (rdata.NS x) (rdata.NS y) h = octets_equal base.NameRecords.name_shape (base.NameRecords.ns_fields x) (base.NameRecords.ns_fields y) h
-same_octets (rdata.OPENPGPKEY x) (rdata.OPENPGPKEY y) h = octets_equal base.OPENPGPKEY.openpgpkey_shape (base.OPENPGPKEY.openpgpkey_fields x) (base.OPENPGPKEY.openpgpkey_fields y) h
-same_octets (rdata.OPT x) (rdata.OPT y) h = octets_same options.OPT.opt_shape (options.OPT.opt_fields x) (options.OPT.opt_fields y) (record { is = IsPermutation-map options.OPT.pair_value x y ((opt_permutes x y).0 (first_so (opt_eq x y) true h)) }, tt)
-same_octets (rdata.PTR x) (rdata.PTR y) h = octets_equal base.NameRecords.name_shape (base.NameRecords.ptr_fields x) (base.NameRecords.ptr_fields y) h
-same_octets (rdata.SMIMEA x) (rdata.SMIMEA y) h = let s = same_keys certs.SMIMEA.smimea_key_shape (certs.SMIMEA.smimea_keys x) (certs.SMIMEA.smimea_keys y) h in octets_same certs.SMIMEA.smimea_shape (certs.SMIMEA.smimea_fields x) (certs.SMIMEA.smimea_fields y) (s.0, (s.1.1.0, (s.1.1.1.1.0, (s.1.1.1.1.1.1.0, tt))))
-same_octets (rdata.SOA x) (rdata.SOA y) h = octets_equal base.SOA.soa_shape (base.SOA.soa_fields x) (base.SOA.soa_fields y) h
-same_octets (rdata.SRV x) (rdata.SRV y) h = octets_equal base.NameRecords.srv_facts.kinds (base.NameRecords.srv_facts.fields x) (base.NameRecords.srv_facts.fields y) h
-same_octets (rdata.SSHFP x) (rdata.SSHFP y) h = let s = same_keys certs.SSHFP.sshfp_key_shape (certs.SSHFP.sshfp_keys x) (certs.SSHFP.sshfp_keys y) h in octets_same certs.SSHFP.sshfp_shape (certs.SSHFP.sshfp_fields x) (certs.SSHFP.sshfp_fields y) (s.0, (s.1.1.0, (s.1.1.1.1.0, tt)))
+same_octets (rdata.MX x) (rdata.MX y) h =
+    octets_equal base.NameRecords.mx_facts.kinds (base.NameRecords.mx_facts.fields x)
+    (base.NameRecords.mx_facts.fields y) h
+same_octets (rdata.NAPTR x) (rdata.NAPTR y) h =
+    octets_equal base.NAPTR.naptr_shape (base.NAPTR.naptr_fields x) (base.NAPTR.naptr_fields y) h
+same_octets (rdata.NULL x) (rdata.NULL y) h =
+    octets_equal base.NULL.null_shape (base.NULL.null_fields x) (base.NULL.null_fields y) h
+same_octets (rdata.NS x) (rdata.NS y) h =
+    octets_equal base.NameRecords.name_shape (base.NameRecords.ns_fields x) (base.NameRecords.ns_fields y) h
+same_octets (rdata.OPENPGPKEY x) (rdata.OPENPGPKEY y) h =
+    octets_equal base.OPENPGPKEY.openpgpkey_shape (base.OPENPGPKEY.openpgpkey_fields x)
+    (base.OPENPGPKEY.openpgpkey_fields y) h
+same_octets (rdata.OPT x) (rdata.OPT y) h =
+    octets_same options.OPT.opt_shape (options.OPT.opt_fields x) (options.OPT.opt_fields y) (
+      record {
+        is = IsPermutation-map options.OPT.pair_value x y
+            ((opt_permutes x y).0 (first_so (opt_eq x y) true h));
+      },
+      tt,
+    )
+same_octets (rdata.PTR x) (rdata.PTR y) h =
+    octets_equal base.NameRecords.name_shape (base.NameRecords.ptr_fields x) (base.NameRecords.ptr_fields y) h
+same_octets (rdata.SMIMEA x) (rdata.SMIMEA y) h =
+    let s = same_keys certs.SMIMEA.smimea_key_shape (certs.SMIMEA.smimea_keys x) (certs.SMIMEA.smimea_keys y) h in
+    octets_same certs.SMIMEA.smimea_shape (certs.SMIMEA.smimea_fields x) (certs.SMIMEA.smimea_fields y)
+    (s.0, (s.1.1.0, (s.1.1.1.1.0, (s.1.1.1.1.1.1.0, tt))))
+same_octets (rdata.SOA x) (rdata.SOA y) h =
+    octets_equal base.SOA.soa_shape (base.SOA.soa_fields x) (base.SOA.soa_fields y) h
+same_octets (rdata.SRV x) (rdata.SRV y) h =
+    octets_equal base.NameRecords.srv_facts.kinds (base.NameRecords.srv_facts.fields x)
+    (base.NameRecords.srv_facts.fields y) h
+same_octets (rdata.SSHFP x) (rdata.SSHFP y) h =
+    let s = same_keys certs.SSHFP.sshfp_key_shape (certs.SSHFP.sshfp_keys x) (certs.SSHFP.sshfp_keys y) h in
+    octets_same certs.SSHFP.sshfp_shape (certs.SSHFP.sshfp_fields x) (certs.SSHFP.sshfp_fields y)
+    (s.0, (s.1.1.0, (s.1.1.1.1.0, tt)))
 same_octets (rdata.SVCB x) (rdata.SVCB y) h = svcb_octets x y h
-same_octets (rdata.TLSA x) (rdata.TLSA y) h = let s = same_keys certs.TLSA.tlsa_key_shape (certs.TLSA.tlsa_keys x) (certs.TLSA.tlsa_keys y) h in octets_same certs.TLSA.tlsa_shape (certs.TLSA.tlsa_fields x) (certs.TLSA.tlsa_fields y) (s.0, (s.1.1.0, (s.1.1.1.1.0, (s.1.1.1.1.1.1.0, tt))))
-same_octets (rdata.TXT x) (rdata.TXT y) h = octets_equal base.TXT.txt_shape (base.TXT.txt_fields x) (base.TXT.txt_fields y) h
-same_octets (rdata.Unknown a x) (rdata.Unknown b y) h = octets_same base.NULL.null_shape (base.NULL.null_fields x) (base.NULL.null_fields y) (equal_same base.NULL.null_shape (base.NULL.null_fields x) (base.NULL.null_fields y) (first_so (values_eq base.NULL.null_shape (base.NULL.null_fields x) (base.NULL.null_fields y)) (record_type_eq a b) h))
+same_octets (rdata.TLSA x) (rdata.TLSA y) h =
+    let s = same_keys certs.TLSA.tlsa_key_shape (certs.TLSA.tlsa_keys x) (certs.TLSA.tlsa_keys y) h in
+    octets_same certs.TLSA.tlsa_shape (certs.TLSA.tlsa_fields x) (certs.TLSA.tlsa_fields y)
+    (s.0, (s.1.1.0, (s.1.1.1.1.0, (s.1.1.1.1.1.1.0, tt))))
+same_octets (rdata.TXT x) (rdata.TXT y) h =
+    octets_equal base.TXT.txt_shape (base.TXT.txt_fields x) (base.TXT.txt_fields y) h
+same_octets (rdata.Unknown a x) (rdata.Unknown b y) h =
+    octets_same base.NULL.null_shape (base.NULL.null_fields x) (base.NULL.null_fields y)
+    (equal_same base.NULL.null_shape (base.NULL.null_fields x) (base.NULL.null_fields y)
+    (first_so (values_eq base.NULL.null_shape (base.NULL.null_fields x) (base.NULL.null_fields y))
+    (record_type_eq a b) h))
 same_octets (rdata.Update0 t) (rdata.Update0 u) h = refl
 same_octets rdata.ZERO rdata.ZERO h = refl
 same_octets v w h = absurd (true≢false (sym h))
@@ -84,22 +139,26 @@ same_octets v w h = absurd (true≢false (sym h))
 pub equal_is : (r : Ordering) → is_eq r ≡ true → r ≡ Equal
 equal_is r = (Equal-is r).0
 
--- ---- the fields tie exactly where they are equal
+-- ---- the fields tie exactly if they are equal
 
-options_tie : {X : Type 0} (e : X → X → Bool) (c : X → X → Ordering) → ((x y : X) → e x y ≡ is_eq (c x y)) → (a b : Option X) → option_eq e a b ≡ is_eq (option_cmp c a b)
+options_tie : {X : Type 0} (e : X → X → Bool) (c : X → X → Ordering) → ((x y : X) → e x y ≡ is_eq (c x y))
+    → (a b : Option X) → option_eq e a b ≡ is_eq (option_cmp c a b)
 options_tie e c h None None = refl
 options_tie e c h (Some x) (Some y) = h x y
 options_tie e c h a b = refl
 
-row_ties : (row : KeyRow) (v w : RData) → row_eq row v w ≡ is_eq (row_cmp row v w)
-row_ties (KeyRow.fields kinds held) v w = options_tie (values_eq kinds) (values_cmp kinds) (values_ties kinds) (held v) (held w)
-row_ties (KeyRow.options held) v w = options_tie opt_eq opt_cmp opt_ties (held v) (held w)
+variant_key_ties : (key : VariantKey) (v w : RData) → variant_key_eq key v w ≡ is_eq (variant_key_cmp key v w)
+variant_key_ties (VariantKey.fields kinds held) v w =
+    options_tie (values_eq kinds) (values_cmp kinds) (values_ties kinds) (held v) (held w)
+variant_key_ties (VariantKey.options held) v w = options_tie opt_eq opt_cmp opt_ties (held v) (held w)
 
-rows_tie : (given : List KeyRow) (v w : RData) → rows_eq given v w ≡ is_eq (rows_cmp given v w)
-rows_tie [] v w = type_laws.matches_eq-law (type_of v) (type_of w)
-rows_tie (row ∷ rest) v w = both_tied (row_eq row v w) (rows_eq rest v w) (row_cmp row v w) (rows_cmp rest v w) (row_ties row v w) (rows_tie rest v w)
+keys_tie : (given : List VariantKey) (v w : RData) → keys_eq given v w ≡ is_eq (keys_cmp given v w)
+keys_tie [] v w = type_laws.matches_eq-law (type_of v) (type_of w)
+keys_tie (key ∷ rest) v w =
+    both_tied (variant_key_eq key v w) (keys_eq rest v w) (variant_key_cmp key v w) (keys_cmp rest v w)
+    (variant_key_ties key v w) (keys_tie rest v w)
 
--- what is equal ties in front, too
+-- what is equal ties in the earlier comparison, too
 tie_case : (e : Bool) (c t : Ordering) → e ≡ is_eq t → (e ≡ true → c ≡ Equal) → e ≡ is_eq (ordering_then c t)
 tie_case e Equal t h k = h
 tie_case false c t h k = refl
@@ -108,6 +167,8 @@ tie_case true c t h k = ap is_eq (sym (k refl))
 pub rdata_ties : (v w : RData) → equal v w ≡ is_eq (rdata_cmp v w)
 rdata_ties v w =
     tie_case (equal v w) (slice_cmp nat_cmp (data_octets v) (data_octets w)) _
-    (tie_case (equal v w) (record_type_cmp (type_of v) (type_of w)) _ (rows_tie rows v w)
-    (λ h. equal_is (record_type_cmp (type_of v) (type_of w)) (sym (type_laws.matches_eq-law (type_of v) (type_of w)) ∙ types_equal rows v w h)))
-    (λ h. ap (slice_cmp nat_cmp (data_octets v)) (sym (same_octets v w h)) ∙ tied_itself nat_list_cmp_total (data_octets v))
+    (tie_case (equal v w) (record_type_cmp (type_of v) (type_of w)) _ (keys_tie variant_keys v w)
+    (λ h. equal_is (record_type_cmp (type_of v) (type_of w))
+    (sym (type_laws.matches_eq-law (type_of v) (type_of w)) ∙ types_equal variant_keys v w h)))
+    (λ h. ap (slice_cmp nat_cmp (data_octets v)) (sym (same_octets v w h))
+    ∙ tied_itself nat_list_cmp_total (data_octets v))

@@ -1,24 +1,24 @@
 //! Canonical octets, one after the other.
 
 ghost use Rattle.std.specs.Prelude.{◌≡◌, ◌↔◌, ℕ, IsTrue, [], if◌then◌else◌, slice_get};
-ghost use Rattle.dns_pieces.specs.{Steps.GivesStep};
+ghost use Rattle.dns_canonical.specs.{Steps.GivesStep};
 ghost use Rattle.dns_rdata.specs.Data.{data_octets, IsEmittable};
 ghost use Rattle.dns_rdata.specs.Cursor.{can_emit, data_left, data_windows, data_options, data_course, IsUncounted, DataAt};
 
 use crate::record_data::RData;
 use crate::traits::RecordData;
-use dns_pieces::{Count, Cursor, Head, Step, Stepped, whole_step};
+use dns_canonical::{Count, Cursor, Head, Step, Stepped, whole_step};
 use dns_rdata_base::rest::rest_step;
-use dns_rdata_base::steps::{
+use dns_rdata_base::{
     hinfo_is_emittable, hinfo_step, name_step, naptr_is_emittable, naptr_step, soa_step,
     txt_is_emittable, txt_step,
 };
+use dns_rdata_caa_csync::{caa_is_emittable, caa_step, csync_step};
 use dns_rdata_options::heads::Heads;
 use dns_rdata_options::steps::{opt_is_emittable, opt_step_kept};
 use dns_rdata_service::steps::{https_step, svcb_is_emittable, svcb_step};
-use dns_rdata_sets::steps::{caa_is_emittable, caa_step, csync_step};
 
-// The step of a record, as that of the value that holds it.
+// For the proof: the step of a record is the step of the value that holds it.
 #[inline(always)]
 fn of_value<'a, T: RecordData>(
     value: &T,
@@ -38,8 +38,8 @@ fn of_value<'a, T: RecordData>(
 }
 
 impl RData {
-    // The step behind a place of a record whose steps are not counted.
-    fn plain_step<'a>(
+    // The step after a position of a record whose steps are not counted.
+    fn uncounted_step<'a>(
         &'a self,
         step: usize,
         part: usize,
@@ -47,7 +47,7 @@ impl RData {
         head: &mut Head,
     ) -> Option<Step<'a>>
         requires empty { head.old ≡ [] }
-        requires plain { IsUncounted self.now }
+        requires uncounted { IsUncounted self.now }
         requires at { DataAt self.now step part item }
         ensures { GivesStep (data_left self.now) step part item head.new result }
     {
@@ -112,7 +112,7 @@ impl RData {
         ensures taken { result.taken ≡ 0 }
         ensures choices { result.choices ≡ 0 }
         ensures passes { result.passes ≡ 0 }
-        // Its options and its windows, where it can be emitted.
+        // Its options and its bitmap windows, if it can be emitted.
         ensures options { result.options ≡ (if can_emit self.now then data_options self.now else 0) }
         ensures all { result.all_options ≡ (if can_emit self.now then data_options self.now else 0) }
         ensures windows { result.windows ≡ (if can_emit self.now then data_windows self.now 0 0 else 0) }
@@ -124,11 +124,11 @@ impl RData {
     /// before the offset one by one, so a loop over all octets is for [`RData::canonical_octets`]. The time is linear
     /// in the offset; where the options of a record are in no order, each option before the offset takes up to some
     /// hundred comparisons more, and up to 190 where there are fewer than 96 options.
-    pub fn octet_at(&self, place: u128) -> Option<u8>
-        ensures { result ≡ slice_get (data_octets self.now) place }
+    pub fn octet_at(&self, index: u128) -> Option<u8>
+        ensures { result ≡ slice_get (data_octets self.now) index }
     {
         let mut octets = self.canonical_octets();
-        let mut left = place;
+        let mut left = index;
         'octets: while let Some(octet) = octets.next() {
             if left == 0 {
                 return Some(octet);
@@ -158,7 +158,7 @@ impl Stepped for RData {
         match self {
             RData::CSYNC(x) => return csync_step(x, step, part, head, passes),
             RData::OPT(x) => return opt_step_kept(x, step, part, item, heads, head, choices),
-            _ => return self.plain_step(step, part, item, head),
+            _ => return self.uncounted_step(step, part, item, head),
         }
     }
 }

@@ -1,7 +1,7 @@
 //! Matches over the records.
 
-// Calls a macro with the arguments in front of the types that have a record of their own, each with its place among the
-// variants.
+// Calls a macro with the arguments, and after them the types that have a record of their own, each with the rank of its
+// variant.
 macro_rules! with_records {
     ($macro:ident, $arguments:tt) => {
         $macro!(
@@ -12,9 +12,9 @@ macro_rules! with_records {
     };
 }
 
-// Matches a value: the arms that are given first, and then one for each record, all with the same body.
+// Matches a value: first the given arms, then one for each record, all with the same body.
 macro_rules! each {
-    (($value:expr, $x:ident => $body:expr, $($pattern:pat => $other:expr,)+) $(($record:ident $place:literal))+) => {
+    (($value:expr, $x:ident => $body:expr, $($pattern:pat => $other:expr,)+) $(($record:ident $rank:literal))+) => {
         match $value {
             $($pattern => $other,)+
             $(RData::$record($x) => $body,)+
@@ -25,8 +25,8 @@ macro_rules! each {
     };
 }
 
-// Matches two values: the arms that are given first, and then one for two records of each type that is named. The first
-// types are compared by a call, the others in place.
+// Matches two values: first the given arms, then one for two records of each named type. The first types are compared
+// by a call, the others inline.
 macro_rules! equal_each {
     ($values:expr, [$($called:ident)+], [$($record:ident)+], $($pattern:pat => $other:expr),+; $last:expr) => {
         match $values {
@@ -38,12 +38,12 @@ macro_rules! equal_each {
     };
 }
 
-// Matches the type of the data: the arms that are given first, and then one for each record, which reads it, counts the
-// octets that were taken, and returns.
+// Matches the type: first the given arms, then one for each record, which reads the RDATA, compares the number of
+// octets that were read with RDLENGTH, and returns.
 macro_rules! read_each {
     (
         ($record_type:expr, $decoder:ident, $start:ident, $length:ident, $($pattern:pat => $other:expr),+; $code:ident => $last:expr)
-        $(($record:ident $place:literal))+
+        $(($record:ident $rank:literal))+
     ) => {
         match $record_type {
             $($pattern => $other,)+
@@ -59,12 +59,11 @@ macro_rules! read_each {
     };
 }
 
-// Matches the type of the data: the arms that are given first, and then one for each record, which reads it, keeps no
-// value, and returns.
+// Matches the type: first the given arms, then one for each record, which reads the RDATA, keeps no value, and returns.
 macro_rules! own_each {
     (
         ($record_type:expr, $decoder:ident, $length:ident, $($pattern:pat => $other:expr),+; $last:expr)
-        $(($record:ident $place:literal))+
+        $(($record:ident $rank:literal))+
     ) => {
         match $record_type {
             $($pattern => $other,)+
@@ -80,9 +79,9 @@ macro_rules! own_each {
     };
 }
 
-// Copies a value: the arms that are given first, and then one for each record. Addresses are copied as they are.
+// Clones a value: first the given arms, then one for each record. Addresses are copied.
 macro_rules! clone_each {
-    (($value:expr, $($pattern:pat => $other:expr,)+) (A 0) (AAAA 1) $(($record:ident $place:literal))+) => {
+    (($value:expr, $($pattern:pat => $other:expr,)+) (A 0) (AAAA 1) $(($record:ident $rank:literal))+) => {
         match $value {
             $($pattern => $other,)+
             RData::A(a) => return Ok(RData::A(*a)),

@@ -5,8 +5,8 @@ pub mod canonical;
 mod each;
 pub mod order;
 pub mod record_data;
+mod tokens;
 pub mod traits;
-mod words;
 
 pub use canonical::CanonicalOctets;
 pub use dns_names_wire::{
@@ -16,15 +16,51 @@ pub use dns_names_wire::{
 };
 pub use dns_rdata_base::{
     A, AAAA, ANAME, CNAME, HINFO, MX, NAPTR, NS, NULL, OPENPGPKEY, PTR, RecordDataDecodable, SOA,
-    SRV, TXT, TakesOctet, a, aaaa, hinfo, mx, name, naptr, null, openpgpkey, soa, srv, txt,
-    verify_flags,
+    SRV, TXT, TakesOctet, a, aaaa, mx, null, openpgpkey, srv, verify_flags,
 };
+pub use dns_rdata_caa_csync::{CAA, CSYNC, RecordTypeSet, record_type_set};
 pub use dns_rdata_certs::{CERT, HEX, SMIMEA, SSHFP, TLSA, cert, smimea, sshfp, tlsa};
 pub use dns_rdata_options::{OPT, opt};
 pub use dns_rdata_service::{HTTPS, Items, SVCB, https, items, svcb};
-pub use dns_rdata_sets::{CAA, CSYNC, RecordTypeSet, caa, csync, record_type_set};
 pub use dns_text::{Lexer, Token};
+pub use dns_tokens::{FromTokens, TokenList};
 pub use dns_types::Strings;
-pub use dns_words::{FromTokens, WordList};
 pub use record_data::RData;
 pub use traits::RecordData;
+
+// Modules of records that share their file with functions for this crate alone.
+
+/// CAA and the values of its properties.
+pub mod caa {
+    pub use dns_rdata_caa_csync::caa::{CAA, KeyValue, read_iodef, read_issuer};
+}
+
+/// CSYNC.
+pub mod csync {
+    pub use dns_rdata_caa_csync::CSYNC;
+}
+
+/// HINFO.
+pub mod hinfo {
+    pub use dns_rdata_base::HINFO;
+}
+
+/// The records that are a name.
+pub mod name {
+    pub use dns_rdata_base::{ANAME, CNAME, NS, PTR};
+}
+
+/// NAPTR.
+pub mod naptr {
+    pub use dns_rdata_base::{NAPTR, verify_flags};
+}
+
+/// SOA.
+pub mod soa {
+    pub use dns_rdata_base::SOA;
+}
+
+/// TXT.
+pub mod txt {
+    pub use dns_rdata_base::TXT;
+}

@@ -1,4 +1,4 @@
-//! The order of record data.
+//! The order of RDATA.
 
 ghost use Rattle.std.specs.Prelude.{◌≡◌, ◌&&◌, true, refl};
 ghost use Rattle.std.specs.{Cmp.Lexicographic.slice_cmp, Ordering.nat_cmp};
@@ -11,7 +11,7 @@ use crate::traits::RecordData;
 use dns_rdata_base::ordered::OrderedRecord;
 use std::cmp::Ordering;
 
-// The order of two records, as that of the values that hold them.
+// The order of two records, which is that of the values that hold them.
 #[inline(always)]
 fn of_values<T: OrderedRecord + RecordData>(a: &T, b: &T) -> Option<Ordering>
     requires first { fields_of (T.wrapped a.now) ≡ fields_by T.facts a.now }
@@ -19,12 +19,12 @@ fn of_values<T: OrderedRecord + RecordData>(a: &T, b: &T) -> Option<Ordering>
     requires equal { equal (T.wrapped a.now) (T.wrapped b.now) ≡ (T.eq a.now b.now && true) }
     ensures { TellsOrder result (T.wrapped a.now) (T.wrapped b.now) }
 {
-    a.quick_cmp(b)
+    a.cmp_canonical_fields(b)
 }
 
-// Matches two values: one arm for two records of each type, all with the same body, and then the arms that are given.
+// Matches two values: one arm for two records of each type, all with the same body, then the given arms.
 macro_rules! each_two {
-    (($values:expr, $a:ident, $b:ident => $body:expr, $($pattern:pat => $other:expr,)+) $(($record:ident $place:literal))+) => {
+    (($values:expr, $a:ident, $b:ident => $body:expr, $($pattern:pat => $other:expr,)+) $(($record:ident $rank:literal))+) => {
         match $values {
             $((RData::$record($a), RData::$record($b)) => $body,)+
             $($pattern => $other,)+
@@ -35,11 +35,11 @@ macro_rules! each_two {
     };
 }
 
-// The place of a variant among all.
-macro_rules! place_of {
-    (($value:expr) $(($record:ident $place:literal))+) => {
+// The rank of the variant.
+macro_rules! rank_of {
+    (($value:expr) $(($record:ident $rank:literal))+) => {
         match $value {
-            $(RData::$record(_) => $place,)+
+            $(RData::$record(_) => $rank,)+
             RData::Unknown { .. } => 23,
             RData::Update0(_) => 24,
             RData::ZERO => 25,
@@ -48,29 +48,29 @@ macro_rules! place_of {
 }
 
 impl RData {
-    // The place of the variant among all.
+    // The rank of the variant.
     #[inline]
     fn rank(&self) -> u8
         ensures { result ≡ rank self.now }
     {
-        with_records!(place_of, (self))
+        with_records!(rank_of, (self))
     }
 
-    // The order of two values of one variant, where their fields tell it without a cursor.
+    // The order of two values of one variant, if their fields tell it without a cursor.
     #[inline]
     #[tactic(auto, unfolding(crate::specs::QuickOrders::TellsOrder))]
-    fn quick_cmp(&self, other: &RData) -> Option<Ordering>
+    fn cmp_canonical_fields(&self, other: &RData) -> Option<Ordering>
         ensures { TellsOrder result self.now other.now }
     {
         each_two!((self, other), a, b => of_values(a, b), _ => None,)
     }
 
     // The order of two values by variant, and then by their fields; of unknown data by octets and then by type.
-    #[tactic(auto, using(dns_pieces::proofs::Comparing::then_equal))]
-    fn cmp_fields(&self, other: &RData) -> Ordering
+    #[tactic(auto, using(dns_canonical::proofs::Comparing::then_equal))]
+    fn cmp_values(&self, other: &RData) -> Ordering
         ensures { result ≡ variants_cmp self.now other.now }
     {
-        each_two!((self, other), a, b => OrderedRecord::cmp_fields(a, b),
+        each_two!((self, other), a, b => OrderedRecord::cmp_values(a, b),
             (
                 RData::Unknown { code, rdata },
                 RData::Unknown { code: other_code, rdata: other_rdata },
@@ -81,7 +81,7 @@ impl RData {
         )
     }
 
-    // The order of two values of different variants, by the place of the variant.
+    // The order of two values of different variants, by rank.
     fn cmp_ranks(&self, other: &RData) -> Ordering
         requires { Differ self.now other.now }
         ensures { result ≡ variants_cmp self.now other.now }
@@ -89,13 +89,13 @@ impl RData {
         self.rank().cmp(&other.rank())
     }
 
-    // The order of two values that the fields do not tell without a cursor: by the canonical octets, then by type, then
-    // by variant, then by the fields. A call, so that only such values take the room of two cursors.
+    // The order of two values whose fields do not tell it without a cursor: by canonical octets, then by type, then by
+    // variant, then by fields. Not inlined, so that only such values need stack for two cursors.
     #[inline(never)]
     fn cmp_octets(&self, other: &RData) -> Ordering
         ensures { result ≡ rdata_cmp self.now other.now }
     {
-        // Equal values are found out sooner by `==` than by two cursors.
+        // `==` finds equal values sooner than two cursors do.
         if self == other {
             return Ordering::Equal;
         }
@@ -109,15 +109,15 @@ impl RData {
         if types.is_ne() {
             return types;
         }
-        self.cmp_fields(other)
+        self.cmp_values(other)
     }
 
-    // The whole order.
+    // The order of any two values.
     #[tactic(auto, unfolding(crate::specs::QuickOrders::TellsOrder))]
     fn cmp_all(&self, other: &RData) -> Ordering
         ensures { result ≡ rdata_cmp self.now other.now }
     {
-        if let Some(order) = self.quick_cmp(other) {
+        if let Some(order) = self.cmp_canonical_fields(other) {
             return order;
         }
         self.cmp_octets(other)

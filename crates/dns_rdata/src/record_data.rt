@@ -1,15 +1,15 @@
-//! The data of a record of any type.
+//! RDATA of any type.
 
 ghost use Rattle.std.specs.Prelude.{◌≡◌, ◌≢◌, ◌&&◌, ◌+◌, ◌-◌, ◌<◌, ◌++◌, ◌↔◌, ℕ, List, length as size, IsTrue, Some, None, Result, Err, IfOk, IfErr, OnOk};
 ghost use Rattle.std.specs.{Cmp.partial_equiv_from_equiv, Fmt.DisplaysOnOk, Fmt.DisplaysStyledOnOk};
 ghost use Rattle.dns_fields.specs.Equal.{values_eq};
 ghost use Rattle.dns_types.specs.{RecordTypes.number_of, declared.error.ProtoError.ProtoError as ProtoErrorValue};
-ghost use Rattle.dns_names_wire.specs.{State.Writing, Words.StaysBehind, Words.UnlessMemory, Words.EmitsAs, Words.Extends, Words.Keeps, Words.IsMessage};
+ghost use Rattle.dns_names_wire.specs.{State.Writing, Terms.StaysBehind, Terms.UnlessMemory, Terms.EmitsAs, Terms.Extends, Terms.Keeps, Terms.IsMessage};
 ghost use Rattle.dns_rdata_base.specs.NULL.{null_shape, null_fields};
 ghost use Rattle.dns_rdata.specs.Data.{Fills, HasValue, NoValue, EmitsData, IsEmittable, IsNeverRead, data_octets, fields_of, mode_for, type_of};
 ghost use Rattle.dns_rdata.specs.{Equal.equal, Equal.equal_equiv, Equal.record_type_eq, Hashing.data_fed, Hashing.fed_same, Laws.ReadsBack, Laws.ReadsCanonical};
 ghost use Rattle.std.specs.Option.{option_copied};
-ghost use Rattle.dns_rdata.specs.Refusals.{IsRefusal, OwnResult, without};
+ghost use Rattle.dns_rdata.specs.ReadErrors.{IsReadError, OwnResult, without};
 ghost use Rattle.dns_rdata.specs.{Laws.TellsApart, Laws.address_of, Laws.target_of, Texts.HasText, Texts.data_text, WholeOctets.whole_data};
 ghost use Rattle.dns_rdata.specs.declared.record_data.RData.TheVariants as rdata;
 
@@ -175,27 +175,27 @@ impl RData {
     ///     RData::read(&mut decoder, RecordType::A, Restrict::new(4))
     /// }
     /// ```
-    // Each type counts the octets of its own record and returns by itself: a value that goes through one place for all
-    // of them is copied there, and so it is where it is handed on by another function.
+    // Each arm compares the number of octets with RDLENGTH and returns by itself. If all arms met in one statement, or
+    // if another function returned the value, the value would be copied once more.
     #[inline(never)]
     pub fn read(
         decoder: &mut BinDecoder<'_>,
         record_type: RecordType,
         length: Restrict<u16>,
     ) -> Result<RData, DecodeError>
-        // What is read fills the length in the grammar of the type.
+        // The fields of the value fill the RDATA region by the grammar of the type.
         ensures found { IfOk result (λ v. Fills decoder.old.message decoder.old.index length record_type v) }
         ensures after { OnOk result (decoder.new.index ≡ decoder.old.index + length) }
         ensures kind { IfOk result (λ v. type_of v ≡ record_type) }
-        // What is refused, but for memory, no value fills.
+        // After an error other than `Memory`, no value fills the region.
         ensures refused { IfErr result (λ e. UnlessMemory e (NoValue decoder.old.message decoder.old.index length record_type)) }
-        ensures why { IfErr result (IsRefusal record_type length decoder.old decoder.new) }
+        ensures why { IfErr result (IsReadError record_type length decoder.old decoder.new) }
         ensures never { IsNeverRead record_type → (decoder.new ≡ decoder.old)
             × (result ≡ Err (DecodeError.UnknownRecordTypeValue (number_of record_type))) }
         ensures behind { StaysBehind decoder.old decoder.new }
-        // The canonical octets of what is read are read again as an equal value.
+        // Reading the canonical octets of the value gives an equal value.
         ensures canonical { IfOk result (ReadsCanonical record_type) }
-        // What is read can be emitted: it is refused for memory or for buffer space alone.
+        // The value can be emitted: that fails only if memory or buffer space runs out.
         ensures emittable { IfOk result IsEmittable }
     {
         let start = decoder.index();
@@ -234,14 +234,15 @@ impl RData {
         record_type: RecordType,
         length: Restrict<u16>,
     ) -> Result<(), DecodeError>
-        // The record's own value or error, and where it stops.
+        // The record's own value or error, and where its reader stops.
         ensures own { OwnResult record_type length decoder.old decoder.new result }
-        // A value that ends at the length is that of the octets; where it ends elsewhere, the octets have none.
+        // If the reader stops at the end of the region, the value is that of the octets. If it stops elsewhere, they
+        // have none.
         ensures whole { OnOk result (decoder.new.index ≡ decoder.old.index + length →
             HasValue decoder.old.message decoder.old.index length record_type) }
         ensures elsewhere { OnOk result (decoder.new.index ≢ decoder.old.index + length →
             NoValue decoder.old.message decoder.old.index length record_type) }
-        // Nor have they one after an error, but for memory.
+        // After an error other than `Memory` they have none either.
         ensures refused { IfErr result (λ e. UnlessMemory e (
             NoValue decoder.old.message decoder.old.index length record_type)) }
         ensures never { IsNeverRead record_type → (decoder.new ≡ decoder.old)
@@ -277,10 +278,10 @@ impl RData {
     #[tactic(auto, unfolding(crate::specs::Data::EmitsData))]
     pub fn emit_whole(&self, encoder: &mut BinEncoder<'_>) -> Result<(), ProtoError>
         ensures emits { EmitsAs RDataEncoding.Other (fields_of self.now).kinds (fields_of self.now).values result encoder.old encoder.new }
-        // What is appended depends on the value alone.
+        // The appended octets depend only on the value.
         ensures whole { OnOk result (encoder.new.octets ≡ encoder.old.octets ++ whole_data self.now) }
         ensures keeps { Keeps encoder.old encoder.new }
-        // What was read and is appended reads back as an equal value, behind any octets.
+        // If the value was read, reading the appended octets gives an equal value, whatever octets are before them.
         ensures again { OnOk result (ReadsBack self.now encoder.old encoder.new) }
         ensures extends { Extends encoder.old encoder.new }
         ensures fits { OnOk result (IsEmittable self.now) }
@@ -289,12 +290,12 @@ impl RData {
         let earlier = encoder.with_rdata_behavior(RDataEncoding::Other);
         let outcome = self.emit_other(encoder);
         encoder.with_rdata_behavior(earlier);
-        // Called for its clauses: what was written is octets.
+        // For the proof: brings in that what was written is octets.
         let _written = encoder.len();
         outcome
     }
 
-    // Appends the octets of the value, its names whole, in the mode for it.
+    // Appends the octets of the value, its names uncompressed, in the mode of its type.
     fn emit_other(&self, encoder: &mut BinEncoder<'_>) -> Result<(), ProtoError>
         requires { encoder.old.mode ≡ RDataEncoding.Other }
         ensures { EmitsData RDataEncoding.Other self.now result encoder.old encoder.new }
@@ -321,7 +322,8 @@ impl RData {
         )
     }
 
-    // Whether both are octets of one type, and the same. A call, so that `is_same` keeps nothing across another one.
+    // Whether both are octets of one unknown type, and the same. Not inlined, so that `is_same` keeps nothing across a
+    // call.
     #[inline(never)]
     fn is_same_unknown(
         code: RecordType,
@@ -334,11 +336,11 @@ impl RData {
         *rdata == *other_rdata && code == other_code
     }
 
-    // Whether both are of one variant, and equal there.
+    // Whether both are of one variant, and equal.
     fn is_same(&self, other: &RData) -> bool
         ensures { result ≡ equal self.now other.now }
     {
-        // Few are compared in place, so that this function needs hardly a frame.
+        // Only a few types are compared inline, so that this function needs hardly any stack.
         equal_each!(
             (self, other),
             [ANAME CERT CNAME CSYNC HINFO MX NAPTR NS PTR SRV SSHFP TXT],
@@ -393,16 +395,16 @@ impl BinEncodable for RData {
     fn emit(&self, encoder: &mut BinEncoder<'_>) -> Result<(), ProtoError>
         ensures emits { EmitsAs (mode_for encoder.old.mode self.now) (fields_of self.now).kinds (fields_of self.now).values result encoder.old encoder.new }
         ensures keeps { Keeps encoder.old encoder.new }
-        // What was read and is appended reads back as an equal value, behind any octets.
+        // If the value was read, reading the appended octets gives an equal value, whatever octets are before them.
         ensures again { OnOk result (ReadsBack self.now encoder.old encoder.new) }
-        // The octets that were there stand, and none that was appended is past the limit.
+        // The earlier octets are unchanged, and no appended octet is past the limit.
         ensures extends { Extends encoder.old encoder.new }
-        // What is emitted can be, and what is refused by a message cannot.
+        // After `Ok` the value is emittable, and after the error `Message` it is not.
         ensures fits { OnOk result (IsEmittable self.now) }
         ensures unfit { IfErr result (λ e. IsMessage e → ¬ (IsEmittable self.now)) }
     {
         self.emit_by_type(encoder)?;
-        // Called for its clauses: what was written is octets.
+        // For the proof: brings in that what was written is octets.
         let _written = encoder.len();
         Ok(())
     }
@@ -422,7 +424,7 @@ fn emit_record<T: BinEncodable + RecordData>(
     value.emit(encoder)
 }
 
-// Appends the octets of a record, its names whole.
+// Appends the octets of a record, its names uncompressed.
 #[inline(always)]
 #[tactic(auto, unfolding(crate::specs::Data::EmitsData))]
 fn emit_whole_record<T: EncodesFields + RecordData>(
@@ -444,7 +446,7 @@ impl PartialEq for RData {
     /// Whether both are of one variant and equal there: names but for ASCII case.
     fn eq(&self, other: &RData) -> bool
         ensures value { result ≡ equal self.now other.now }
-        // Two values that were read under one type are equal exactly where their canonical octets are the same.
+        // Two values that were read under one type are equal exactly if their canonical octets are the same.
         ensures canonical { TellsApart self.now other.now result }
     {
         self.is_same(other)
@@ -474,8 +476,8 @@ impl Clone for RData {
     ghost is_clone = { λ a b. b ≡ a };
 
     /// The same value, in memory of its own. Allocates as reading does.
-    // Each type returns by itself, so that it is written where the caller wants it, and where the arms of one value
-    // meet nothing is copied.
+    // Each arm returns by itself, so that the value is written directly into the caller's result and is not copied
+    // where the arms meet.
     #[inline(never)]
     fn clone(&self) -> Result<RData, AllocError>
         ensures { IfOk result (λ copy. copy ≡ self.now) }

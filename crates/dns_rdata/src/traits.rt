@@ -1,4 +1,4 @@
-//! What record data has in common, whatever its type.
+//! What RDATA of all types has in common.
 
 ghost use Rattle.std.specs.Prelude.{◌≡◌, ◌↔◌, IsTrue, IfOk, IfErr, Option, Some, None, option_copied};
 ghost use Rattle.std.proofs.Common.{rules};
@@ -48,7 +48,7 @@ pub trait RecordData: Sized {
     ghost exactly: { (v : Data) (x : Self) → (borrowed v ≡ Some x) ↔ (wrapped x ≡ v) };
 }
 
-// A record that a variant of its own holds.
+// A record that has a variant of its own.
 pub(crate) trait Variant: Sized {
     /// The type of a record that has this data.
     const TYPE: RecordType;
@@ -113,7 +113,7 @@ impl<T: Variant> From<T> for RData {
     }
 }
 
-// The record of the type that the value holds, if it does.
+// The record in the value, if it is of the type.
 macro_rules! held {
     ($rdata:expr, $record:ident) => {
         match $rdata {
@@ -123,7 +123,7 @@ macro_rules! held {
     };
 }
 
-// The same, moved out of the value.
+// The same, but moved out of the value.
 macro_rules! moved {
     ($rdata:expr, $record:ident) => {
         match $rdata {

@@ -4,8 +4,8 @@ use Rattle.std.specs.Result.{IfErr, IsErrAnd}
 use Rattle.dns_types.specs.declared.error.DecodeError.{DecodeError}
 use Rattle.dns_types.specs.declared.error.DecodeError.TheVariants as decode
 use Rattle.dns_fields.specs.Fields.{Kind, Name, Value}
-use Rattle.dns_names_wire.specs.{State.Reading, Words.TookField, Words.LacksField}
-use Rattle.dns_rdata_base.specs.Refusing.{LacksHere, IsLack}
+use Rattle.dns_names_wire.specs.{State.Reading, Terms.TookField, Terms.LacksField}
+use Rattle.dns_rdata_base.specs.FieldErrors.{LacksHere, IsLack}
 
 pub is_lack_here : (k : Kind) (kinds : List Kind) (old new : Reading) (e : DecodeError) → LacksHere k old e new → IsLack (k ∷ kinds) old e new
 is_lack_here k kinds old new e h = inr (inl h)
@@ -24,7 +24,7 @@ pub is_lack_name : (kinds : List Kind) (old new : Reading) (e : DecodeError) →
 is_lack_name kinds old new e (inl m) u = inl m
 is_lack_name kinds old new e (inr h) u = inr (inl (h.0, h.1, u))
 
--- a refusal on the way, handed on by `?`
+-- a rejects on the way, handed on by `?`
 pub exit_lack : {T : Type 0} (P : DecodeError → Type 0) (r : Result T DecodeError) (e : DecodeError) → IsErrAnd r (λ y. y ≡ e) → P e → IfErr r P
 exit_lack P (Ok x) e h p = elim h [ ]
 exit_lack P (Err y) e h p = subst P (sym h) p

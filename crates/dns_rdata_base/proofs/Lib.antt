@@ -6,4 +6,4 @@ pub mod QuickOrders
 pub mod SoaValues
 pub mod TextLists
 pub mod TextOrders
-pub mod WordsBack
+pub mod TokensBack

@@ -3,7 +3,8 @@ use Rattle.std.proofs.Common.{◌≡◌, ℕ, ◌==◌, cond, List, [], ◌∷�
 use Rattle.std.proofs.lemmas.Bool.Decides.{nat_tests}
 use Rattle.dns_rdata_base.specs.Numbered.{numbered_of}
 
-named_or : {T : Type 0} (number : T → ℕ) (n : ℕ) (e d : T) (o : Option T) → number (unwrap_or o d) ≡ n → number (unwrap_or (cond (number e == n) (Some e) o) d) ≡ n
+named_or : {T : Type 0} (number : T → ℕ) (n : ℕ) (e d : T) (o : Option T) → number (unwrap_or o d) ≡ n
+    → number (unwrap_or (cond (number e == n) (Some e) o) d) ≡ n
 named_or number n e d o h = grind (arith, nat_tests)
 
 -- the number of what a number gives is that number

@@ -3,10 +3,10 @@ use Rattle.std.proofs.Common.{◌≡◌, ◌≢◌, ℕ, Bool, true, false, true
 use Rattle.std.proofs.lemmas.{Cmp.nat_list_eq_equiv, List.append_cancel_left, List.take_at}
 use Rattle.std.specs.{Cmp.IsEquivalence, Cmp.Lexicographic.pointwise, List.flat_map, FinMap.nat_cmp-IsAntisymmetric, FinMap.slice_cmp-IsAntisymmetric, Ordering.is_eq, Ordering.ordering_then, declared.cmp.Ordering.Ordering}
 use Rattle.std.specs.declared.cmp.Ordering.TheVariants.{Less, Equal, Greater}
-use Rattle.dns_fields.specs.{Pieces.string}
-use Rattle.dns_fields.specs.Fields.{Kind, Text, Texts, Rest, Value, Values, all_emittable, canonical, field_octets}
-use Rattle.dns_pieces.specs.Fronts.{canonical_cmp, field_cmp, fields_cmp, AllEndAlike}
-use Rattle.dns_pieces.proofs.{Comparing.cmp_shared, Fronts.by_fields}
+use Rattle.dns_fields.specs.{Tlvs.string}
+use Rattle.dns_fields.specs.Fields.{Kind, CharacterString, CharacterStrings, Rest, Value, Values, all_emittable, canonical, field_octets}
+use Rattle.dns_canonical.specs.Fronts.{canonical_cmp, field_cmp, fields_cmp, AllEndAlike}
+use Rattle.dns_canonical.proofs.{Comparing.cmp_shared, Fronts.fields_decide}
 use Rattle.dns_rdata_base.specs.contracts.hinfo.HINFOPartialEq.TheImpl as hinfo_eq
 use Rattle.dns_rdata_base.specs.contracts.hinfo.HINFOEq.TheImpl.Laws as hinfo_laws
 use Rattle.dns_rdata_base.specs.contracts.txt.TXTPartialEq.TheImpl as txt_eq
@@ -38,7 +38,7 @@ all_tied o (k ∷ kinds) a b e =
     (first_ties o (field_cmp k a.0 b.0) t.0, (slice_cmp-IsAntisymmetric nat_cmp-IsAntisymmetric (field_octets k a.0) (field_octets k b.0) (second_ties o (field_cmp k a.0 b.0) t.0), t.1))
 
 pub tied_fields : (kinds : List Kind) (a b : Values kinds) → AllEndAlike kinds a b → canonical_cmp kinds a b ≡ Equal → AllTied kinds a b
-tied_fields kinds a b h e = (all_tied Equal kinds a b (by_fields kinds a b h ∙ e)).1
+tied_fields kinds a b h e = (all_tied Equal kinds a b (fields_decide kinds a b h ∙ e)).1
 
 -- two strings, one of which begins each of two lists
 one_string : (s t x y : List ℕ) → string s ++ x ≡ string t ++ y → (s ≡ t) × (x ≡ y)
@@ -56,11 +56,11 @@ same_strings (s ∷ a) (t ∷ b) e =
     let h = one_string s t (flat_map string a) (flat_map string b) e in
     ap (λ (x : List ℕ). x ∷ a) h.0 ∙ ap (λ (x : List (List ℕ)). t ∷ x) (same_strings a b h.1)
 
-pub same_texts : (a b : List (List ℕ)) → field_octets Texts a ≡ field_octets Texts b → a ≡ b
+pub same_texts : (a b : List (List ℕ)) → field_octets CharacterStrings a ≡ field_octets CharacterStrings b → a ≡ b
 unfolding field_octets
 same_texts a b e = same_strings a b e
 
-pub same_text : (a b : List ℕ) → field_octets Text a ≡ field_octets Text b → a ≡ b
+pub same_text : (a b : List ℕ) → field_octets CharacterString a ≡ field_octets CharacterString b → a ≡ b
 unfolding field_octets
 same_text a b e = cc e
 
@@ -96,16 +96,18 @@ itself {e = e} x y h p = subst (λ z. e x z ≡ true) p (h.refl x)
 pub rest_orders : (a b : List ℕ) (o : Ordering) → o ≡ canonical_cmp (Rest ∷ []) (a, tt) (b, tt) → IsOrder (Rest ∷ []) (a, tt) (b, tt) (pointwise ◌==◌ a b) o
 rest_orders a b o e = orders (Rest ∷ []) (a, tt) (b, tt) _ o (λ n. refl) (λ n. refl) (tt, tt) e (λ z tied. itself a b nat_list_eq_equiv (same_rest a b tied.0))
 
-pub txt_orders : (x y : TXT) (o : Ordering) → (o ≢ Equal → all_emittable txt_shape (txt_fields x) ≡ true) → (o ≢ Equal → all_emittable txt_shape (txt_fields y) ≡ true)
+pub txt_orders : (x y : TXT) (o : Ordering) → (o ≢ Equal → all_emittable txt_shape (txt_fields x) ≡ true)
+    → (o ≢ Equal → all_emittable txt_shape (txt_fields y) ≡ true)
     → o ≡ canonical_cmp txt_shape (txt_fields x) (txt_fields y) → IsOrder txt_shape (txt_fields x) (txt_fields y) (txt_eq.ghosts.eq x y) o
 txt_orders x y o f g e =
     orders txt_shape (txt_fields x) (txt_fields y) _ o f g (tt, tt) e
     (λ z tied. itself x y txt_laws.laws-law (ap (λ d. record { txt_data = d }) (same_texts x.txt_data y.txt_data tied.0)))
 
-pub hinfo_orders : (x y : HINFO) (o : Ordering) → (o ≢ Equal → all_emittable hinfo_shape (hinfo_fields x) ≡ true) → (o ≢ Equal → all_emittable hinfo_shape (hinfo_fields y) ≡ true)
+pub hinfo_orders : (x y : HINFO) (o : Ordering) → (o ≢ Equal → all_emittable hinfo_shape (hinfo_fields x) ≡ true)
+    → (o ≢ Equal → all_emittable hinfo_shape (hinfo_fields y) ≡ true)
     → o ≡ fields_cmp Equal hinfo_shape (hinfo_fields x) (hinfo_fields y) → IsOrder hinfo_shape (hinfo_fields x) (hinfo_fields y) (hinfo_eq.ghosts.eq x y) o
 hinfo_orders x y o f g e =
-    orders hinfo_shape (hinfo_fields x) (hinfo_fields y) _ o f g (tt, (tt, tt)) (e ∙ by_fields hinfo_shape (hinfo_fields x) (hinfo_fields y) (tt, (tt, tt)))
+    orders hinfo_shape (hinfo_fields x) (hinfo_fields y) _ o f g (tt, (tt, tt)) (e ∙ fields_decide hinfo_shape (hinfo_fields x) (hinfo_fields y) (tt, (tt, tt)))
     (λ z tied. itself x y hinfo_laws.laws-law (rw (same_text x.cpu y.cpu tied.0, same_text x.os y.os tied.1.0) refl))
 
 -- ---- of octets to the end behind other fields

@@ -4,15 +4,15 @@ use Rattle.std.proofs.Common.{◌∙◌, arith, subst, nat_le, false}
 use Rattle.std.specs.List.{flat_map, AllByRecursion, list_all}
 use Rattle.std.proofs.lemmas.List.{append-nil, length-append, drop_more, take-append-drop, Concat.flat_map-cons}
 use Rattle.dns_types.specs.declared.error.{DecodeError.DecodeError, ProtoError.ProtoError}
-use Rattle.dns_fields.specs.{Octets.At, Fields.Text, Fields.Texts, Fields.Field, Fields.field_octets, Pieces.string}
+use Rattle.dns_fields.specs.{Octets.At, Fields.CharacterString, Fields.CharacterStrings, Fields.Field, Fields.field_octets, Tlvs.string}
 use Rattle.dns_fields.proofs.FieldLaws.{field_inside, field_end}
 use Rattle.dns_names_wire.specs.State.{Reading, Writing}
-use Rattle.dns_names_wire.specs.Words.{TookField, LacksField, RefusedField, RefusedWindow, AppendedField, StoppedField, NoRoomField, UnfitField}
+use Rattle.dns_names_wire.specs.Terms.{TookField, LacksField, RefusedField, RefusedRegion, AppendedField, StoppedField, NoRoomField, UnfitField}
 use Rattle.dns_names_wire.proofs.{FieldReads.unless_map, Strings.at_front, Strings.at_rest, Strings.at_then}
 use Rattle.dns_rdata_base.specs.{TXT.txt_shape, Steps.texts_left}
 use Rattle.std.proofs.{Math.Bool.and-false, lemmas.Grind.flat_map-append}
 use Rattle.dns_names_wire.proofs.FieldWrites.{extends_then, because_map}
-use Rattle.dns_pieces.specs.Steps.{StepAt}
+use Rattle.dns_canonical.specs.Steps.{StepAt}
 
 pub joined : (xs : List (List ℕ)) (s : List ℕ) (ys : List (List ℕ))
     → flat_map string (xs ++ s ∷ ys) ≡ flat_map string xs ++ (string s ++ flat_map string ys)
@@ -22,28 +22,30 @@ joined xs s ys = flat_map-append string xs (s ∷ ys) ∙ ap (λ (t : List ℕ).
 pub record ReadsOn (old : Reading) (end : ℕ) (strings : List (List ℕ)) (d : Reading) : Type 0 where
   pub message : d.message ≡ old.message
   pub behind : old.index ≤ d.index
-  pub took : Field old.message old.index Texts strings d.index
-  pub rest : (ws : List (List ℕ)) → Field old.message old.index Texts ws end → (vs : List (List ℕ)) × Field old.message d.index Texts vs end
+  pub took : Field old.message old.index CharacterStrings strings d.index
+  pub rest : (ws : List (List ℕ)) → Field old.message old.index CharacterStrings ws end
+      → (vs : List (List ℕ)) × Field old.message d.index CharacterStrings vs end
 
 fits_push : (xs : List (List ℕ)) (s : List ℕ) → AllByRecursion (λ s. length s < 256) xs → length s < 256 → AllByRecursion (λ s. length s < 256) (xs ++ s ∷ [])
 fits_push [] s a h = (h, tt)
 fits_push (x ∷ xs) s a h = (a.0, fits_push xs s a.1 h)
 
-texts_push : {m : List ℕ} {p q r : ℕ} {xs : List (List ℕ)} {s : List ℕ} → Field m p Texts xs q → Field m q Text s r → Field m p Texts (xs ++ s ∷ []) r
+texts_push : {m : List ℕ} {p q r : ℕ} {xs : List (List ℕ)} {s : List ℕ} → Field m p CharacterStrings xs q → Field m q CharacterString s r
+    → Field m p CharacterStrings (xs ++ s ∷ []) r
 texts_push {m} {p} {q} {r} {xs} {s} f g = record { is = (fits_push xs s f.is.0 g.is.0, rw (joined xs s [], append-nil (string s)) (at_then f.is.1 g.is.1)) }
 
 -- the first string, and how many stand behind it
-next_text : (m : List ℕ) (q e : ℕ) (vs : List (List ℕ)) → q < e → Field m q Texts vs e
-    → (s : List ℕ) × (ws : List (List ℕ)) × Field m q Text s (q + length (string s)) × Field m (q + length (string s)) Texts ws e
+next_text : (m : List ℕ) (q e : ℕ) (vs : List (List ℕ)) → q < e → Field m q CharacterStrings vs e
+    → (s : List ℕ) × (ws : List (List ℕ)) × Field m q CharacterString s (q + length (string s)) × Field m (q + length (string s)) CharacterStrings ws e
     × (length vs ≡ suc (length ws))
 next_text m q e [] lt f = absurd (omega (arith, f.is.1.ends))
 next_text m q e (s ∷ ws) lt f =
     let whole : At m q (string s ++ flat_map string ws) e = rw (← flat_map-cons string s ws) f.is.1 in
-    let first : Field m q Text s (q + length (string s)) = record { is = (f.is.0.0, at_front (string s) (flat_map string ws) whole) } in
+    let first : Field m q CharacterString s (q + length (string s)) = record { is = (f.is.0.0, at_front (string s) (flat_map string ws) whole) } in
     (s, ws, first, record { is = (f.is.0.1, at_rest (string s) (flat_map string ws) whole) }, refl)
 
 -- none stands at the end, or past the message
-no_text : (m : List ℕ) (q e : ℕ) (vs : List (List ℕ)) → (e ≤ q) ⊎ (length m ≤ q) → Field m q Texts vs e → length vs ≡ 0
+no_text : (m : List ℕ) (q e : ℕ) (vs : List (List ℕ)) → (e ≤ q) ⊎ (length m ≤ q) → Field m q CharacterStrings vs e → length vs ≡ 0
 no_text m q e [] past f = refl
 no_text m q e (s ∷ ws) past f =
     let whole : At m q (string s ++ flat_map string ws) e = rw (← flat_map-cons string s ws) f.is.1 in
@@ -51,10 +53,10 @@ no_text m q e (s ∷ ws) past f =
     let rest : q + length (string s) ≤ e = omega (arith, whole.ends, length-append (string s) (flat_map string ws)) in
     elim past [ inl h ↦ absurd (omega arith) | inr h ↦ absurd (omega (arith, front.within)) ]
 
-pub reads_more : {old d b : Reading} {end : ℕ} {xs : List (List ℕ)} {s : List ℕ} → d.index < end → ReadsOn old end xs d → TookField d Text s b
+pub reads_more : {old d b : Reading} {end : ℕ} {xs : List (List ℕ)} {s : List ℕ} → d.index < end → ReadsOn old end xs d → TookField d CharacterString s b
     → ReadsOn old end (xs ++ s ∷ []) b
 reads_more {old} {d} {b} {end} {xs} {s} lt r f =
-    let g : Field old.message d.index Text s b.index = subst (λ (m : List ℕ). Field m d.index Text s b.index) r.message f.field in
+    let g : Field old.message d.index CharacterString s b.index = subst (λ (m : List ℕ). Field m d.index CharacterString s b.index) r.message f.field in
     record {
       message = f.message ∙ r.message;
       behind = omega (arith, r.behind, (field_inside g).0);
@@ -62,23 +64,23 @@ reads_more {old} {d} {b} {end} {xs} {s} lt r f =
       rest = λ ws h.
           let vs = r.rest ws h in
           let x = next_text old.message d.index end vs.0 lt vs.1 in
-          let there : d.index + length (string x.0) ≡ b.index = field_end {k = Text} tt x.2 g in
-          (x.1, subst (λ (q : ℕ). Field old.message q Texts x.1 end) there x.3);
+          let there : d.index + length (string x.0) ≡ b.index = field_end {k = CharacterString} tt x.2 g in
+          (x.1, subst (λ (q : ℕ). Field old.message q CharacterStrings x.1 end) there x.3);
     }
 
 -- ---- how a loop ends
 
 -- a string is refused on the way
 pub reads_none : {e : DecodeError} {old d b : Reading} {end : ℕ} {xs : List (List ℕ)} (n : ℕ) → end ≡ old.index + n → d.index < end → ReadsOn old end xs d
-    → RefusedField e d Text b → RefusedWindow e old n txt_shape (λ _. Unit {0}) b
+    → RefusedField e d CharacterString b → RefusedRegion e old n txt_shape (λ _. Unit {0}) b
 reads_none {e} {old} {d} {b} {end} {xs} n is lt r f = record {
   behind = record { message = f.behind.message ∙ r.message; index = omega (arith, r.behind, f.behind.index) };
-  none = unless_map e _ _ (λ (l : LacksField d Text). record {
+  none = unless_map e _ _ (λ (l : LacksField d CharacterString). record {
     none = λ vs w.
-        let h : Field old.message old.index Texts vs.0 end = rw (is, ← w.stands.2) w.stands.1 in
+        let h : Field old.message old.index CharacterStrings vs.0 end = rw (is, ← w.stands.2) w.stands.1 in
         let ws = r.rest vs.0 h in
         let x = next_text old.message d.index end ws.0 lt ws.1 in
-        l.none x.0 (d.index + length (string x.0)) (subst (λ (m : List ℕ). Field m d.index Text x.0 (d.index + length (string x.0))) (sym r.message) x.2);
+        l.none x.0 (d.index + length (string x.0)) (subst (λ (m : List ℕ). Field m d.index CharacterString x.0 (d.index + length (string x.0))) (sym r.message) x.2);
   }) f.none;
 }
 
@@ -86,9 +88,10 @@ reads_none {e} {old} {d} {b} {end} {xs} n is lt r f = record {
 
 -- behind some strings that were counted, the others stand
 pub record CountsOn (m : List ℕ) (end count : ℕ) (q : ℕ) : Type 0 where
-  pub rest : (ws : List (List ℕ)) → Field m 0 Texts ws end → (vs : List (List ℕ)) × Field m q Texts vs end × (count + length vs ≡ length ws)
+  pub rest : (ws : List (List ℕ)) → Field m 0 CharacterStrings ws end
+      → (vs : List (List ℕ)) × Field m q CharacterStrings vs end × (count + length vs ≡ length ws)
 
-first_octet : {m : List ℕ} {q r : ℕ} {s : List ℕ} → q < length m → Field m q Text s r → get_or m q 0 ≡ length s
+first_octet : {m : List ℕ} {q r : ℕ} {s : List ℕ} → q < length m → Field m q CharacterString s r → get_or m q 0 ≡ length s
 first_octet {m} {q} {r} {s} lt f =
     let whole : take (suc (length s)) (get_or m q 0 ∷ drop (suc q) m) ≡ length s ∷ s =
     ap (λ (d : List ℕ). take (suc (length s)) d) (sym (drop-cons m q 0 lt)) ∙ f.is.1.same in
@@ -99,11 +102,11 @@ counts_more {m} {end} {count} {q} lt inside c = record {
   rest = λ ws f.
       let vs = c.rest ws f in
       let split = next_text m q end vs.0 lt vs.1 in
-      let place : q + length (string split.0) ≡ q + (1 + get_or m q 0) = omega (arith, first_octet inside split.2) in
-      (split.1, subst (λ (r : ℕ). Field m r Texts split.1 end) place split.3, omega (arith, vs.2, split.4));
+      let offset_is : q + length (string split.0) ≡ q + (1 + get_or m q 0) = omega (arith, first_octet inside split.2) in
+      (split.1, subst (λ (r : ℕ). Field m r CharacterStrings split.1 end) offset_is split.3, omega (arith, vs.2, split.4));
 }
 
-pub counts_all : {m : List ℕ} {end count q : ℕ} → CountsOn m end count q → (end ≤ q) ⊎ (length m ≤ q) → (ws : List (List ℕ)) → Field m 0 Texts ws end
+pub counts_all : {m : List ℕ} {end count q : ℕ} → CountsOn m end count q → (end ≤ q) ⊎ (length m ≤ q) → (ws : List (List ℕ)) → Field m 0 CharacterStrings ws end
     → count ≡ length ws
 counts_all {m} {end} {count} {q} c past ws f = let vs = c.rest ws f in omega (arith, vs.2, no_text m q end vs.0 past vs.1)
 
@@ -115,13 +118,13 @@ long_inner [] s ys e = rw e refl
 long_inner (x ∷ xs) s ys e = rw (long_inner xs s ys e) (and-false (nat_le (length x) 255))
 
 -- a string is refused behind others
-pub stopped_strings : {e : ProtoError} {w b n : Writing} (xs : List (List ℕ)) (s : List ℕ) (ys : List (List ℕ)) → AppendedField w Texts xs b
-    → StoppedField e b Text s n → StoppedField e w Texts (xs ++ s ∷ ys) n
+pub stopped_strings : {e : ProtoError} {w b n : Writing} (xs : List (List ℕ)) (s : List ℕ) (ys : List (List ℕ)) → AppendedField w CharacterStrings xs b
+    → StoppedField e b CharacterString s n → StoppedField e w CharacterStrings (xs ++ s ∷ ys) n
 unfolding field_octets
 stopped_strings {e} {w} {b} {n} xs s ys f g = record {
   extends = extends_then f g.extends;
-  why = because_map e _ _ _ _ (λ (r : NoRoomField b Text s). record { full = full r.full })
-      (λ (u : UnfitField Text s). record { unfit = long_inner xs s ys u.unfit }) g.why;
+  why = because_map e _ _ _ _ (λ (r : NoRoomField b CharacterString s). record { full = full r.full })
+      (λ (u : UnfitField CharacterString s). record { unfit = long_inner xs s ys u.unfit }) g.why;
 }
   where
     full : b.limit < length b.octets + length (string s) → w.limit < length w.octets + length (flat_map string (xs ++ s ∷ ys))
@@ -130,7 +133,7 @@ stopped_strings {e} {w} {b} {n} xs s ys f g = record {
         let whole = ap length (joined xs s ys) ∙ length-append (flat_map string xs) (string s ++ flat_map string ys) in
         omega (arith, r, f.keeps.limit, before, whole, length-append (string s) (flat_map string ys))
 
--- a list about one of its places
+-- a list, taken apart at one of its indices
 pub list_at : (i : ℕ) (xs : List (List ℕ)) (x : List ℕ) → x ≡ get_or xs i x → i < length xs → take i xs ++ x ∷ drop (i + 1) xs ≡ xs
 list_at i xs x is lt = ap (λ (y : List ℕ). take i xs ++ y ∷ drop (i + 1) xs) is
     ∙ ap (λ (t : List (List ℕ)). take i xs ++ t) (sym (drop_more xs i x lt))
@@ -138,7 +141,7 @@ list_at i xs x is lt = ap (λ (y : List ℕ). take i xs ++ y ∷ drop (i + 1) xs
 
 -- ---- strings that are given one after the other
 
-pub text_given : (ss : List (List ℕ)) (i j : ℕ) (s head tail : List ℕ) → i < length ss → s ≡ get_or ss i s → head ++ tail ≡ field_octets Text s
+pub text_given : (ss : List (List ℕ)) (i j : ℕ) (s head tail : List ℕ) → i < length ss → s ≡ get_or ss i s → head ++ tail ≡ field_octets CharacterString s
     → StepAt (texts_left ss) 0 i j head (record { tail = tail; step = 0; part = i + 1; item = 0 })
 unfolding field_octets
 text_given ss i j s head tail h e r =

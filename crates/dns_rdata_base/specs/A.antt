@@ -2,8 +2,8 @@
 use Rattle.std.specs.{Prelude.◌≡◌, Prelude.ℕ, Prelude.List, Prelude.[], Prelude.◌∷◌, Prelude.length, Net.Addr.ipv4_octets, Net.Text.ipv4_text}
 use Rattle.dns_types.specs.declared.error.DecodeError.{DecodeError}
 use Rattle.dns_fields.specs.Fields.{Kind, Octets, Values}
-use Rattle.dns_names_wire.specs.{State.Reading, Words.LacksOctets, Facts.Facts, Facts.ending}
-use Rattle.dns_words.specs.Forms.{WordRow, word, ignored, ipv4}
+use Rattle.dns_names_wire.specs.{State.Reading, Terms.LacksOctets, Facts.Facts, Facts.ending}
+use Rattle.dns_tokens.specs.Forms.{TokenRow, token, ignored, ipv4}
 use Rattle.dns_rdata_base.specs.declared.a.A.{A}
 use Rattle.dns_types.specs.declared.error.DecodeError.TheVariants as decode
 
@@ -19,12 +19,12 @@ abbrev pub a_text : A → List ℕ
 a_text x = ipv4_text (ipv4_octets x.0)
 
 -- an address
-abbrev pub a_words : WordRow a_shape
-a_words = word ipv4 ignored
+abbrev pub a_tokens : TokenRow a_shape
+a_tokens = token ipv4 ignored
 
--- Why an address is refused: fewer than its octets are left. They are taken.
-abbrev pub IsARefusal : Reading → DecodeError → Reading → Type 0
-IsARefusal old e new = (e ≡ decode.InsufficientBytes) × LacksOctets old 4 × (new.index ≡ length old.message)
+-- Why an address is rejected: fewer than its octets are left. They are read.
+abbrev pub IsAError : Reading → DecodeError → Reading → Type 0
+IsAError old e new = (e ≡ decode.InsufficientBytes) × LacksOctets old 4 × (new.index ≡ length old.message)
 
 abbrev pub a_facts : Facts A
-a_facts = ending a_shape (λ _. Unit {0}) a_fields IsARefusal
+a_facts = ending a_shape (λ _. Unit {0}) a_fields IsAError

@@ -4,8 +4,8 @@ use Rattle.std.specs.{Net.Addr.ipv6_octets, Net.Addr.ipv6_segments, Net.Text.ipv
 use Rattle.dns_types.specs.declared.error.DecodeError.{DecodeError}
 use Rattle.dns_types.specs.declared.error.DecodeError.TheVariants as decode
 use Rattle.dns_fields.specs.Fields.{Kind, Octets, Values}
-use Rattle.dns_names_wire.specs.{State.Reading, Words.LacksOctets, Facts.Facts, Facts.ending}
-use Rattle.dns_words.specs.Forms.{WordRow, word, ignored, ipv6}
+use Rattle.dns_names_wire.specs.{State.Reading, Terms.LacksOctets, Facts.Facts, Facts.ending}
+use Rattle.dns_tokens.specs.Forms.{TokenRow, token, ignored, ipv6}
 use Rattle.dns_rdata_base.specs.declared.aaaa.AAAA.{AAAA}
 
 -- the sixteen octets of the address, the highest first
@@ -20,12 +20,13 @@ abbrev pub aaaa_text : AAAA → List ℕ
 aaaa_text x = ipv6_text (ipv6_segments x.0)
 
 -- an address
-abbrev pub aaaa_words : WordRow aaaa_shape
-aaaa_words = word ipv6 ignored
+abbrev pub aaaa_tokens : TokenRow aaaa_shape
+aaaa_tokens = token ipv6 ignored
 
--- Why an address is refused: fewer than its octets are left. Whole pairs of them are taken.
-abbrev pub IsAaaaRefusal : Reading → DecodeError → Reading → Type 0
-IsAaaaRefusal old e new = (e ≡ decode.InsufficientBytes) × LacksOctets old 16 × (new.index ≡ old.index + (length old.message - old.index) / 2 * 2)
+-- Why an address is rejected: fewer than its octets are left. Whole pairs of them are read.
+abbrev pub IsAaaaError : Reading → DecodeError → Reading → Type 0
+IsAaaaError old e new = (e ≡ decode.InsufficientBytes) × LacksOctets old 16
+    × (new.index ≡ old.index + (length old.message - old.index) / 2 * 2)
 
 abbrev pub aaaa_facts : Facts AAAA
-aaaa_facts = ending aaaa_shape (λ _. Unit {0}) aaaa_fields IsAaaaRefusal
+aaaa_facts = ending aaaa_shape (λ _. Unit {0}) aaaa_fields IsAaaaError

@@ -1,15 +1,15 @@
 -- HINFO: a machine and its system (RFC 1035, 3.3.2).
 use Rattle.std.specs.Prelude.{◌≡◌, ◌⊎◌, ℕ, List, [], ◌∷◌, ◌++◌, codes}
-use Rattle.dns_fields.specs.Fields.{Kind, Text, Values}
+use Rattle.dns_fields.specs.Fields.{Kind, CharacterString, Values}
 use Rattle.dns_types.specs.declared.error.DecodeError.{DecodeError}
 use Rattle.dns_types.specs.declared.error.DecodeError.TheVariants as decode
-use Rattle.dns_names_wire.specs.{State.Reading, Words.TookField, Words.LacksText, Facts.Facts, Facts.ending}
-use Rattle.dns_words.specs.Forms.{WordRow, word, ignored, kept}
+use Rattle.dns_names_wire.specs.{State.Reading, Terms.TookField, Terms.LacksText, Facts.Facts, Facts.ending}
+use Rattle.dns_tokens.specs.Forms.{TokenRow, token, ignored, kept}
 use Rattle.dns_rdata_base.specs.{Lossy.lossy, declared.hinfo.HINFO.HINFO}
 
 -- cpu, os
 abbrev pub hinfo_shape : List Kind
-hinfo_shape = Text ∷ Text ∷ []
+hinfo_shape = CharacterString ∷ CharacterString ∷ []
 
 abbrev pub hinfo_fields : HINFO → Values hinfo_shape
 hinfo_fields x = (x.cpu, (x.os, tt))
@@ -19,15 +19,16 @@ abbrev pub hinfo_text : HINFO → List ℕ
 hinfo_text x = lossy x.cpu ++ codes " " ++ lossy x.os
 
 -- cpu, os
-abbrev pub hinfo_words : WordRow hinfo_shape
-hinfo_words = word kept (word kept ignored)
+abbrev pub hinfo_tokens : TokenRow hinfo_shape
+hinfo_tokens = token kept (token kept ignored)
 
--- the first string lacks octets, or the second one behind it
+-- the first string lacks octets, or the second one after it
 abbrev pub LacksTwoTexts : Reading → Reading → Type 0
-LacksTwoTexts old new = LacksText old new ⊎ ((cpu : List ℕ) × (between : Reading) × TookField old Text cpu between × LacksText between new)
+LacksTwoTexts old new = LacksText old new
+    ⊎ ((cpu : List ℕ) × (between : Reading) × TookField old CharacterString cpu between × LacksText between new)
 
-abbrev pub IsHinfoRefusal : Reading → DecodeError → Reading → Type 0
-IsHinfoRefusal old e new = (e ≡ decode.Memory) ⊎ ((e ≡ decode.InsufficientBytes) × LacksTwoTexts old new)
+abbrev pub IsHinfoError : Reading → DecodeError → Reading → Type 0
+IsHinfoError old e new = (e ≡ decode.Memory) ⊎ ((e ≡ decode.InsufficientBytes) × LacksTwoTexts old new)
 
 abbrev pub hinfo_facts : Facts HINFO
-hinfo_facts = ending hinfo_shape (λ _. Unit {0}) hinfo_fields IsHinfoRefusal
+hinfo_facts = ending hinfo_shape (λ _. Unit {0}) hinfo_fields IsHinfoError

@@ -3,11 +3,11 @@ use Rattle.std.specs.Prelude.{◌≡◌, ◌⊎◌, ℕ, IsTrue, List, [], ◌�
 use Rattle.std.specs.{Char.is_ascii_alphanumeric, List.list_all}
 use Rattle.dns_types.specs.declared.error.DecodeError.{DecodeError}
 use Rattle.dns_types.specs.declared.error.DecodeError.TheVariants as decode
-use Rattle.dns_fields.specs.{Labels.DomainName, Fields.Kind, Fields.Number, Fields.Text, Fields.Name, Fields.Values}
+use Rattle.dns_fields.specs.{Labels.DomainName, Fields.Kind, Fields.Number, Fields.CharacterString, Fields.Name, Fields.Values}
 use Rattle.dns_labels.specs.Text.{name_text}
-use Rattle.dns_names_wire.specs.{State.Reading, Words.Took, Facts.Facts, Facts.ending}
-use Rattle.dns_words.specs.Forms.{Form, WordRow, word, ignored, number, kept, name}
-use Rattle.dns_rdata_base.specs.{Lossy.lossy, Refusing.IsLack, declared.naptr.NAPTR.NAPTR}
+use Rattle.dns_names_wire.specs.{State.Reading, Terms.Took, Facts.Facts, Facts.ending}
+use Rattle.dns_tokens.specs.Forms.{Form, TokenRow, token, ignored, number, kept, name}
+use Rattle.dns_rdata_base.specs.{Lossy.lossy, FieldErrors.IsLack, declared.naptr.NAPTR.NAPTR}
 
 -- order, preference
 abbrev pub naptr_numbers_shape : List Kind
@@ -18,14 +18,14 @@ naptr_numbers x = (x.order, (x.preference, tt))
 
 -- flags, services, regexp, replacement
 abbrev pub naptr_rest_shape : List Kind
-naptr_rest_shape = Text ∷ Text ∷ Text ∷ Name ∷ []
+naptr_rest_shape = CharacterString ∷ CharacterString ∷ CharacterString ∷ Name ∷ []
 
 abbrev pub naptr_rest : NAPTR → Values naptr_rest_shape
 naptr_rest x = (x.flags, (x.services, (x.regexp, (x.replacement, tt))))
 
 -- order, preference, flags, services, regexp, replacement
 abbrev pub naptr_shape : List Kind
-naptr_shape = Number 2 ∷ Number 2 ∷ Text ∷ Text ∷ Text ∷ Name ∷ []
+naptr_shape = Number 2 ∷ Number 2 ∷ CharacterString ∷ CharacterString ∷ CharacterString ∷ Name ∷ []
 
 abbrev pub naptr_fields : NAPTR → Values naptr_shape
 naptr_fields x = (x.order, (x.preference, (x.flags, (x.services, (x.regexp, (x.replacement, tt))))))
@@ -38,30 +38,32 @@ AreFlags flags = IsTrue (list_all is_ascii_alphanumeric flags)
 abbrev pub MeetsNaptrCondition : Values naptr_shape → Type 0
 MeetsNaptrCondition vs = AreFlags vs.1.1.0
 
--- the flags, behind order and preference, have another octet
+-- the flags, after order and preference, have another octet
 pub record BadFlags (old : Reading) (e : DecodeError) (new : Reading) : Type 0 where
   pub error : e ≡ decode.NaptrFlagsInvalid
   pub order : ℕ
   pub preference : ℕ
   pub flags : List ℕ
-  pub took : Took old (Number 2 ∷ Number 2 ∷ Text ∷ []) (order, (preference, (flags, tt))) new
+  pub took : Took old (Number 2 ∷ Number 2 ∷ CharacterString ∷ []) (order, (preference, (flags, tt))) new
   pub bad : AreFlags flags → ⊥
 
-abbrev pub IsNaptrRefusal : Reading → DecodeError → Reading → Type 0
-IsNaptrRefusal old e new = IsLack naptr_shape old e new ⊎ BadFlags old e new
+abbrev pub IsNaptrError : Reading → DecodeError → Reading → Type 0
+IsNaptrError old e new = IsLack naptr_shape old e new ⊎ BadFlags old e new
 
 abbrev pub naptr_facts : Facts NAPTR
-naptr_facts = ending naptr_shape MeetsNaptrCondition naptr_fields IsNaptrRefusal
+naptr_facts = ending naptr_shape MeetsNaptrCondition naptr_fields IsNaptrError
 
 -- the fields, a blank between, the strings in quotes
 abbrev pub naptr_text : NAPTR → List ℕ
-naptr_text x = decimal x.order ++ codes " " ++ decimal x.preference ++ codes " \"" ++ lossy x.flags ++ codes "\" \"" ++ lossy x.services
+naptr_text x = decimal x.order ++ codes " " ++ decimal x.preference
+    ++ codes " \"" ++ lossy x.flags ++ codes "\" \"" ++ lossy x.services
     ++ codes "\" \"" ++ lossy x.regexp ++ codes "\" " ++ name_text x.replacement
 
--- the word's octets, which are digits and letters
-abbrev pub flags_word : Form Text
-flags_word = record { is = λ octets word. (octets ≡ word) × AreFlags octets }
+-- the token's octets, which are digits and letters
+abbrev pub flags_token : Form CharacterString
+flags_token = record { is = λ octets token. (octets ≡ token) × AreFlags octets }
 
 -- order, preference, flags, services, regexp, replacement
-abbrev pub naptr_words : Option DomainName → WordRow naptr_shape
-naptr_words origin = word (number 2) (word (number 2) (word flags_word (word kept (word kept (word (name origin) ignored)))))
+abbrev pub naptr_tokens : Option DomainName → TokenRow naptr_shape
+naptr_tokens origin =
+    token (number 2) (token (number 2) (token flags_token (token kept (token kept (token (name origin) ignored)))))

@@ -4,7 +4,7 @@ use Rattle.base64.specs.{Engines.standard, GeneralPurpose.encode_of}
 use Rattle.dns_fields.specs.Fields.{Kind, Rest, Values}
 use Rattle.dns_types.specs.declared.error.DecodeError.{DecodeError}
 use Rattle.dns_types.specs.declared.error.DecodeError.TheVariants as decode
-use Rattle.dns_names_wire.specs.{State.Reading, Words.LacksOctets, Facts.Facts, Facts.filling}
+use Rattle.dns_names_wire.specs.{State.Reading, Terms.LacksOctets, Facts.Facts, Facts.filling}
 use Rattle.dns_rdata_base.specs.declared.null.NULL.{NULL}
 
 -- all octets
@@ -19,8 +19,8 @@ abbrev pub null_text : NULL → List ℕ
 null_text x = encode_of standard x.anything
 
 -- fewer than n octets are left, and none is taken
-abbrev pub IsNullRefusal : ℕ → Reading → DecodeError → Reading → Type 0
-IsNullRefusal n old e new = (new ≡ old) × ((e ≡ decode.Memory) ⊎ ((e ≡ decode.InsufficientBytes) × LacksOctets old n))
+abbrev pub IsNullError : ℕ → Reading → DecodeError → Reading → Type 0
+IsNullError n old e new = (new ≡ old) × ((e ≡ decode.Memory) ⊎ ((e ≡ decode.InsufficientBytes) × LacksOctets old n))
 
 abbrev pub null_facts : Facts NULL
-null_facts = filling null_shape (λ _. Unit {0}) null_fields IsNullRefusal (λ _. Unit {0})
+null_facts = filling null_shape (λ _. Unit {0}) null_fields IsNullError (λ _. Unit {0})

@@ -2,7 +2,7 @@
 use Rattle.std.specs.Prelude.{List, [], ◌∷◌}
 use Rattle.dns_fields.specs.{Fields.Kind, Fields.Number, Fields.Name, Fields.Values, Labels.DomainName}
 use Rattle.dns_names_wire.specs.Facts.{Facts}
-use Rattle.dns_rdata_base.specs.{Refusing.straight, declared.name.CNAME.CNAME, declared.name.NS.NS, declared.name.PTR.PTR, declared.name.ANAME.ANAME}
+use Rattle.dns_rdata_base.specs.{FieldErrors.straight, declared.name.CNAME.CNAME, declared.name.NS.NS, declared.name.PTR.PTR, declared.name.ANAME.ANAME}
 use Rattle.dns_rdata_base.specs.{declared.mx.MX.MX, declared.srv.SRV.SRV}
 
 abbrev pub name_shape : List Kind
@@ -41,7 +41,8 @@ mx_facts = straight (Number 2 ∷ Name ∷ []) (λ x. (x.preference, (x.exchange
 
 -- priority, weight, port, target
 abbrev pub srv_facts : Facts SRV
-srv_facts = straight (Number 2 ∷ Number 2 ∷ Number 2 ∷ Name ∷ []) (λ x. (x.priority, (x.weight, (x.port, (x.target, tt)))))
+srv_facts =
+    straight (Number 2 ∷ Number 2 ∷ Number 2 ∷ Name ∷ []) (λ x. (x.priority, (x.weight, (x.port, (x.target, tt)))))
 
 -- priority, weight, port
 abbrev pub srv_numbers_shape : List Kind

@@ -4,8 +4,8 @@ use Rattle.base64.specs.{Engines.standard, GeneralPurpose.encode_of}
 use Rattle.dns_fields.specs.Fields.{Kind, Rest, Values}
 use Rattle.dns_types.specs.declared.error.DecodeError.{DecodeError}
 use Rattle.dns_names_wire.specs.{State.Reading, Facts.Facts, Facts.filling}
-use Rattle.dns_words.specs.Forms.{WordRow, word, nothing, base64}
-use Rattle.dns_rdata_base.specs.{NULL.IsNullRefusal, declared.openpgpkey.OPENPGPKEY.OPENPGPKEY}
+use Rattle.dns_tokens.specs.Forms.{TokenRow, token, nothing, base64}
+use Rattle.dns_rdata_base.specs.{NULL.IsNullError, declared.openpgpkey.OPENPGPKEY.OPENPGPKEY}
 
 -- all octets are the key
 abbrev pub openpgpkey_shape : List Kind
@@ -19,11 +19,11 @@ abbrev pub openpgpkey_text : OPENPGPKEY → List ℕ
 openpgpkey_text x = encode_of standard x.public_key
 
 -- the key
-abbrev pub openpgpkey_words : WordRow openpgpkey_shape
-openpgpkey_words = word base64 nothing
+abbrev pub openpgpkey_tokens : TokenRow openpgpkey_shape
+openpgpkey_tokens = token base64 nothing
 
-abbrev pub IsOpenpgpkeyRefusal : ℕ → Reading → DecodeError → Reading → Type 0
-IsOpenpgpkeyRefusal = IsNullRefusal
+abbrev pub IsOpenpgpkeyError : ℕ → Reading → DecodeError → Reading → Type 0
+IsOpenpgpkeyError = IsNullError
 
 abbrev pub openpgpkey_facts : Facts OPENPGPKEY
-openpgpkey_facts = filling openpgpkey_shape (λ _. Unit {0}) openpgpkey_fields IsOpenpgpkeyRefusal (λ _. Unit {0})
+openpgpkey_facts = filling openpgpkey_shape (λ _. Unit {0}) openpgpkey_fields IsOpenpgpkeyError (λ _. Unit {0})

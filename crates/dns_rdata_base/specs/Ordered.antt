@@ -3,7 +3,7 @@ use Rattle.std.specs.Prelude.{◌≡◌, ◌≢◌, true, Bool, Option, Some, No
 use Rattle.std.specs.{Ordering.on, declared.cmp.Ordering.Ordering, declared.cmp.Ordering.TheVariants.Equal}
 use Rattle.dns_fields.specs.{Fields.Kind, Fields.Values, Fields.all_emittable, Order.values_cmp}
 use Rattle.dns_names_wire.specs.Facts.{Facts}
-use Rattle.dns_pieces.specs.Fronts.{canonical_cmp}
+use Rattle.dns_canonical.specs.Fronts.{canonical_cmp}
 
 -- Where o is Equal the two are equal; else both can be emitted, and o is the order of their canonical octets.
 pub record IsOrder (s : List Kind) (a b : Values s) (same : Bool) (o : Ordering) : Type 0 where

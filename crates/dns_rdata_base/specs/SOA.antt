@@ -4,8 +4,8 @@ use Rattle.dns_fields.specs.{Labels.DomainName, Fields.Kind, Fields.Number, Fiel
 use Rattle.dns_labels.specs.Text.{name_text}
 use Rattle.std.specs.{Fmt.signed_decimal, Int.cast_unsigned, Int.w32}
 use Rattle.dns_names_wire.specs.Facts.{Facts}
-use Rattle.dns_words.specs.{Forms.WordRow, Forms.word, Forms.ignored, Forms.ttl, Forms.name, Printed.IsPrintedName}
-use Rattle.dns_rdata_base.specs.{Refusing.straight, declared.soa.SOA.SOA}
+use Rattle.dns_tokens.specs.{Forms.TokenRow, Forms.token, Forms.ignored, Forms.ttl, Forms.name, Printed.IsPrintedName}
+use Rattle.dns_rdata_base.specs.{FieldErrors.straight, declared.soa.SOA.SOA}
 
 -- serial, refresh, retry, expire, minimum
 abbrev pub soa_numbers_shape : List Kind
@@ -32,16 +32,22 @@ pub record HasSeconds (x : SOA) : Type 0 where
   pub expire : FitsSigned w32 x.expire
 
 abbrev pub soa_facts : Facts SOA
-soa_facts = record (straight soa_shape soa_fields) { made = λ n x old new. HasSeconds x }
+soa_facts = record (straight soa_shape soa_fields) { after_read = λ n x old new. HasSeconds x }
 
 -- the fields, a blank between
 abbrev pub soa_text : SOA → List ℕ
-soa_text x = name_text x.mname ++ codes " " ++ name_text x.rname ++ codes " " ++ decimal x.serial ++ codes " " ++ signed_decimal x.refresh ++ codes " "
+soa_text x = name_text x.mname ++ codes " " ++ name_text x.rname ++ codes " " ++ decimal x.serial ++ codes " "
+    ++ signed_decimal x.refresh ++ codes " "
     ++ signed_decimal x.retry ++ codes " " ++ signed_decimal x.expire ++ codes " " ++ decimal x.minimum
 
 -- mname, rname, serial, refresh, retry, expire, minimum
-abbrev pub soa_words : Option DomainName → WordRow soa_shape
-soa_words origin = word (name origin) (word (name origin) (word (ttl 4294967295) (word (ttl 2147483647) (word (ttl 2147483647) (word (ttl 2147483647) (word (ttl 4294967295) ignored))))))
+abbrev pub soa_tokens : Option DomainName → TokenRow soa_shape
+soa_tokens origin =
+    token (name origin)
+    (token (name origin)
+    (token (ttl 4294967295)
+    (token (ttl 2147483647)
+    (token (ttl 2147483647) (token (ttl 2147483647) (token (ttl 4294967295) ignored))))))
 
 -- a number of 32 bits that is not negative
 abbrev pub AreSeconds : ℤ → Type 0

@@ -1,7 +1,7 @@
 -- The fields at which the steps of records begin.
 use Rattle.std.specs.{Prelude.ℕ, Prelude.zero, Prelude.suc, Prelude.List, Prelude.[], Prelude.◌∷◌, Prelude.drop, List.flat_map}
-use Rattle.dns_fields.specs.Pieces.{string}
-use Rattle.dns_pieces.specs.Steps.{LeftAt}
+use Rattle.dns_fields.specs.Tlvs.{string}
+use Rattle.dns_canonical.specs.Steps.{LeftAt}
 
 -- machine, operating system
 abbrev pub hinfo_begins : List ℕ

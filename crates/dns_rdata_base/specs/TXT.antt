@@ -1,16 +1,16 @@
 -- TXT: character strings (RFC 1035, 3.3.14).
 use Rattle.std.specs.Prelude.{◌≡◌, ◌⊎◌, ◌+◌, ◌<◌, ◌≤◌, ℕ, List, [], ◌∷◌}
 use Rattle.std.specs.{List.flat_map, Ordering.on}
-use Rattle.dns_fields.specs.{Fields.Kind, Fields.Texts, Fields.Values, Order.values_cmp}
+use Rattle.dns_fields.specs.{Fields.Kind, Fields.CharacterStrings, Fields.Values, Order.values_cmp}
 use Rattle.dns_types.specs.declared.error.DecodeError.{DecodeError}
 use Rattle.dns_types.specs.declared.error.DecodeError.TheVariants as decode
-use Rattle.dns_names_wire.specs.{State.Reading, Words.TookField, Words.LacksText, Facts.Facts}
-use Rattle.dns_words.specs.Forms.{WordRow, every_text}
+use Rattle.dns_names_wire.specs.{State.Reading, Terms.TookField, Terms.LacksText, Facts.Facts}
+use Rattle.dns_tokens.specs.Forms.{TokenRow, every_text}
 use Rattle.dns_rdata_base.specs.{Lossy.lossy, declared.txt.TXT.TXT}
 
 -- none or more, to the end
 abbrev pub txt_shape : List Kind
-txt_shape = Texts ∷ []
+txt_shape = CharacterStrings ∷ []
 
 abbrev pub txt_fields : TXT → Values txt_shape
 txt_fields x = (x.txt_data, tt)
@@ -20,19 +20,19 @@ abbrev pub txt_text : TXT → List ℕ
 txt_text x = flat_map lossy x.txt_data
 
 -- strings
-abbrev pub txt_words : WordRow txt_shape
-txt_words = every_text
+abbrev pub txt_tokens : TokenRow txt_shape
+txt_tokens = every_text
 
--- behind some strings, before n octets are taken, the next string lacks octets
+-- after some strings, before n octets are read, the next string lacks octets
 pub record LacksString (n : ℕ) (old new : Reading) : Type 0 where
   pub strings : List (List ℕ)
   pub between : Reading
-  pub took : TookField old Texts strings between
+  pub took : TookField old CharacterStrings strings between
   pub before : between.index < old.index + n
   pub lacks : LacksText between new
 
-abbrev pub IsTxtRefusal : ℕ → Reading → DecodeError → Reading → Type 0
-IsTxtRefusal n old e new = (e ≡ decode.Memory) ⊎ ((e ≡ decode.InsufficientBytes) × LacksString n old new)
+abbrev pub IsTxtError : ℕ → Reading → DecodeError → Reading → Type 0
+IsTxtError n old e new = (e ≡ decode.Memory) ⊎ ((e ≡ decode.InsufficientBytes) × LacksString n old new)
 
 -- the strings that were taken reach the length, or pass it
 abbrev pub txt_facts : Facts TXT
@@ -40,7 +40,7 @@ txt_facts = record {
   kinds = txt_shape;
   condition = λ _. Unit {0};
   fields = txt_fields;
-  refusal = IsTxtRefusal;
-  made = λ n x old new. TookField old Texts x.txt_data new × (old.index + n ≤ new.index);
+  rejects = IsTxtError;
+  after_read = λ n x old new. TookField old CharacterStrings x.txt_data new × (old.index + n ≤ new.index);
   order = on txt_fields (values_cmp txt_shape);
 }

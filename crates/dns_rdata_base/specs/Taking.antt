@@ -1,4 +1,4 @@
--- Addresses take octets wherever they stand: the law that their impls give, which is cited from specs alone.
+-- Addresses take at least one octet: the law that their impls give, which is cited from specs alone.
 use Rattle.std.proofs.Common.{ℕ, suc, ◌<◌, List, [], ◌∷◌, arith}
 use Rattle.dns_fields.specs.Fields.{Octets, Stands, Values}
 

@@ -2,19 +2,19 @@
 
 ghost use Rattle.std.specs.Prelude.{◌≡◌, ◌≢◌, ◌+◌, ◌<◌, ◌≤◌, ◌++◌, ℕ, List, [], ◌∷◌, length, length as list_length, decimal, OnErr, IfErr, Some};
 ghost use Rattle.std.specs.Net.Addr.{ipv4_octets};
-ghost use Rattle.dns_names_wire.specs.Words.{ReadsIf, ReadsBy, Emits, LacksOctets, Always, IsCut};
+ghost use Rattle.dns_names_wire.specs.Terms.{ReadsIf, ReadsBy, Emits, LacksOctets, Always, IsTruncated};
 ghost use Rattle.dns_types.specs.declared.error.ParseError.TheVariants as parse;
-ghost use Rattle.dns_rdata_base.specs.A.{a_shape, a_fields, a_facts, a_text, a_words};
-ghost use Rattle.dns_words.specs.Reads.{ReadsRow};
+ghost use Rattle.dns_rdata_base.specs.A.{a_shape, a_fields, a_facts, a_text, a_tokens};
+ghost use Rattle.dns_tokens.specs.Reads.{ReadsTokenRow};
 
 use crate::traits::TakesOctet;
 use crate::{OrderedRecord, unless_tied};
+use dns_canonical::{AtOnce, Head, Tail, octets_cmp};
 use dns_names_wire::{
     AddrParseError, BinDecodable, BinDecoder, BinEncodable, BinEncoder, DecodeError, DecodesFields,
     ParseError, ProtoError, Record,
 };
-use dns_pieces::{AtOnce, Head, Tail, octets_cmp};
-use dns_words::next_ipv4;
+use dns_tokens::next_ipv4;
 use std::cmp::Ordering;
 use std::convert::AsStr;
 use std::marker::Model;
@@ -52,7 +52,7 @@ impl A {
         mut tokens: I,
     ) -> Result<A, ParseError>
         requires can { I.can_next tokens }
-        ensures reads { ReadsRow I.next_gives S.text a_words a_fields result tokens }
+        ensures reads { ReadsTokenRow I.next_gives S.text a_tokens a_fields result tokens }
         ensures memory { IfErr result (λ e. e ≢ parse.Memory) }
     {
         Ok(A(next_ipv4(&mut tokens, "A address")?))
@@ -64,7 +64,7 @@ impl BinDecodable for A {
 
     ghost stands = { λ m p x q. Stands m p a_shape (a_fields x) q };
 
-    ghost refuses = { IsCut 4 };
+    ghost refuses = { IsTruncated 4 };
 
     /// Reads four octets. Allocates nothing.
     ///
@@ -169,12 +169,12 @@ impl AtOnce for A {
 impl OrderedRecord for A {
     #[inline]
     #[tactic(auto, unfolding(dns_fields::specs::Fields::field_octets))]
-    fn quick_cmp(&self, other: &A) -> Option<Ordering> {
+    fn cmp_canonical_fields(&self, other: &A) -> Option<Ordering> {
         let order = octets_cmp(&self.0.octets(), &other.0.octets());
         unless_tied(order, self, other, true)
     }
 
-    fn cmp_fields(&self, other: &A) -> Ordering {
+    fn cmp_values(&self, other: &A) -> Ordering {
         self.0.octets().as_slice().cmp(other.0.octets().as_slice())
     }
 }
@@ -197,7 +197,7 @@ impl fmt::Display for A {
     }
 }
 
-// The text of an address, put together on the stack, so that it is written in one piece.
+// The text of an address, put together on the stack, so that it is written at once.
 #[derive(Drop)]
 struct Dotted {
     octets: [u8; 16],

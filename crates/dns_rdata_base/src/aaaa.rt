@@ -2,20 +2,20 @@
 
 ghost use Rattle.std.specs.Prelude.{◌≡◌, ◌≢◌, ◌+◌, ◌-◌, ◌*◌, ◌/◌, ◌<◌, ◌≤◌, ℕ, List, [], ◌∷◌, length, length as list_length, OnErr, IfErr, Some};
 ghost use Rattle.std.specs.Net.Addr.{ipv6_segments, ipv6_octets};
-ghost use Rattle.dns_names_wire.specs.Words.{ReadsIf, ReadsBy, Emits, LacksOctets, Always, IsCut};
+ghost use Rattle.dns_names_wire.specs.Terms.{ReadsIf, ReadsBy, Emits, LacksOctets, Always, IsTruncated};
 ghost use Rattle.dns_names_wire.specs.Facts.{same, same_equiv, same_partial};
 ghost use Rattle.dns_types.specs.declared.error.ParseError.TheVariants as parse;
-ghost use Rattle.dns_rdata_base.specs.AAAA.{aaaa_shape, aaaa_fields, aaaa_facts, aaaa_text, aaaa_words};
-ghost use Rattle.dns_words.specs.Reads.{ReadsRow};
+ghost use Rattle.dns_rdata_base.specs.AAAA.{aaaa_shape, aaaa_fields, aaaa_facts, aaaa_text, aaaa_tokens};
+ghost use Rattle.dns_tokens.specs.Reads.{ReadsTokenRow};
 
 use crate::traits::TakesOctet;
 use crate::{OrderedRecord, unless_tied};
+use dns_canonical::{AtOnce, Head, Tail, octets_cmp};
 use dns_names_wire::{
     AddrParseError, BinDecodable, BinDecoder, BinEncodable, BinEncoder, DecodeError, DecodesFields,
     ParseError, ProtoError, Record,
 };
-use dns_pieces::{AtOnce, Head, Tail, octets_cmp};
-use dns_words::next_ipv6;
+use dns_tokens::next_ipv6;
 use std::cmp::Ordering;
 use std::convert::AsStr;
 use std::fmt;
@@ -54,7 +54,7 @@ impl AAAA {
         mut tokens: I,
     ) -> Result<AAAA, ParseError>
         requires can { I.can_next tokens }
-        ensures reads { ReadsRow I.next_gives S.text aaaa_words aaaa_fields result tokens }
+        ensures reads { ReadsTokenRow I.next_gives S.text aaaa_tokens aaaa_fields result tokens }
         ensures memory { IfErr result (λ e. e ≢ parse.Memory) }
     {
         Ok(AAAA(next_ipv6(&mut tokens, "AAAA address")?))
@@ -66,7 +66,7 @@ impl BinDecodable for AAAA {
 
     ghost stands = { λ m p x q. Stands m p aaaa_shape (aaaa_fields x) q };
 
-    ghost refuses = { IsCut 16 };
+    ghost refuses = { IsTruncated 16 };
 
     /// Reads sixteen octets. Allocates nothing.
     ///
@@ -175,7 +175,7 @@ impl Deref for AAAA {
     }
 }
 
-/// Reads eight groups of one to four hexadecimal digits joined by colons, one `::` in place of groups of zero, the last
+/// Reads eight groups of one to four hexadecimal digits joined by colons, one `::` instead of groups of zero, the last
 /// two groups perhaps as an IPv4 address (RFC 4291, section 2.2). Any other text is an error. Allocates nothing.
 impl FromStr for AAAA {
     type Err = AddrParseError;
@@ -204,12 +204,12 @@ impl AtOnce for AAAA {
 impl OrderedRecord for AAAA {
     #[inline]
     #[tactic(auto, unfolding(dns_fields::specs::Fields::field_octets))]
-    fn quick_cmp(&self, other: &AAAA) -> Option<Ordering> {
+    fn cmp_canonical_fields(&self, other: &AAAA) -> Option<Ordering> {
         let order = octets_cmp(&self.0.octets(), &other.0.octets());
         unless_tied(order, self, other, true)
     }
 
-    fn cmp_fields(&self, other: &AAAA) -> Ordering {
+    fn cmp_values(&self, other: &AAAA) -> Ordering {
         self.0.octets().as_slice().cmp(other.0.octets().as_slice())
     }
 }

@@ -1,11 +1,12 @@
-//! Octets that a reader took, held against the length of the data.
+//! The number of octets that a reader took, compared with RDLENGTH.
 
 ghost use Rattle.std.specs.Prelude.{◌≡◌, ◌-◌};
 ghost use Rattle.dns_rdata_base.specs.Counted.{by_length as answer_by_length};
 
 use dns_names_wire::{BinDecoder, DecodeError, Restrict};
 
-/// What reading answers that began at this place, by how many octets were taken of a length.
+/// Returns what a reader returned that began at this offset, if it took RDLENGTH octets or memory ran out, or if the
+/// type of its value is unknown; otherwise [`IncorrectRDataLengthRead`](DecodeError::IncorrectRDataLengthRead).
 #[inline]
 pub fn by_length<T: Drop>(
     outcome: Result<T, DecodeError>,

@@ -1,19 +1,21 @@
 //! HINFO: a machine and its system (RFC 1035, 3.3.2).
 
-ghost use Rattle.std.specs.{Prelude.◌≡◌, Prelude.Some, Box.boxed_slice_items, String.string_bytes};
-ghost use Rattle.dns_names_wire.specs.{Words.Emits, Facts.RecordRefuses, Facts.RecordStands};
-ghost use Rattle.dns_rdata_base.specs.HINFO.{hinfo_shape, hinfo_fields, hinfo_facts, hinfo_text, hinfo_words};
-ghost use Rattle.dns_words.specs.Reads.{ReadsRow};
+ghost use Rattle.std.specs.{Prelude.◌≡◌, Prelude.ℕ, Prelude.[], Prelude.Some, Box.boxed_slice_items, String.string_bytes};
+ghost use Rattle.dns_names_wire.specs.{Terms.Emits, Facts.RecordRefuses, Facts.RecordStands};
+ghost use Rattle.dns_fields.specs.Fields.{all_emittable};
+ghost use Rattle.dns_canonical.specs.Steps.{AllShort, GivesStep, field_steps};
+ghost use Rattle.dns_rdata_base.specs.Steps.{hinfo_begins};
+ghost use Rattle.dns_rdata_base.specs.HINFO.{hinfo_shape, hinfo_fields, hinfo_facts, hinfo_text, hinfo_tokens};
+ghost use Rattle.dns_tokens.specs.Reads.{ReadsTokenRow};
 
-use crate::steps::hinfo_is_emittable;
-use crate::{OrderedRecord, by_fields};
+use crate::{OrderedRecord, cmp_each_field};
 use bstr::BStr;
+use dns_canonical::{Head, Step, text_behind};
 use dns_names_wire::{
     BinDecodable, BinDecoder, BinEncodable, BinEncoder, DecodeError, DecodesFields, ParseError,
     ProtoError, Record, SmallOctets,
 };
-use dns_pieces::text_behind;
-use dns_words::next_kept;
+use dns_tokens::next_kept;
 use std::alloc::Global;
 use std::boxed::BoxedSlice;
 use std::cmp::Ordering;
@@ -69,7 +71,7 @@ impl HINFO {
         mut tokens: I,
     ) -> Result<HINFO, ParseError>
         requires can { I.can_next tokens }
-        ensures { ReadsRow I.next_gives S.text hinfo_words hinfo_fields result tokens }
+        ensures { ReadsTokenRow I.next_gives S.text hinfo_tokens hinfo_fields result tokens }
     {
         let cpu = next_kept(alloc, &mut tokens, "HINFO cpu")?;
         let os = next_kept(alloc, &mut tokens, "HINFO os")?;
@@ -130,10 +132,32 @@ impl BinEncodable for HINFO {
     }
 }
 
+/// Whether HINFO can be emitted: no string has more than 255 octets.
+#[inline]
+pub fn hinfo_is_emittable(x: &HINFO) -> bool
+    ensures { result ≡ all_emittable hinfo_shape (hinfo_fields x.now) }
+{
+    x.cpu.len() <= 255 && x.os.len() <= 255
+}
+
+/// The steps of HINFO: the machine, the operating system.
+#[inline]
+pub fn hinfo_step<'a>(x: &'a HINFO, step: usize, head: &mut Head) -> Option<Step<'a>>
+    requires empty { head.old ≡ [] }
+    requires short { AllShort hinfo_shape (hinfo_fields x.now) }
+    ensures { (i j : ℕ) → GivesStep (field_steps hinfo_begins hinfo_shape (hinfo_fields x.now)) step i j head.new result }
+{
+    match step {
+        0 => Some(Step::to(head.text(x.cpu.as_slice()), 1)),
+        1 => Some(Step::to(head.text(x.os.as_slice()), 2)),
+        _ => None,
+    }
+}
+
 impl OrderedRecord for HINFO {
     #[inline]
     #[tactic(auto, using(crate::proofs::QuickOrders::hinfo_orders, crate::proofs::QuickOrders::tie))]
-    fn quick_cmp(&self, other: &HINFO) -> Option<Ordering> {
+    fn cmp_canonical_fields(&self, other: &HINFO) -> Option<Ordering> {
         let cpu = text_behind(Ordering::Equal, self.cpu.as_slice(), other.cpu.as_slice());
         let order = text_behind(cpu, self.os.as_slice(), other.os.as_slice());
         if order.is_eq() {
@@ -145,8 +169,8 @@ impl OrderedRecord for HINFO {
         Some(order)
     }
 
-    fn cmp_fields(&self, other: &HINFO) -> Ordering {
-        by_fields!((self, other) cpu os)
+    fn cmp_values(&self, other: &HINFO) -> Ordering {
+        cmp_each_field!((self, other) cpu os)
     }
 }
 

@@ -3,15 +3,15 @@
 ghost use Rattle.std.specs.{Prelude.◌≡◌, Prelude.Some, Option.option_copied};
 ghost use Rattle.dns_fields.specs.declared.RDataEncoding.TheVariants as modes;
 ghost use Rattle.dns_rdata_base.specs.NameRecords.{mx_facts};
-ghost use Rattle.dns_words.specs.{Reads.ReadsRow, Straight.straight_words, Straight.straight_text};
+ghost use Rattle.dns_tokens.specs.{Reads.ReadsTokenRow, Straight.straight_tokens, Straight.straight_text};
 
-use crate::{OrderedRecord, by_fields, unless_tied};
+use crate::{OrderedRecord, cmp_each_field, unless_tied};
+use dns_canonical::{AtOnce, Head, Tail, name_behind, two_behind};
 use dns_names_wire::{
     BinDecodable, BinDecoder, BinEncodable, BinEncoder, DecodeError, DecodesFields, EncodesFields,
     Name, ParseError, ProtoError, RDataEncoding, Record,
 };
-use dns_pieces::{AtOnce, Head, Tail, name_behind, two_behind};
-use dns_words::{next_name, next_u16, number_field};
+use dns_tokens::{next_name, next_u16, number_field};
 use std::alloc::Global;
 use std::cmp::Ordering;
 use std::convert::AsStr;
@@ -60,7 +60,7 @@ impl MX {
         origin: Option<&Name>,
     ) -> Result<MX, ParseError>
         requires can { I.can_next tokens }
-        ensures { ReadsRow I.next_gives S.text (straight_words (option_copied origin.entry) mx_facts.kinds) mx_facts.fields result tokens }
+        ensures { ReadsTokenRow I.next_gives S.text (straight_tokens (option_copied origin.entry) mx_facts.kinds) mx_facts.fields result tokens }
     {
         let preference = next_u16(&mut tokens, number_field!("MX preference"))?;
         let exchange = next_name(alloc, &mut tokens, origin, "MX exchange")?;
@@ -104,14 +104,14 @@ impl AtOnce for MX {
 
 impl OrderedRecord for MX {
     #[inline]
-    fn quick_cmp(&self, other: &MX) -> Option<Ordering> {
+    fn cmp_canonical_fields(&self, other: &MX) -> Option<Ordering> {
         let preference = two_behind(Ordering::Equal, self.preference, other.preference);
         let order = name_behind(preference, &self.exchange, &other.exchange);
         unless_tied(order, self, other, false)
     }
 
-    fn cmp_fields(&self, other: &MX) -> Ordering {
-        by_fields!((self, other) preference exchange)
+    fn cmp_values(&self, other: &MX) -> Ordering {
+        cmp_each_field!((self, other) preference exchange)
     }
 }
 

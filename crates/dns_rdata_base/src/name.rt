@@ -1,22 +1,36 @@
 //! Records of one name: CNAME, NS, PTR (RFC 1035, 3.3) and ANAME.
 
-ghost use Rattle.std.specs.{Prelude.◌≡◌, Prelude.Some, Option.option_copied};
+ghost use Rattle.std.specs.{Prelude.◌≡◌, Prelude.ℕ, Prelude.[], Prelude.Some, Option.option_copied};
 ghost use Rattle.dns_fields.specs.declared.RDataEncoding.TheVariants as modes;
-ghost use Rattle.dns_rdata_base.specs.NameRecords.{name_shape, cname_fields, cname_facts, ns_fields, ns_facts, ptr_fields, ptr_facts, aname_fields, aname_facts};
-ghost use Rattle.dns_words.specs.{Reads.ReadsRow, Straight.straight_words, Straight.straight_text};
+ghost use Rattle.dns_canonical.specs.Steps.{GivesStep, at_once, field_steps};
+ghost use Rattle.dns_rdata_base.specs.NameRecords.{name_shape, name_fields, cname_fields, cname_facts, ns_fields, ns_facts, ptr_fields, ptr_facts, aname_fields, aname_facts};
+ghost use Rattle.dns_tokens.specs.{Reads.ReadsTokenRow, Straight.straight_tokens, Straight.straight_text};
 
 use crate::{OrderedRecord, unless_tied};
+use dns_canonical::{Head, Step, Tail, name_behind};
 use dns_names_wire::{
     BinDecodable, BinDecoder, BinEncodable, BinEncoder, DecodeError, DecodesFields, EncodesFields,
     Name, ParseError, ProtoError, RDataEncoding, Record,
 };
-use dns_pieces::name_behind;
-use dns_words::next_name;
+use dns_tokens::next_name;
 use std::alloc::Global;
 use std::cmp::Ordering;
 use std::convert::AsStr;
 use std::fmt;
 use std::ops::Deref;
+
+/// The only step of ANAME, CNAME, NS and PTR: the name.
+#[inline]
+pub fn name_step<'a>(name: &'a Name, step: usize, head: &mut Head) -> Option<Step<'a>>
+    requires empty { head.old ≡ [] }
+    ensures { (i j : ℕ) → GivesStep (field_steps at_once name_shape (name_fields name.now)) step i j head.new result }
+{
+    let _ = &head;
+    match step {
+        0 => Some(Step::to(Tail::name(name), 1)),
+        _ => None,
+    }
+}
 
 /// CNAME RDATA (RFC 1035, section 3.3.1): the canonical name of an alias.
 ///
@@ -34,7 +48,7 @@ impl CNAME {
         origin: Option<&Name>,
     ) -> Result<CNAME, ParseError>
         requires can { I.can_next tokens }
-        ensures { ReadsRow I.next_gives S.text (straight_words (option_copied origin.entry) name_shape) cname_fields result tokens }
+        ensures { ReadsTokenRow I.next_gives S.text (straight_tokens (option_copied origin.entry) name_shape) cname_fields result tokens }
     {
         Ok(CNAME(next_name(alloc, &mut tokens, origin, "CNAME name")?))
     }
@@ -75,12 +89,12 @@ impl Deref for CNAME {
 
 impl OrderedRecord for CNAME {
     #[inline]
-    fn quick_cmp(&self, other: &CNAME) -> Option<Ordering> {
+    fn cmp_canonical_fields(&self, other: &CNAME) -> Option<Ordering> {
         let order = name_behind(Ordering::Equal, &self.0, &other.0);
         unless_tied(order, self, other, false)
     }
 
-    fn cmp_fields(&self, other: &CNAME) -> Ordering {
+    fn cmp_values(&self, other: &CNAME) -> Ordering {
         self.0.cmp(&other.0)
     }
 }
@@ -110,7 +124,7 @@ impl NS {
         origin: Option<&Name>,
     ) -> Result<NS, ParseError>
         requires can { I.can_next tokens }
-        ensures { ReadsRow I.next_gives S.text (straight_words (option_copied origin.entry) name_shape) ns_fields result tokens }
+        ensures { ReadsTokenRow I.next_gives S.text (straight_tokens (option_copied origin.entry) name_shape) ns_fields result tokens }
     {
         Ok(NS(next_name(alloc, &mut tokens, origin, "NS name")?))
     }
@@ -151,12 +165,12 @@ impl Deref for NS {
 
 impl OrderedRecord for NS {
     #[inline]
-    fn quick_cmp(&self, other: &NS) -> Option<Ordering> {
+    fn cmp_canonical_fields(&self, other: &NS) -> Option<Ordering> {
         let order = name_behind(Ordering::Equal, &self.0, &other.0);
         unless_tied(order, self, other, false)
     }
 
-    fn cmp_fields(&self, other: &NS) -> Ordering {
+    fn cmp_values(&self, other: &NS) -> Ordering {
         self.0.cmp(&other.0)
     }
 }
@@ -186,7 +200,7 @@ impl PTR {
         origin: Option<&Name>,
     ) -> Result<PTR, ParseError>
         requires can { I.can_next tokens }
-        ensures { ReadsRow I.next_gives S.text (straight_words (option_copied origin.entry) name_shape) ptr_fields result tokens }
+        ensures { ReadsTokenRow I.next_gives S.text (straight_tokens (option_copied origin.entry) name_shape) ptr_fields result tokens }
     {
         Ok(PTR(next_name(alloc, &mut tokens, origin, "PTR name")?))
     }
@@ -227,12 +241,12 @@ impl Deref for PTR {
 
 impl OrderedRecord for PTR {
     #[inline]
-    fn quick_cmp(&self, other: &PTR) -> Option<Ordering> {
+    fn cmp_canonical_fields(&self, other: &PTR) -> Option<Ordering> {
         let order = name_behind(Ordering::Equal, &self.0, &other.0);
         unless_tied(order, self, other, false)
     }
 
-    fn cmp_fields(&self, other: &PTR) -> Ordering {
+    fn cmp_values(&self, other: &PTR) -> Ordering {
         self.0.cmp(&other.0)
     }
 }
@@ -268,7 +282,7 @@ impl ANAME {
         origin: Option<&Name>,
     ) -> Result<ANAME, ParseError>
         requires can { I.can_next tokens }
-        ensures { ReadsRow I.next_gives S.text (straight_words (option_copied origin.entry) name_shape) aname_fields result tokens }
+        ensures { ReadsTokenRow I.next_gives S.text (straight_tokens (option_copied origin.entry) name_shape) aname_fields result tokens }
     {
         Ok(ANAME(next_name(alloc, &mut tokens, origin, "ANAME name")?))
     }
@@ -309,12 +323,12 @@ impl Deref for ANAME {
 
 impl OrderedRecord for ANAME {
     #[inline]
-    fn quick_cmp(&self, other: &ANAME) -> Option<Ordering> {
+    fn cmp_canonical_fields(&self, other: &ANAME) -> Option<Ordering> {
         let order = name_behind(Ordering::Equal, &self.0, &other.0);
         unless_tied(order, self, other, false)
     }
 
-    fn cmp_fields(&self, other: &ANAME) -> Ordering {
+    fn cmp_values(&self, other: &ANAME) -> Ordering {
         self.0.cmp(&other.0)
     }
 }

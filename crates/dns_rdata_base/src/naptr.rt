@@ -1,21 +1,23 @@
 //! NAPTR: a rule that rewrites a name (RFC 3403, 4).
 
-ghost use Rattle.std.specs.{Prelude.◌≡◌, Prelude.Some, Option.option_copied, Box.boxed_slice_items, Char.is_ascii_alphanumeric, List.list_all};
-ghost use Rattle.dns_names_wire.specs.{Words.Emits};
+ghost use Rattle.std.specs.{Prelude.◌≡◌, Prelude.ℕ, Prelude.[], Prelude.Some, Option.option_copied, Box.boxed_slice_items, Char.is_ascii_alphanumeric, List.list_all};
+ghost use Rattle.dns_names_wire.specs.{Terms.Emits};
 ghost use Rattle.dns_rdata_base.specs.NAPTR.{naptr_numbers_shape, naptr_numbers, naptr_rest_shape, naptr_rest, naptr_shape, naptr_fields};
-ghost use Rattle.dns_rdata_base.specs.NAPTR.{naptr_facts, naptr_text, flags_word, naptr_words};
-ghost use Rattle.dns_words.specs.Reads.{ReadsRow, ReadsText, ReadsWord, GoesOn};
+ghost use Rattle.dns_fields.specs.Fields.{all_emittable};
+ghost use Rattle.dns_canonical.specs.Steps.{AllShort, GivesStep, field_steps};
+ghost use Rattle.dns_rdata_base.specs.Steps.{naptr_begins};
+ghost use Rattle.dns_rdata_base.specs.NAPTR.{naptr_facts, naptr_text, flags_token, naptr_tokens};
+ghost use Rattle.dns_tokens.specs.Reads.{ReadsTokenRow, ReadsText, ReadsToken, GoesOn};
 ghost use Rattle.dns_fields.specs.declared.RDataEncoding.TheVariants as modes;
 
-use crate::steps::naptr_is_emittable;
-use crate::{OrderedRecord, by_fields, unless_tied};
+use crate::{OrderedRecord, cmp_each_field, unless_tied};
 use bstr::BStr;
+use dns_canonical::{Head, Step, Tail, name_behind, text_behind, two_behind};
 use dns_names_wire::{
     BinDecodable, BinDecoder, BinEncodable, BinEncoder, DecodeError, DecodesFields, EncodesFields,
     Name, Octets, ParseError, ProtoError, RDataEncoding, Record,
 };
-use dns_pieces::{name_behind, text_behind, two_behind};
-use dns_words::{next_kept, next_name, next_u16, next_word, number_field};
+use dns_tokens::{next_kept, next_name, next_token, next_u16, number_field};
 use std::alloc::Global;
 use std::boxed::BoxedSlice;
 use std::cmp::Ordering;
@@ -99,7 +101,7 @@ impl NAPTR {
         origin: Option<&Name>,
     ) -> Result<NAPTR, ParseError>
         requires can { I.can_next tokens }
-        ensures { ReadsRow I.next_gives S.text (naptr_words (option_copied origin.entry)) naptr_fields result tokens }
+        ensures { ReadsTokenRow I.next_gives S.text (naptr_tokens (option_copied origin.entry)) naptr_fields result tokens }
     {
         let order = next_u16(&mut tokens, number_field!("NAPTR order"))?;
         let preference = next_u16(&mut tokens, number_field!("NAPTR preference"))?;
@@ -118,28 +120,28 @@ impl NAPTR {
     }
 }
 
-// The octets of a word of digits and letters.
-fn flags_of(alloc: Global, word: &str) -> Result<Octets, ParseError>
-    ensures { ReadsText flags_word (λ x. x) result word.now }
+// The octets of a token of digits and letters.
+fn flags_of(alloc: Global, token: &str) -> Result<Octets, ParseError>
+    ensures { ReadsText flags_token (λ x. x) result token.now }
 {
-    if !verify_flags(word.as_bytes()) {
+    if !verify_flags(token.as_bytes()) {
         return Err(ParseError::Message("NAPTR flags are letters and digits"));
     }
-    let octets = Octets::from_slice(alloc, word.as_bytes())?;
+    let octets = Octets::from_slice(alloc, token.as_bytes())?;
     Ok(octets)
 }
 
-// The octets of the next word, which are digits and letters.
+// The octets of the next token, which are digits and letters.
 fn next_flags<S: AsStr + Drop, I: Iterator<Item = S>>(
     alloc: Global,
-    words: &mut I,
+    tokens: &mut I,
 ) -> Result<Octets, ParseError>
-    requires can { I.can_next words.old }
-    ensures reads { ReadsWord I.next_gives S.text flags_word (λ x. x) result words.old words.new }
-    ensures goes { GoesOn I.can_next I.remaining result words.old words.new }
+    requires can { I.can_next tokens.old }
+    ensures reads { ReadsToken I.next_gives S.text flags_token (λ x. x) result tokens.old tokens.new }
+    ensures goes { GoesOn I.can_next I.remaining result tokens.old tokens.new }
 {
-    let word = next_word(words, "NAPTR flags")?;
-    flags_of(alloc, word.as_str())
+    let token = next_token(tokens, "NAPTR flags")?;
+    flags_of(alloc, token.as_str())
 }
 
 impl Record for NAPTR {
@@ -213,9 +215,37 @@ impl EncodesFields for NAPTR {
     }
 }
 
+/// Whether NAPTR can be emitted: no string has more than 255 octets.
+#[inline]
+pub fn naptr_is_emittable(x: &NAPTR) -> bool
+    ensures { result ≡ all_emittable naptr_shape (naptr_fields x.now) }
+{
+    x.flags.len() <= 255 && x.services.len() <= 255 && x.regexp.len() <= 255
+}
+
+/// The steps of NAPTR: numbers and flags, the services, the substitution, the name.
+#[inline]
+pub fn naptr_step<'a>(x: &'a NAPTR, step: usize, head: &mut Head) -> Option<Step<'a>>
+    requires empty { head.old ≡ [] }
+    requires short { AllShort naptr_shape (naptr_fields x.now) }
+    ensures { (i j : ℕ) → GivesStep (field_steps naptr_begins naptr_shape (naptr_fields x.now)) step i j head.new result }
+{
+    match step {
+        0 => {
+            head.two(x.order);
+            head.two(x.preference);
+            Some(Step::to(head.text(x.flags.as_slice()), 1))
+        }
+        1 => Some(Step::to(head.text(x.services.as_slice()), 2)),
+        2 => Some(Step::to(head.text(x.regexp.as_slice()), 3)),
+        3 => Some(Step::to(Tail::name(&x.replacement), 4)),
+        _ => None,
+    }
+}
+
 impl OrderedRecord for NAPTR {
     #[inline]
-    fn quick_cmp(&self, other: &NAPTR) -> Option<Ordering> {
+    fn cmp_canonical_fields(&self, other: &NAPTR) -> Option<Ordering> {
         if !naptr_is_emittable(self) || !naptr_is_emittable(other) {
             return None;
         }
@@ -228,8 +258,8 @@ impl OrderedRecord for NAPTR {
         unless_tied(whole, self, other, false)
     }
 
-    fn cmp_fields(&self, other: &NAPTR) -> Ordering {
-        by_fields!((self, other) order preference flags services regexp replacement)
+    fn cmp_values(&self, other: &NAPTR) -> Ordering {
+        cmp_each_field!((self, other) order preference flags services regexp replacement)
     }
 }
 

@@ -1,16 +1,16 @@
-//! NULL: octets without a form (RFC 1035, 3.3.10).
+//! NULL: any octets (RFC 1035, section 3.3.10).
 
 ghost use Rattle.std.specs.Prelude.{◌≡◌, ◌≢◌, [], Some};
-ghost use Rattle.dns_names_wire.specs.{Words.Emits};
+ghost use Rattle.dns_names_wire.specs.{Terms.Emits};
 ghost use Rattle.dns_rdata_base.specs.NULL.{null_shape, null_fields, null_facts, null_text};
 
 use crate::OrderedRecord;
-use crate::rest::rest_quick_cmp;
+use crate::rest::rest_cmp_canonical;
 use dns_names_wire::{
     BinDecoder, BinEncodable, BinEncoder, DecodeError, ProtoError, Record, RecordDataDecodable,
     Restrict, SmallOctets,
 };
-use dns_words::Base64Text;
+use dns_tokens::Base64Text;
 use std::alloc::Global;
 use std::cmp::Ordering;
 use std::fmt;
@@ -67,7 +67,7 @@ impl RecordDataDecodable for NULL {
     /// - [`Memory`](DecodeError::Memory): the allocation failed.
     #[inline]
     fn read_data(decoder: &mut BinDecoder<'_>, length: Restrict<u16>) -> Result<NULL, DecodeError> {
-        // Called for its clauses: the message is octets, and the place is in it.
+        // For the proof: brings in that the message is octets and the index is at most its length.
         let _start = decoder.index();
         let octets = decoder.read_small(length.unverified() as usize)?;
         Ok(NULL {
@@ -88,11 +88,11 @@ impl BinEncodable for NULL {
 
 impl OrderedRecord for NULL {
     #[inline]
-    fn quick_cmp(&self, other: &NULL) -> Option<Ordering> {
-        rest_quick_cmp(&self.anything, &other.anything)
+    fn cmp_canonical_fields(&self, other: &NULL) -> Option<Ordering> {
+        rest_cmp_canonical(&self.anything, &other.anything)
     }
 
-    fn cmp_fields(&self, other: &NULL) -> Ordering {
+    fn cmp_values(&self, other: &NULL) -> Ordering {
         self.anything.cmp(&other.anything)
     }
 }

@@ -1,17 +1,17 @@
 //! OPENPGPKEY: a public key (RFC 7929, 2.1).
 
 ghost use Rattle.std.specs.Prelude.{◌≡◌, Some};
-ghost use Rattle.dns_names_wire.specs.{Words.Emits};
-ghost use Rattle.dns_rdata_base.specs.OPENPGPKEY.{openpgpkey_shape, openpgpkey_fields, openpgpkey_facts, openpgpkey_text, openpgpkey_words};
-ghost use Rattle.dns_words.specs.Reads.{ReadsRow};
+ghost use Rattle.dns_names_wire.specs.{Terms.Emits};
+ghost use Rattle.dns_rdata_base.specs.OPENPGPKEY.{openpgpkey_shape, openpgpkey_fields, openpgpkey_facts, openpgpkey_text, openpgpkey_tokens};
+ghost use Rattle.dns_tokens.specs.Reads.{ReadsTokenRow};
 
 use crate::OrderedRecord;
-use crate::rest::rest_quick_cmp;
+use crate::rest::rest_cmp_canonical;
 use dns_names_wire::{
     BinDecoder, BinEncodable, BinEncoder, DecodeError, ParseError, ProtoError, Record,
     RecordDataDecodable, Restrict, SmallOctets,
 };
-use dns_words::{Base64Text, base64_field, next_base64, no_more};
+use dns_tokens::{Base64Text, base64_field, next_base64, no_more};
 use std::alloc::Global;
 use std::cmp::Ordering;
 use std::convert::AsStr;
@@ -48,10 +48,10 @@ impl OPENPGPKEY {
         mut tokens: I,
     ) -> Result<OPENPGPKEY, ParseError>
         requires can { I.can_next tokens }
-        ensures { ReadsRow I.next_gives S.text openpgpkey_words openpgpkey_fields result tokens }
+        ensures { ReadsTokenRow I.next_gives S.text openpgpkey_tokens openpgpkey_fields result tokens }
     {
         let public_key = next_base64(alloc, &mut tokens, base64_field!("OPENPGPKEY public key"))?;
-        no_more(&mut tokens, "a word behind the OPENPGPKEY public key")?;
+        no_more(&mut tokens, "a token after the OPENPGPKEY public key")?;
         Ok(OPENPGPKEY {
             public_key: SmallOctets::from_vec(public_key.into_vec()),
         })
@@ -76,7 +76,7 @@ impl RecordDataDecodable for OPENPGPKEY {
         decoder: &mut BinDecoder<'_>,
         length: Restrict<u16>,
     ) -> Result<OPENPGPKEY, DecodeError> {
-        // Called for its clauses: the message is octets, and the place is in it.
+        // For the proof: brings in that the message is octets and the index is at most its length.
         let _start = decoder.index();
         let octets = decoder.read_small(length.unverified() as usize)?;
         Ok(OPENPGPKEY {
@@ -97,11 +97,11 @@ impl BinEncodable for OPENPGPKEY {
 
 impl OrderedRecord for OPENPGPKEY {
     #[inline]
-    fn quick_cmp(&self, other: &OPENPGPKEY) -> Option<Ordering> {
-        rest_quick_cmp(&self.public_key, &other.public_key)
+    fn cmp_canonical_fields(&self, other: &OPENPGPKEY) -> Option<Ordering> {
+        rest_cmp_canonical(&self.public_key, &other.public_key)
     }
 
-    fn cmp_fields(&self, other: &OPENPGPKEY) -> Ordering {
+    fn cmp_values(&self, other: &OPENPGPKEY) -> Ordering {
         self.public_key.cmp(&other.public_key)
     }
 }

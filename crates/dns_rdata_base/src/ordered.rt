@@ -3,7 +3,7 @@
 ghost use Rattle.std.specs.Prelude.{◌≡◌, true};
 ghost use Rattle.std.specs.declared.cmp.Ordering.TheVariants.{Equal};
 ghost use Rattle.dns_fields.specs.Fields.{all_emittable};
-ghost use Rattle.dns_pieces.specs.Fronts.{AllEndAlike, fields_cmp};
+ghost use Rattle.dns_canonical.specs.Fronts.{AllEndAlike, fields_cmp};
 ghost use Rattle.dns_rdata_base.specs.Ordered.{IfSomeOrder};
 
 use dns_names_wire::Record;
@@ -12,11 +12,11 @@ use std::cmp::Ordering;
 /// A record that is ordered by its fields, and by what it is compared by.
 pub trait OrderedRecord: Record + PartialEq {
     /// The order of the canonical octets, where the fields tell it without a cursor. `Equal` only of equal records.
-    fn quick_cmp(&self, other: &Self) -> Option<Ordering>
+    fn cmp_canonical_fields(&self, other: &Self) -> Option<Ordering>
         ensures { IfSomeOrder Self.facts.kinds (Self.facts.fields self.now) (Self.facts.fields other.now) (Self.eq self.now other.now) result };
 
     /// The order by the fields in turn, each by its value.
-    fn cmp_fields(&self, other: &Self) -> Ordering
+    fn cmp_values(&self, other: &Self) -> Ordering
         ensures { result ≡ Self.facts.order self.now other.now };
 }
 
@@ -33,7 +33,7 @@ macro_rules! in_order {
 
 /// The order of two records by the first of these fields that differs.
 #[macro_export]
-macro_rules! by_fields {
+macro_rules! cmp_each_field {
     (($a:expr, $b:expr) $($field:ident)+) => {
         $crate::in_order!($($a.$field.cmp(&$b.$field)),+)
     };
@@ -48,9 +48,9 @@ pub fn is_equal<T: PartialEq>(a: &T, b: &T) -> bool
 }
 
 /// The order of two records that can be emitted, as it was found field by field. `None` where it ties two that are not
-/// equal. They are compared in place, or by a call.
+/// equal. They are compared inline (`in_place`), or by a call.
 #[inline]
-#[tactic(auto, using(dns_pieces::proofs::Fronts::ordered))]
+#[tactic(auto, using(dns_canonical::proofs::Fronts::ordered))]
 pub fn unless_tied<T: Record + PartialEq>(
     order: Ordering,
     a: &T,

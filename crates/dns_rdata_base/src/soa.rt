@@ -1,23 +1,24 @@
 //! SOA: the start of a zone of authority (RFC 1035, 3.3.13).
 
-ghost use Rattle.std.specs.Prelude.{◌≡◌, ◌+◌, ◌++◌, ◌%◌, IfErr, IfOk, Some};
+ghost use Rattle.std.specs.Prelude.{◌≡◌, ◌+◌, ◌++◌, ◌%◌, ℕ, [], IfErr, IfOk, Some};
 ghost use Rattle.std.specs.{Int.bytes_high_first, Option.option_copied};
-ghost use Rattle.dns_names_wire.specs.{Words.ReadsIf, Words.Emits, Words.Always, Facts.same, Facts.same_equiv, Facts.same_partial};
-ghost use Rattle.dns_rdata_base.specs.Refusing.{IsLack};
-ghost use Rattle.dns_rdata_base.specs.SOA.{soa_shape, soa_fields, soa_facts, soa_numbers_shape, soa_numbers, soa_numbers_of, soa_text, soa_words, HasSeconds};
-ghost use Rattle.dns_words.specs.Reads.{ReadsRow};
+ghost use Rattle.dns_names_wire.specs.{Terms.ReadsIf, Terms.Emits, Terms.Always, Facts.same, Facts.same_equiv, Facts.same_partial};
+ghost use Rattle.dns_rdata_base.specs.FieldErrors.{IsLack};
+ghost use Rattle.dns_rdata_base.specs.SOA.{soa_shape, soa_fields, soa_facts, soa_numbers_shape, soa_numbers, soa_numbers_of, soa_text, soa_tokens, HasSeconds};
+ghost use Rattle.dns_tokens.specs.Reads.{ReadsTokenRow};
 ghost use Rattle.dns_fields.specs.declared.RDataEncoding.TheVariants as modes;
 ghost use Rattle.std.specs.{Cmp.Lexicographic.slice_cmp, Int.cast_unsigned, Int.w32, Ordering.nat_cmp, Ordering.ordering_then, declared.cmp.Ordering.TheVariants.Equal};
-ghost use Rattle.dns_fields.specs.Fields.{Number, field_octets};
-ghost use Rattle.dns_pieces.specs.Fronts.{AllEndAlike, fields_cmp};
+ghost use Rattle.dns_fields.specs.Fields.{Number, canonical, field_octets};
+ghost use Rattle.dns_canonical.specs.{Fronts.AllEndAlike, Fronts.fields_cmp, Steps.GivesStep, Steps.field_steps};
+ghost use Rattle.dns_rdata_base.specs.Steps.{soa_begins};
 
 use crate::{OrderedRecord, in_order, unless_tied};
+use dns_canonical::{Head, Step, Tail, four_behind, name_behind};
 use dns_names_wire::{
     BinDecodable, BinDecoder, BinEncodable, BinEncoder, DecodeError, DecodesFields, EncodesFields,
     Name, ParseError, ProtoError, RDataEncoding, Record,
 };
-use dns_pieces::{four_behind, name_behind};
-use dns_words::{next_name, next_signed_ttl, next_ttl, time_field};
+use dns_tokens::{next_name, next_signed_ttl, next_ttl, time_field};
 use std::alloc::Global;
 use std::cmp::Ordering;
 use std::convert::AsStr;
@@ -36,7 +37,7 @@ use std::fmt;
 pub struct SOA {
     /// The name server that the zone came from.
     pub mname: Name,
-    /// The mailbox of who is responsible, its first dot in place of the `@`.
+    /// The mailbox of who is responsible, with a dot instead of the `@`.
     pub rname: Name,
     /// The version of the zone, 32 bits, compared as a circle (RFC 1982).
     pub serial: u32,
@@ -98,7 +99,7 @@ impl SOA {
         origin: Option<&Name>,
     ) -> Result<SOA, ParseError>
         requires can { I.can_next tokens }
-        ensures reads { ReadsRow I.next_gives S.text (soa_words (option_copied origin.entry)) soa_fields result tokens }
+        ensures reads { ReadsTokenRow I.next_gives S.text (soa_tokens (option_copied origin.entry)) soa_fields result tokens }
         ensures seconds { IfOk result HasSeconds }
     {
         let mname = next_name(alloc, &mut tokens, origin, "SOA mname")?;
@@ -220,12 +221,42 @@ impl Eq for SOA {
     ghost laws = { same_equiv soa_shape soa_fields };
 }
 
-// A number in two's complement, behind fields that were compared so.
+// The order by earlier fields, which are compared already, and then by a number in two's complement.
 #[inline]
 fn seconds_behind(first: Ordering, a: &i32, b: &i32) -> Ordering
     ensures { result ≡ ordering_then first (slice_cmp nat_cmp (field_octets (Number 4) (cast_unsigned w32 a.now)) (field_octets (Number 4) (cast_unsigned w32 b.now))) }
 {
     four_behind(first, a.cast_unsigned(), b.cast_unsigned())
+}
+
+// Serial, refresh, retry, expire and minimum.
+#[inline]
+fn soa_numbers_head(x: &SOA, head: &mut Head)
+    requires { head.old ≡ [] }
+    ensures { head.new ≡ canonical soa_numbers_shape (soa_numbers_of x.now) }
+{
+    head.four(x.serial);
+    head.four(x.refresh.cast_unsigned());
+    head.four(x.retry.cast_unsigned());
+    head.four(x.expire.cast_unsigned());
+    head.four(x.minimum);
+}
+
+/// The steps of SOA: the two names, and then the numbers.
+#[inline]
+pub fn soa_step<'a>(x: &'a SOA, step: usize, head: &mut Head) -> Option<Step<'a>>
+    requires empty { head.old ≡ [] }
+    ensures { (i j : ℕ) → GivesStep (field_steps soa_begins soa_shape (soa_fields x.now)) step i j head.new result }
+{
+    match step {
+        0 => Some(Step::to(Tail::name(&x.mname), 1)),
+        1 => Some(Step::to(Tail::name(&x.rname), 2)),
+        2 => {
+            soa_numbers_head(x, head);
+            Some(Step::to(Tail::none(), 3))
+        }
+        _ => None,
+    }
 }
 
 // The two names, and then the numbers, field by field.
@@ -244,11 +275,11 @@ fn soa_order(a: &SOA, b: &SOA) -> Ordering
 
 impl OrderedRecord for SOA {
     #[inline]
-    fn quick_cmp(&self, other: &SOA) -> Option<Ordering> {
+    fn cmp_canonical_fields(&self, other: &SOA) -> Option<Ordering> {
         unless_tied(soa_order(self, other), self, other, true)
     }
 
-    fn cmp_fields(&self, other: &SOA) -> Ordering {
+    fn cmp_values(&self, other: &SOA) -> Ordering {
         in_order!(
             self.mname.cmp(&other.mname),
             self.rname.cmp(&other.rname),

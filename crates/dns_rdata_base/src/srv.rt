@@ -2,17 +2,17 @@
 
 ghost use Rattle.std.specs.{Prelude.◌≡◌, Prelude.Some, Option.option_copied};
 ghost use Rattle.dns_fields.specs.declared.RDataEncoding.TheVariants as modes;
-ghost use Rattle.dns_names_wire.specs.{Words.Emits};
+ghost use Rattle.dns_names_wire.specs.{Terms.Emits};
 ghost use Rattle.dns_rdata_base.specs.NameRecords.{srv_numbers_shape, srv_numbers, srv_facts};
-ghost use Rattle.dns_words.specs.{Reads.ReadsRow, Straight.straight_words, Straight.straight_text};
+ghost use Rattle.dns_tokens.specs.{Reads.ReadsTokenRow, Straight.straight_tokens, Straight.straight_text};
 
-use crate::{OrderedRecord, by_fields, unless_tied};
+use crate::{OrderedRecord, cmp_each_field, unless_tied};
+use dns_canonical::{AtOnce, Head, Tail, name_behind, two_behind};
 use dns_names_wire::{
     BinDecodable, BinDecoder, BinEncodable, BinEncoder, DecodeError, DecodesFields, EncodesFields,
     Name, ParseError, ProtoError, RDataEncoding, Record,
 };
-use dns_pieces::{AtOnce, Head, Tail, name_behind, two_behind};
-use dns_words::{next_name, next_u16, number_field};
+use dns_tokens::{next_name, next_u16, number_field};
 use std::alloc::Global;
 use std::cmp::Ordering;
 use std::convert::AsStr;
@@ -58,7 +58,7 @@ impl SRV {
         origin: Option<&Name>,
     ) -> Result<SRV, ParseError>
         requires can { I.can_next tokens }
-        ensures { ReadsRow I.next_gives S.text (straight_words (option_copied origin.entry) srv_facts.kinds) srv_facts.fields result tokens }
+        ensures { ReadsTokenRow I.next_gives S.text (straight_tokens (option_copied origin.entry) srv_facts.kinds) srv_facts.fields result tokens }
     {
         let priority = next_u16(&mut tokens, number_field!("SRV priority"))?;
         let weight = next_u16(&mut tokens, number_field!("SRV weight"))?;
@@ -139,7 +139,7 @@ impl AtOnce for SRV {
 
 impl OrderedRecord for SRV {
     #[inline]
-    fn quick_cmp(&self, other: &SRV) -> Option<Ordering> {
+    fn cmp_canonical_fields(&self, other: &SRV) -> Option<Ordering> {
         let priority = two_behind(Ordering::Equal, self.priority, other.priority);
         let weight = two_behind(priority, self.weight, other.weight);
         let port = two_behind(weight, self.port, other.port);
@@ -147,8 +147,8 @@ impl OrderedRecord for SRV {
         unless_tied(order, self, other, false)
     }
 
-    fn cmp_fields(&self, other: &SRV) -> Ordering {
-        by_fields!((self, other) priority weight port target)
+    fn cmp_values(&self, other: &SRV) -> Ordering {
+        cmp_each_field!((self, other) priority weight port target)
     }
 }
 

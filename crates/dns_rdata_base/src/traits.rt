@@ -1,11 +1,11 @@
-//! Values of which none stands in no octets.
+//! Types whose values always take at least one octet.
 
 ghost use Rattle.std.specs.Prelude.{ℕ, List, ◌<◌};
 
 use dns_names_wire::BinDecodable;
 
-/// What takes at least one octet wherever it stands.
+/// A type whose values take at least one octet each.
 pub trait TakesOctet: BinDecodable {
-    /// A value ends behind the place where it begins.
+    /// A value ends after the offset where it begins.
     ghost takes: { (m : List ℕ) (p : ℕ) (x : Self) (q : ℕ) → Self.stands m p x q → p < q };
 }

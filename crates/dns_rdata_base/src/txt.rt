@@ -1,25 +1,25 @@
 //! TXT: character strings (RFC 1035, 3.3.14).
 
-ghost use Rattle.std.specs.Prelude.{◌≡◌, ◌≤◌, ℕ, List, map, length as list_length, IfOk, Some};
+ghost use Rattle.std.specs.Prelude.{◌≡◌, ◌≤◌, ℕ, List, [], map, length as list_length, IfOk, Some};
 ghost use Rattle.std.specs.{String.string_bytes, Iterator.IsFinite};
-ghost use Rattle.dns_fields.specs.Fields.{Texts, Field};
-ghost use Rattle.dns_names_wire.specs.{Words.Emits};
+ghost use Rattle.dns_fields.specs.Fields.{CharacterStrings, Field, all_emittable};
+ghost use Rattle.dns_names_wire.specs.{Terms.Emits};
 ghost use Rattle.std.specs.{Cmp.Lexicographic.slice_cmp, List.flat_map, Ordering.nat_cmp};
-ghost use Rattle.dns_fields.specs.Pieces.{string};
-ghost use Rattle.dns_pieces.specs.Fronts.{canonical_cmp};
-ghost use Rattle.dns_rdata_base.specs.TXT.{txt_shape, txt_fields, txt_facts, txt_text, txt_words};
-ghost use Rattle.dns_words.specs.Reads.{ReadsRow};
+ghost use Rattle.dns_fields.specs.Tlvs.{string};
+ghost use Rattle.dns_canonical.specs.{Fronts.canonical_cmp, Steps.AllShort, Steps.GivesStep};
+ghost use Rattle.dns_rdata_base.specs.Steps.{texts_left};
+ghost use Rattle.dns_rdata_base.specs.TXT.{txt_shape, txt_fields, txt_facts, txt_text, txt_tokens};
+ghost use Rattle.dns_tokens.specs.Reads.{ReadsTokenRow};
 
 use crate::OrderedRecord;
-use crate::steps::txt_is_emittable;
 use bstr::BStr;
+use dns_canonical::{Head, Step, text_behind};
 use dns_names_wire::{
     BinDecoder, BinEncodable, BinEncoder, DecodeError, Octets, ParseError, ProtoError, Record,
     RecordDataDecodable, Restrict,
 };
-use dns_pieces::text_behind;
+use dns_tokens::all_texts;
 use dns_types::Strings;
-use dns_words::all_texts;
 use std::alloc::{AllocError, Global};
 use std::cmp::Ordering;
 use std::convert::AsStr;
@@ -74,7 +74,7 @@ impl TXT {
     ) -> Result<TXT, ParseError>
         requires can { I.can_next tokens }
         requires ends { IsFinite (I.remaining tokens) }
-        ensures { ReadsRow I.next_gives S.text txt_words txt_fields result tokens }
+        ensures { ReadsTokenRow I.next_gives S.text txt_tokens txt_fields result tokens }
     {
         let txt_data = all_texts(alloc, tokens)?;
         Ok(TXT { txt_data })
@@ -111,12 +111,12 @@ impl RecordDataDecodable for TXT {
 // How many strings begin in the first so many octets; where strings fill these, their number.
 fn strings_within(octets: &[u8], length: usize) -> usize
     ensures bounded { result ≤ length }
-    ensures counted { (strings : List (List ℕ)) → Field octets.now 0 Texts strings length → result ≡ list_length strings }
+    ensures counted { (strings : List (List ℕ)) → Field octets.now 0 CharacterStrings strings length → result ≡ list_length strings }
 {
     let mut count = 0;
-    let mut place = 0;
-    while place < length && place < octets.len() {
-        place += 1 + octets[place] as usize;
+    let mut offset = 0;
+    while offset < length && offset < octets.len() {
+        offset += 1 + octets[offset] as usize;
         count += 1;
     }
     count
@@ -135,7 +135,42 @@ impl BinEncodable for TXT {
     }
 }
 
-// String by string, each behind its length octet.
+/// Whether TXT can be emitted: no string has more than 255 octets.
+#[inline]
+pub fn txt_is_emittable(x: &TXT) -> bool
+    ensures { result ≡ all_emittable txt_shape (txt_fields x.now) }
+{
+    for text in x.txt_data.as_slice() {
+        if text.len() > 255 {
+            return false;
+        }
+    }
+    true
+}
+
+/// The steps of TXT: a string each, the one with this index.
+#[inline]
+pub fn txt_step<'a>(x: &'a TXT, step: usize, part: usize, head: &mut Head) -> Option<Step<'a>>
+    requires empty { head.old ≡ [] }
+    requires short { AllShort txt_shape (txt_fields x.now) }
+    ensures { (j : ℕ) → GivesStep (texts_left x.now.txt_data) step part j head.new result }
+{
+    let texts = x.txt_data.as_slice();
+    if step > 0 {
+        return None;
+    }
+    if part >= texts.len() {
+        return None;
+    }
+    Some(Step {
+        tail: head.text(texts[part].as_slice()),
+        step: 0,
+        part: part + 1,
+        item: 0,
+    })
+}
+
+// String by string, each after its length octet.
 #[inline]
 fn texts_cmp(a: &[Octets], b: &[Octets]) -> Ordering
     ensures { result ≡ slice_cmp nat_cmp (flat_map string a.now) (flat_map string b.now) }
@@ -161,7 +196,7 @@ fn txt_order(a: &TXT, b: &TXT) -> Ordering
 impl OrderedRecord for TXT {
     #[inline]
     #[tactic(auto, using(crate::proofs::QuickOrders::txt_orders, crate::proofs::QuickOrders::tie))]
-    fn quick_cmp(&self, other: &TXT) -> Option<Ordering> {
+    fn cmp_canonical_fields(&self, other: &TXT) -> Option<Ordering> {
         let order = txt_order(self, other);
         if order.is_eq() {
             return Some(order);
@@ -172,7 +207,7 @@ impl OrderedRecord for TXT {
         Some(order)
     }
 
-    fn cmp_fields(&self, other: &TXT) -> Ordering {
+    fn cmp_values(&self, other: &TXT) -> Ordering {
         self.txt_data.cmp(&other.txt_data)
     }
 }

@@ -4,9 +4,9 @@ pub mod NameSpans
 pub mod LabelsWritten
 pub mod NamesPut
 pub mod Readings
-pub mod NamePlaces
+pub mod NameOffsets
 pub mod NameWalks
-pub mod PieceWalks
+pub mod TlvWalks
 pub mod Walking
 pub mod PartWalks
 pub mod PartCursor
@@ -15,6 +15,6 @@ pub mod PartTies
 pub mod ZoneReads
 pub mod Lengths
 pub mod PartOctets
-pub mod FieldPlaces
-pub mod FieldWindows
-pub mod ValueWindows
+pub mod FieldOffsets
+pub mod FieldRegions
+pub mod ValueRegions

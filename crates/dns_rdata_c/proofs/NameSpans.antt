@@ -1,9 +1,9 @@
--- Canonical octets by the octets with whole names.
+-- Canonical octets by the octets with uncompressed names.
 use Rattle.std.proofs.Common.{◌≡◌, ℕ, zero, suc, ◌+◌, ◌<◌, ◌≤◌, Bool, true, false, ◌&&◌, List, [], ◌∷◌, ◌++◌, length, take, drop, map, refl, sym, ◌∙◌}
 use Rattle.std.proofs.Common.{ap, subst, arith, if◌then◌else◌, append_assoc, length-append, length-take-le}
 use Rattle.std.proofs.{lemmas.List.length-map, lemmas.List.length-drop, lemmas.Bool.Decides.nat_tests}
 use Rattle.std.specs.{Cmp.first_so, Cmp.second_so, Char.to_ascii_lowercase}
-use Rattle.dns_fields.specs.Fields.{Kind, Number, Octets, Name, Text, Texts, Rest, Options, Parameters, Bitmap, Value, Values, field_octets}
+use Rattle.dns_fields.specs.Fields.{Kind, Number, Octets, Name, CharacterString, CharacterStrings, Rest, Options, Parameters, Bitmap, Value, Values, field_octets}
 use Rattle.dns_fields.specs.Fields.{canonical}
 use Rattle.dns_fields.specs.Labels.{DomainName, IsLabel, AreLabels, IsName, wire, low_labels, lowname}
 use Rattle.dns_fields.proofs.{NameLaws.low_wire, Numbers.length-bytes}
@@ -53,41 +53,41 @@ as_long x h = sym (length-map (name_octets x) to_ascii_lowercase) ∙ ap length 
 -- ---- fields
 
 -- neither a name nor options
-abbrev pub is_plain : Kind → Bool
-is_plain Name = false
-is_plain Options = false
-is_plain k = true
+abbrev pub has_fixed_octets : Kind → Bool
+has_fixed_octets Name = false
+has_fixed_octets Options = false
+has_fixed_octets k = true
 
-abbrev pub are_plain : List Kind → Bool
-are_plain [] = true
-are_plain (k ∷ kinds) = is_plain k && are_plain kinds
+abbrev pub are_nameless : List Kind → Bool
+are_nameless [] = true
+are_nameless (k ∷ kinds) = has_fixed_octets k && are_nameless kinds
 
-plain_field : (k : Kind) (v : Value k) → is_plain k ≡ true → field_octets k v ≡ whole_octets k v
+plain_field : (k : Kind) (v : Value k) → has_fixed_octets k ≡ true → field_octets k v ≡ whole_octets k v
 plain_field Name v h = absurd (cc)
 plain_field Options v h = absurd (cc)
 plain_field (Number w) v h = refl
 plain_field (Octets n) v h = refl
-plain_field Text v h = refl
-plain_field Texts v h = refl
+plain_field CharacterString v h = refl
+plain_field CharacterStrings v h = refl
 plain_field Rest v h = refl
 plain_field Parameters v h = refl
 plain_field Bitmap v h = refl
 
-plain_fields : (kinds : List Kind) (vs : Values kinds) → are_plain kinds ≡ true → canonical kinds vs ≡ all_whole kinds vs
+plain_fields : (kinds : List Kind) (vs : Values kinds) → are_nameless kinds ≡ true → canonical kinds vs ≡ all_whole kinds vs
 plain_fields [] vs h = refl
 plain_fields (k ∷ kinds) vs h =
-    ap (λ (l : List ℕ). l ++ canonical kinds vs.1) (plain_field k vs.0 (first_so (is_plain k) (are_plain kinds) h))
-    ∙ ap (λ (l : List ℕ). whole_octets k vs.0 ++ l) (plain_fields kinds vs.1 (second_so (is_plain k) (are_plain kinds) h))
+    ap (λ (l : List ℕ). l ++ canonical kinds vs.1) (plain_field k vs.0 (first_so (has_fixed_octets k) (are_nameless kinds) h))
+    ∙ ap (λ (l : List ℕ). whole_octets k vs.0 ++ l) (plain_fields kinds vs.1 (second_so (has_fixed_octets k) (are_nameless kinds) h))
 
--- so many octets from this place on are to be lowered
+-- so many octets from this offset on are to be lowered
 pub record LoweredIn (kinds : List Kind) (vs : Values kinds) (s n : ℕ) : Type 0 where
   pub within : s + n ≤ length (all_whole kinds vs)
   pub is : canonical kinds vs ≡ lowered_at s n (all_whole kinds vs)
 
-pub no_name : (kinds : List Kind) (vs : Values kinds) → are_plain kinds ≡ true → LoweredIn kinds vs 0 0
+pub no_name : (kinds : List Kind) (vs : Values kinds) → are_nameless kinds ≡ true → LoweredIn kinds vs 0 0
 no_name kinds vs h = record { within = omega arith; is = plain_fields kinds vs h }
 
-pub name_first : (kinds : List Kind) (x : DomainName) (vs : Values kinds) (n : ℕ) → are_plain kinds ≡ true → IsName x → n ≡ length (lowname x)
+pub name_first : (kinds : List Kind) (x : DomainName) (vs : Values kinds) (n : ℕ) → are_nameless kinds ≡ true → IsName x → n ≡ length (lowname x)
     → LoweredIn (Name ∷ kinds) (x, vs) 0 n
 unfolding field_octets
 name_first kinds x vs n h is count =
@@ -99,7 +99,8 @@ name_first kinds x vs n h is count =
     }
 
 -- two names
-pub names_first : (kinds : List Kind) (x y : DomainName) (vs : Values kinds) (n : ℕ) → are_plain kinds ≡ true → IsName x → IsName y → n ≡ length (lowname x) + length (lowname y)
+pub names_first : (kinds : List Kind) (x y : DomainName) (vs : Values kinds) (n : ℕ) → are_nameless kinds ≡ true → IsName x → IsName y
+    → n ≡ length (lowname x) + length (lowname y)
     → LoweredIn (Name ∷ Name ∷ kinds) (x, (y, vs)) 0 n
 unfolding field_octets
 names_first kinds x y vs n h is also count =
@@ -115,7 +116,7 @@ names_first kinds x y vs n h is also count =
           ∙ sym (lowered_front (a ++ b) w) ∙ ap (λ (k : ℕ). lowered_at 0 k ((a ++ b) ++ w)) (sym size) ∙ ap (lowered_at 0 n) (append_assoc a b w);
     }
 
-pub behind : (k : Kind) (kinds : List Kind) (v : Value k) (vs : Values kinds) (s n : ℕ) → is_plain k ≡ true → LoweredIn kinds vs s n
+pub behind : (k : Kind) (kinds : List Kind) (v : Value k) (vs : Values kinds) (s n : ℕ) → has_fixed_octets k ≡ true → LoweredIn kinds vs s n
     → LoweredIn (k ∷ kinds) (v, vs) (length (whole_octets k v) + s) n
 behind k kinds v vs s n h so = record {
   within = omega (arith, so.within, length-append (whole_octets k v) (all_whole kinds vs));
@@ -126,14 +127,16 @@ behind k kinds v vs s n h so = record {
 -- a number in front
 pub number_behind : (w : ℕ) (kinds : List Kind) (p : ℕ) (vs : Values kinds) (s n : ℕ) → LoweredIn kinds vs s n → LoweredIn (Number w ∷ kinds) (p, vs) (w + s) n
 unfolding field_octets
-number_behind w kinds p vs s n so = subst (λ (k : ℕ). LoweredIn (Number w ∷ kinds) (p, vs) (k + s) n) (length-bytes w p) (behind (Number w) kinds p vs s n refl so)
+number_behind w kinds p vs s n so =
+    subst (λ (k : ℕ). LoweredIn (Number w ∷ kinds) (p, vs) (k + s) n) (length-bytes w p) (behind (Number w) kinds p vs s n refl so)
 
 -- a string in front
-pub text_behind : (kinds : List Kind) (t : List ℕ) (vs : Values kinds) (s n : ℕ) → LoweredIn kinds vs s n → LoweredIn (Text ∷ kinds) (t, vs) (length t + 1 + s) n
+pub text_behind : (kinds : List Kind) (t : List ℕ) (vs : Values kinds) (s n : ℕ) → LoweredIn kinds vs s n
+    → LoweredIn (CharacterString ∷ kinds) (t, vs) (length t + 1 + s) n
 unfolding field_octets
 text_behind kinds t vs s n so =
     let same : suc (length t) + s ≡ length t + 1 + s = omega arith in
-    subst (λ (i : ℕ). LoweredIn (Text ∷ kinds) (t, vs) i n) same (behind Text kinds t vs s n refl so)
+    subst (λ (i : ℕ). LoweredIn (CharacterString ∷ kinds) (t, vs) i n) same (behind CharacterString kinds t vs s n refl so)
 
 pub moved : (kinds : List Kind) (vs : Values kinds) (s t n : ℕ) → s ≡ t → LoweredIn kinds vs s n → LoweredIn kinds vs t n
 moved kinds vs s t n e so = subst (λ (i : ℕ). LoweredIn kinds vs i n) e so
@@ -154,7 +157,7 @@ has_name v s n h so = record {
 pub with_name : (v w : RData) (s n : ℕ) → v ≡ w → IsEmittable v → LoweredIn (fields_of w).kinds (fields_of w).values s n → HasNameAt v s n
 with_name v w s n e h so = has_name v s n h (subst (λ (x : RData). LoweredIn (fields_of x).kinds (fields_of x).values s n) (sym e) so)
 
-pub without_name : (v w : RData) → v ≡ w → IsEmittable v → are_plain (fields_of w).kinds ≡ true → HasNameAt v 0 0
+pub without_name : (v w : RData) → v ≡ w → IsEmittable v → are_nameless (fields_of w).kinds ≡ true → HasNameAt v 0 0
 without_name v w e h plain = with_name v w 0 0 e h (no_name (fields_of w).kinds (fields_of w).values plain)
 
 -- ---- lowered octets

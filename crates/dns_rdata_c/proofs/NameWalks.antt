@@ -8,7 +8,7 @@ use Rattle.dns_fields.proofs.{Runs.rest_of, Runs.wire-append, Runs.AreLabels-app
 use Rattle.dns_fields.proofs.OctetLaws.{AreOctets-head, AreOctets-tail, AreOctets-same, AreOctets-drop}
 use Rattle.dns_rdata_c.specs.NameEnds.{IsLast, AreNameOctets, IsNameLength, HasNoNameEnd}
 
--- behind labels
+-- after labels
 pub record Passed (s : List ℕ) (at : ℕ) : Type 0 where
   pub labels : List (List ℕ)
   pub are : AreLabels labels
@@ -19,7 +19,7 @@ pub record Passed (s : List ℕ) (at : ℕ) : Type 0 where
 pass_behind : (s : List ℕ) (at : ℕ) (w : Passed s at) → drop at s ≡ w.rest
 pass_behind s at w = ap (drop at) w.is ∙ drop_at (wire w.labels) w.rest at (sym w.here)
 
--- what stands in front of octets that go on with labels and the end of a name
+-- what is before octets that go on with labels and the end of a name
 abbrev pub FirstOf : ℕ → List ℕ → Type 0
 FirstOf y r = (y ≡ 0) ⊎ ((192 ≤ y) × (1 ≤ length r)) ⊎ ((1 ≤ y) × (y ≤ 63) × (y ≤ length r))
 
@@ -33,7 +33,8 @@ last_first y r last tail (inr (t, k, e)) h =
     let more : r ≡ (t % 256) ∷ tail = cc in
     inr (inl (omega (arith, high), omega (arith, ap length more)))
 
-first_of : (y : ℕ) (r : List ℕ) (labels : List (List ℕ)) (last tail : List ℕ) → AreLabels labels → IsLast last → y ∷ r ≡ wire labels ++ (last ++ tail) → FirstOf y r
+first_of : (y : ℕ) (r : List ℕ) (labels : List (List ℕ)) (last tail : List ℕ) → AreLabels labels → IsLast last → y ∷ r ≡ wire labels ++ (last ++ tail)
+    → FirstOf y r
 first_of y r [] last tail a l h = last_first y r last tail l h
 first_of y r (x ∷ labels) last tail a l h =
     let long : y ≡ length x = cc in
@@ -48,7 +49,7 @@ last_some : (last : List ℕ) → IsLast last → 1 ≤ length last
 last_some last (inl e) = omega (arith, ap length e)
 last_some last (inr (t, k, e)) = omega (arith, ap length e)
 
--- a name in front of the octets goes on behind labels that were passed
+-- a name in front of the octets goes on after labels that were passed
 record GoesOn (rest : List ℕ) : Type 0 where
   labels : List (List ℕ)
   are : AreLabels labels
@@ -57,7 +58,8 @@ record GoesOn (rest : List ℕ) : Type 0 where
   tail : List ℕ
   is : rest ≡ wire labels ++ (last ++ tail)
 
-goes_on : (front labels : List (List ℕ)) (rest last tail : List ℕ) → AreLabels front → AreLabels labels → IsLast last → wire front ++ rest ≡ wire labels ++ (last ++ tail) → GoesOn rest
+goes_on : (front labels : List (List ℕ)) (rest last tail : List ℕ) → AreLabels front → AreLabels labels → IsLast last
+    → wire front ++ rest ≡ wire labels ++ (last ++ tail) → GoesOn rest
 goes_on front labels rest last tail f a (inl e) h =
     let r = rest_of front labels rest tail 0 f a zero_stop (h ∙ ap (λ (l : List ℕ). wire labels ++ (l ++ tail)) e) in
     record { labels = r.rest; are = r.are; last = 0 ∷ []; is_last = inl refl; tail = tail; is = r.stands }
@@ -70,7 +72,7 @@ name_goes_on s at w octets tail a e =
     goes_on w.labels a.labels w.rest a.last tail w.are a.are a.is_last
     (sym w.is ∙ e ∙ ap (λ (l : List ℕ). l ++ tail) a.is ∙ append_assoc (wire a.labels) a.last tail)
 
--- the octet that stands there, and what is behind it
+-- the octet that is there, and what is after it
 pub here_at : (s : List ℕ) (at : ℕ) → at < length s → drop at s ≡ slice_index_or s at 0 ∷ drop (at + 1) s
 here_at s at h = drop_more s at 0 h
 

@@ -1,25 +1,20 @@
 -- Names that are put at the front of a buffer.
-use Rattle.std.proofs.Common.{◌≡◌, ◌∙◌, ℕ, ◌+◌, ◌≤◌, List, [], ◌∷◌, ◌++◌, length, take, drop, map, refl, ap, subst, arith, append_assoc}
+use Rattle.std.proofs.Common.{◌≡◌, ◌∙◌, ℕ, ◌+◌, ◌≤◌, List, [], ◌∷◌, ◌++◌, length, take, drop, ap, subst, arith, append_assoc}
 use Rattle.std.proofs.Common.{length-append}
-use Rattle.std.proofs.lemmas.List.{length-map}
-use Rattle.std.specs.Char.{to_ascii_lowercase}
-use Rattle.dns_fields.specs.Labels.{DomainName, wire, lowered, lowname}
+use Rattle.dns_fields.specs.Labels.{DomainName, wire, lowname}
+use Rattle.dns_fields.proofs.NameLaws.{lowname_length}
 use Rattle.dns_rdata.specs.WholeOctets.{name_octets}
 use Rattle.dns_rdata_c.specs.Buffers.{IsPut}
 use Rattle.dns_rdata_c.proofs.LabelsWritten.{octets_written, is_written, written_is}
 
-long_labels : (labels : List (List ℕ)) → length (lowered labels) ≡ length (wire labels) + 1
-long_labels [] = refl
-long_labels (l ∷ labels) =
-    omega (arith, long_labels labels, length-append (map to_ascii_lowercase l) (lowered labels), length-append l (wire labels), length-map l to_ascii_lowercase)
-
 -- there are as many octets in lower case
 pub long_name : (x : DomainName) → length (lowname x) ≡ length (name_octets x)
-long_name x = omega (arith, long_labels x.labels, length-append (wire x.labels) (0 ∷ []))
+long_name x = omega (arith, lowname_length x, length-append (wire x.labels) (0 ∷ []))
 
--- two lists of octets that are written one behind the other, and a third behind them
+-- two lists of octets that are written one after the other, and a third after them
 pub three_put : (first second third old one two new : List ℕ) (a b n : ℕ) → a ≡ 0 + length first → b ≡ a + length second → n ≡ b + length third → n ≤ length old
-    → one ≡ take 0 old ++ (first ++ drop a old) → two ≡ take a one ++ (second ++ drop b one) → (b ≤ length two → (take n new ≡ take b two ++ third) × (drop n new ≡ drop n two))
+    → one ≡ take 0 old ++ (first ++ drop a old) → two ≡ take a one ++ (second ++ drop b one)
+    → (b ≤ length two → (take n new ≡ take b two ++ third) × (drop n new ≡ drop n two))
     → IsPut (first ++ (second ++ third)) old new n
 three_put first second third old one two new a b n e f g room is then copied =
     let w = is_written old one 0 a first e (omega (arith, f, g, room)) is in

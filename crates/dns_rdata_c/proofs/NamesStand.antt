@@ -1,4 +1,4 @@
--- The octets of a name that stands in a message.
+-- The octets of a name that is in a message.
 use Rattle.std.proofs.Common.{◌≡◌, ◌∙◌, ℕ, ◌+◌, ◌-◌, inl, inr, List, [], ◌∷◌, ◌++◌, length, take, drop, refl, sym, ap, arith}
 use Rattle.std.proofs.Common.{append_assoc, length-append, length-take-le}
 use Rattle.std.proofs.lemmas.List.{take_at, take-append-drop, length-drop}

@@ -4,12 +4,12 @@ use Rattle.std.proofs.Common.{map, refl, sym, ap, subst, arith, append_assoc, le
 use Rattle.std.proofs.lemmas.List.{drop_at, take_at, drop-drop, length-drop, length-map, take-append-drop}
 use Rattle.std.proofs.Math.Seq.{take-append-add}
 use Rattle.dns_fields.specs.{Fields.Stands, Names.IsNameIn, Octets.At}
-use Rattle.dns_fields.specs.Pieces.{Numbered, pieces, ArePieces, AllHeld, IsCut, ParameterHeld}
+use Rattle.dns_fields.specs.Tlvs.{Numbered, tlvs, AreTlvs, AllHeld, IsTruncated, ParameterHeld}
 use Rattle.dns_fields.proofs.{Numbers.length-bytes, Stays.end_within}
 use Rattle.dns_types.specs.declared.record_type.RecordType.{RecordType}
 use Rattle.dns_types.specs.declared.record_type.RecordType.TheVariants as types
 use Rattle.dns_rdata.specs.declared.record_data.RData.{RData}
-use Rattle.dns_rdata.specs.Data.{FieldsOf, fields_of, type_of, Fills, NoValue, IsPlain, IsRowless}
+use Rattle.dns_rdata.specs.Data.{FieldsOf, fields_of, type_of, Fills, NoValue, CanBeRead, IsUnknownType}
 use Rattle.dns_rdata.specs.declared.record_data.RData.TheVariants as rdata
 use Rattle.dns_rdata_options.specs.OPT.{Pair, pair_value, opt_shape, opt_fields}
 use Rattle.dns_rdata_service.specs.{Parameters.parameter_of, SVCB.svcb_shape, SVCB.svcb_fields, declared.svcb.SVCB.SVCB}
@@ -17,10 +17,10 @@ use Rattle.dns_rdata_c.specs.Parts.{is_partless, IsServiceFront, IsFront, HasNoF
 use Rattle.dns_rdata_c.specs.Parts.{parts_in, HoldValue, IsPartIn}
 use Rattle.dns_rdata_c.proofs.{NamesStand.name_octets, PartWalks.same_parts, PartWalks.not_cut, PartWalks.part_inside}
 
--- ---- the octets of fields that stand in a message
+-- ---- the octets of fields that are in a message
 
-window_is : (m s : List ℕ) (q e : ℕ) → At m q s e → take (e - q) (drop q m) ≡ s
-window_is m s q e a = let size : e - q ≡ length s = omega (arith, a.ends) in ap (λ (k : ℕ). take k (drop q m)) size ∙ a.same
+region_is : (m s : List ℕ) (q e : ℕ) → At m q s e → take (e - q) (drop q m) ≡ s
+region_is m s q e a = let size : e - q ≡ length s = omega (arith, a.ends) in ap (λ (k : ℕ). take k (drop q m)) size ∙ a.same
 
 -- octets in two halves
 halves : (l : List ℕ) (a b : ℕ) → a ≤ length l → take (a + b) l ≡ take a l ++ take b (drop a l)
@@ -41,21 +41,23 @@ pub record IsWhole (t : RecordType) (s : List ℕ) (v : RData) : Type 0 where
 abbrev pub Tied : RecordType → List ℕ → RData → Type 0
 Tied t s v = IsWhole t s v ⊎ (AreCutOptions t s × (parts_in v ≡ 0))
 
-length_held : {V : Type 0} (Held : ℕ → List ℕ → V → Type 0) (xs : List (Numbered (List ℕ))) (ys : List (Numbered V)) → AllHeld Held xs ys → length xs ≡ length ys
+length_held : {V : Type 0} (Held : ℕ → List ℕ → V → Type 0) (xs : List (Numbered (List ℕ))) (ys : List (Numbered V)) → AllHeld Held xs ys
+    → length xs ≡ length ys
 length_held Held [] [] h = refl
 length_held Held [] (y ∷ ys) h = absurd h
 length_held Held (x ∷ xs) [] h = absurd h
 length_held Held (x ∷ xs) (y ∷ ys) h = ap (λ (n : ℕ). suc n) (length_held Held xs ys h.2)
 
-opt_tied : (m : List ℕ) (p n : ℕ) (x : List Pair) → p + n ≤ length m → Stands m p opt_shape (opt_fields x) (p + n) → Tied types.OPT (take n (drop p m)) (rdata.OPT x)
+opt_tied : (m : List ℕ) (p n : ℕ) (x : List Pair) → p + n ≤ length m → Stands m p opt_shape (opt_fields x) (p + n)
+    → Tied types.OPT (take n (drop p m)) (rdata.OPT x)
 opt_tied m p n x inside s =
     let size : (p + n) - p ≡ n = omega arith in
-    let own = λ (o : List ℕ) (a : At m p o s.0). ap (λ (k : ℕ). take k (drop p m)) (sym size) ∙ window_is m o p (p + n) (subst (λ (k : ℕ). At m p o k) s.2 a) in
+    let own = λ (o : List ℕ) (a : At m p o s.0). ap (λ (k : ℕ). take k (drop p m)) (sym size) ∙ region_is m o p (p + n) (subst (λ (k : ℕ). At m p o k) s.2 a) in
     elim s.1.is [
       | inl w ↦ inl (record {
         front = [];
         parts = w.read;
-        all = record { is_front = refl; is = own (pieces w.read) w.at; are = w.fit };
+        all = record { is_front = refl; is = own (tlvs w.read) w.at; are = w.fit };
         hold = w.held;
         many = length_held _ w.read (map pair_value x) w.held ∙ length-map x pair_value;
       })
@@ -66,16 +68,16 @@ opt_tied m p n x inside s =
               is_opt = refl;
               parts = all.read;
               stub = all.stub;
-              is = own (pieces all.read ++ all.stub) all.at;
+              is = own (tlvs all.read ++ all.stub) all.at;
               are = all.fit;
-              cut = subst (λ (k : ℕ). IsCut k all.stub) (sym long) all.cut;
+              cut = subst (λ (k : ℕ). IsTruncated k all.stub) (sym long) all.cut;
             },
         sym (length-map x pair_value) ∙ ap length c.0,
       )
     ]
 
 service_whole : (m : List ℕ) (p n : ℕ) (x : SVCB) → p + n ≤ length m → Stands m p svcb_shape (svcb_fields x) (p + n)
-    → (front : List ℕ) × (parts : List (Numbered (List ℕ))) × IsServiceFront front × (take n (drop p m) ≡ front ++ pieces parts) × ArePieces parts
+    → (front : List ℕ) × (parts : List (Numbered (List ℕ))) × IsServiceFront front × (take n (drop p m) ≡ front ++ tlvs parts) × AreTlvs parts
     × AllHeld ParameterHeld parts (map parameter_of x.svc_params) × (length parts ≡ length x.svc_params)
 service_whole m p n x inside s =
     let t = s.2 in
@@ -87,15 +89,16 @@ service_whole m p n x inside s =
     let l = drop p m in
     let target = take (q - (p + 2)) (drop (p + 2) m) in
     let read = all.read in
-    let ends : At m q (pieces read) (p + n) = subst (λ (k : ℕ). At m q (pieces read) k) u.2 all.at in
+    let ends : At m q (tlvs read) (p + n) = subst (λ (k : ℕ). At m q (tlvs read) k) u.2 all.at in
     let further : p + 2 < q = (end_within name.stands).0 in
     let room : q ≤ p + n = omega (arith, ends.ends) in
     let whole_size : n ≡ 2 + ((q - (p + 2)) + ((p + n) - q)) = omega (arith, further, room) in
-    let first : take n l ≡ take 2 l ++ take ((q - (p + 2)) + ((p + n) - q)) (drop 2 l) = ap (λ (k : ℕ). take k l) whole_size ∙ halves l 2 _ (omega (arith, inside, further, room, length-drop p m)) in
-    let second : take ((q - (p + 2)) + ((p + n) - q)) (drop 2 l) ≡ target ++ pieces read =
+    let first : take n l ≡ take 2 l ++ take ((q - (p + 2)) + ((p + n) - q)) (drop 2 l) =
+    ap (λ (k : ℕ). take k l) whole_size ∙ halves l 2 _ (omega (arith, inside, further, room, length-drop p m)) in
+    let second : take ((q - (p + 2)) + ((p + n) - q)) (drop 2 l) ≡ target ++ tlvs read =
     ap (take ((q - (p + 2)) + ((p + n) - q))) (drop-drop 2 p m) ∙ halves (drop (p + 2) m) (q - (p + 2)) ((p + n) - q) (omega (arith, inside, further, room, length-drop (p + 2) m))
-    ∙ ap (λ (o : List ℕ). target ++ take ((p + n) - q) o) (drop-drop (q - (p + 2)) (p + 2) m ∙ ap (λ (k : ℕ). drop k m) (place q p further))
-    ∙ ap (λ (o : List ℕ). target ++ o) (window_is m (pieces read) q (p + n) ends) in (
+    ∙ ap (λ (o : List ℕ). target ++ take ((p + n) - q) o) (drop-drop (q - (p + 2)) (p + 2) m ∙ ap (λ (k : ℕ). drop k m) (offset q p further))
+    ∙ ap (λ (o : List ℕ). target ++ o) (region_is m (tlvs read) q (p + n) ends) in (
       take 2 l ++ target,
       read,
       record {
@@ -105,44 +108,45 @@ service_whole m p n x inside s =
         is_name = name_octets name.stands;
         is = refl;
       },
-      first ∙ ap (λ (o : List ℕ). take 2 l ++ o) second ∙ sym (append_assoc (take 2 l) target (pieces read)),
+      first ∙ ap (λ (o : List ℕ). take 2 l ++ o) second ∙ sym (append_assoc (take 2 l) target (tlvs read)),
       all.fit,
       all.held,
       length_held _ read (map parameter_of x.svc_params) all.held ∙ length-map x.svc_params parameter_of,
     )
   where
-    place : (q p : ℕ) → p + 2 < q → (p + 2) + (q - (p + 2)) ≡ q
-    place q p h = omega (arith, h)
+    offset : (q p : ℕ) → p + 2 < q → (p + 2) + (q - (p + 2)) ≡ q
+    offset q p h = omega (arith, h)
 
 -- ---- every value
 
-rowless_partless : (t : RecordType) → IsRowless t → is_partless t ≡ false → ⊥
-rowless_partless types.OPT r h = r
-rowless_partless types.HTTPS r h = r
-rowless_partless types.SVCB r h = r
-rowless_partless t r h = true≢false h
+unknown_partless : (t : RecordType) → IsUnknownType t → is_partless t ≡ false → ⊥
+unknown_partless types.OPT r h = r
+unknown_partless types.HTTPS r h = r
+unknown_partless types.SVCB r h = r
+unknown_partless t r h = true≢false h
 
 stands_of : {m : List ℕ} {p n : ℕ} {t : RecordType} {v : RData} → Fills m p n t v → Stands m p (fields_of v).kinds (fields_of v).values (p + n)
-stands_of {m} {p} {n} f = subst (λ (x : FieldsOf). Stands m p x.kinds x.values (p + n)) (sym f.value.fields) f.window.stands
+stands_of {m} {p} {n} f = subst (λ (x : FieldsOf). Stands m p x.kinds x.values (p + n)) (sym f.value.fields) f.region.stands
 
-own_tied : (m : List ℕ) (p n : ℕ) (v : RData) → p + n ≤ length m → IsPlain v → Stands m p (fields_of v).kinds (fields_of v).values (p + n) → is_partless (type_of v) ≡ false
+own_tied : (m : List ℕ) (p n : ℕ) (v : RData) → p + n ≤ length m → CanBeRead v → Stands m p (fields_of v).kinds (fields_of v).values (p + n)
+    → is_partless (type_of v) ≡ false
     → Tied (type_of v) (take n (drop p m)) v
-own_tied m p n (rdata.OPT x) inside plain s h = opt_tied m p n x inside s
-own_tied m p n (rdata.HTTPS x) inside plain s h =
+own_tied m p n (rdata.OPT x) inside can_be_read s h = opt_tied m p n x inside s
+own_tied m p n (rdata.HTTPS x) inside can_be_read s h =
     let w = service_whole m p n x.0 inside s in
     inl (record { front = w.0; parts = w.1; all = record { is_front = w.2; is = w.3; are = w.4 }; hold = w.5; many = w.6 })
-own_tied m p n (rdata.SVCB x) inside plain s h =
+own_tied m p n (rdata.SVCB x) inside can_be_read s h =
     let w = service_whole m p n x inside s in
     inl (record { front = w.0; parts = w.1; all = record { is_front = w.2; is = w.3; are = w.4 }; hold = w.5; many = w.6 })
-own_tied m p n (rdata.Unknown code x) inside plain s h = absurd (rowless_partless code plain h)
-own_tied m p n (rdata.Update0 t) inside plain s h = absurd plain
-own_tied m p n v inside plain s h = absurd (true≢false h)
+own_tied m p n (rdata.Unknown code x) inside can_be_read s h = absurd (unknown_partless code can_be_read h)
+own_tied m p n (rdata.Update0 t) inside can_be_read s h = absurd can_be_read
+own_tied m p n v inside can_be_read s h = absurd (true≢false h)
 
 tied : (m : List ℕ) (p n : ℕ) (t : RecordType) (v : RData) → is_partless t ≡ false → Fills m p n t v → Tied t (take n (drop p m)) v
 tied m p n t v h f =
     let type = f.value.type in
     subst (λ (u : RecordType). Tied u (take n (drop p m)) v) type
-    (own_tied m p n v f.window.within f.value.plain (stands_of f) (subst (λ (u : RecordType). is_partless u ≡ false) (sym type) h))
+    (own_tied m p n v f.region.within f.value.can_be_read (stands_of f) (subst (λ (u : RecordType). is_partless u ≡ false) (sym type) h))
 
 -- ---- what a walk tells of the value
 
@@ -153,21 +157,23 @@ at_inside m p n a x r inside e =
     let rest = drop n l in
     let all : l ≡ a ++ (x ++ (r ++ rest)) =
     sym (take-append-drop n l) ∙ ap (λ (o : List ℕ). o ++ rest) e ∙ append_assoc a (x ++ r) rest ∙ ap (λ (o : List ℕ). a ++ o) (append_assoc x r rest) in
-    let here : drop (p + length a) m ≡ x ++ (r ++ rest) = sym (drop-drop (length a) p m) ∙ ap (drop (length a)) all ∙ drop_at a (x ++ (r ++ rest)) (length a) refl in
+    let here : drop (p + length a) m ≡ x ++ (r ++ rest) =
+    sym (drop-drop (length a) p m) ∙ ap (drop (length a)) all ∙ drop_at a (x ++ (r ++ rest)) (length a) refl in
     record {
       ends = refl;
       within = omega (arith, inside, size, ap length e, length-append a (x ++ r), length-append x r);
       same = ap (take (length x)) here ∙ take_at x (r ++ rest) (length x) refl;
     }
 
-pub same_part : (m : List ℕ) (p n : ℕ) (t : RecordType) (v : RData) (i number from count : ℕ) → is_partless t ≡ false → IsPartOf t (take n (drop p m)) i number from count
+pub same_part : (m : List ℕ) (p n : ℕ) (t : RecordType) (v : RData) (i number from count : ℕ) → is_partless t ≡ false
+    → IsPartOf t (take n (drop p m)) i number from count
     → Fills m p n t v → IsPartIn m v i number (p + from) count
 same_part m p n t v i number from count h w f = elim (tied m p n t v h f) [
   | inr c ↦ absurd (not_cut t _ w.front w.parts w.all c.0)
   | inl own ↦
       let same = same_parts t _ own.front w.front own.parts w.parts own.all w.all in
       let r = part_inside t _ i number from count w in
-      let stand = at_inside m p n r.front w.octets r.rest f.window.within r.whole in
+      let stand = at_inside m p n r.front w.octets r.rest f.region.within r.whole in
       record {
         parts = w.parts;
         hold = subst (HoldValue v) same.1 own.hold;
@@ -178,7 +184,8 @@ same_part m p n t v i number from count h w f = elim (tied m p n t v h f) [
       }
 ]
 
-pub same_few : (m : List ℕ) (p n : ℕ) (t : RecordType) (v : RData) (i : ℕ) → is_partless t ≡ false → AreFewParts t (take n (drop p m)) i ⊎ AreCutOptions t (take n (drop p m))
+pub same_few : (m : List ℕ) (p n : ℕ) (t : RecordType) (v : RData) (i : ℕ) → is_partless t ≡ false
+    → AreFewParts t (take n (drop p m)) i ⊎ AreCutOptions t (take n (drop p m))
     → Fills m p n t v → parts_in v ≤ i
 same_few m p n t v i h (inl w) f = elim (tied m p n t v h f) [
   | inr c ↦ absurd (not_cut t _ w.front w.parts w.all c.0)
@@ -199,6 +206,6 @@ no_value m p n t h no_parts = record {
 
 pub no_parts : (t : RecordType) (s : List ℕ) → HasNoFront t s → AreNoParts t s
 no_parts t s h = record {
-  none = λ front ps a. h front (pieces ps) a.is_front a.is;
+  none = λ front ps a. h front (tlvs ps) a.is_front a.is;
   uncut = λ c. h [] s (subst (λ (u : RecordType). IsFront u []) (sym c.is_opt) refl) refl;
 }

@@ -3,15 +3,15 @@ use Rattle.std.proofs.Common.{◌≡◌, ◌∙◌, ℕ, ◌+◌, ◌/◌, ◌%�
 use Rattle.std.proofs.Common.{subst, arith, append_assoc, length-append, length-take-le, Option, Some, slice_get}
 use Rattle.std.specs.Int.{bytes_high_first}
 use Rattle.std.proofs.lemmas.List.{append-nil, drop_at, take-append-drop}
-use Rattle.dns_fields.specs.{Labels.wire, Pieces.Numbered, Pieces.piece, Pieces.pieces, Pieces.ArePieces, Pieces.IsCut}
+use Rattle.dns_fields.specs.{Labels.wire, Tlvs.Numbered, Tlvs.tlv, Tlvs.tlvs, Tlvs.AreTlvs, Tlvs.IsTruncated}
 use Rattle.dns_fields.proofs.{Numbers.length-bytes, Runs.IsStop, Runs.same_run, Unique.pointer_stop, Unique.zero_stop}
-use Rattle.dns_fields.proofs.Pieces.{parts, no_piece, cut_piece, piece_before}
+use Rattle.dns_fields.proofs.Tlvs.{parts, no_tlv, truncated_tlv, tlv_before}
 use Rattle.dns_types.specs.declared.record_type.RecordType.{RecordType}
 use Rattle.dns_types.specs.declared.record_type.RecordType.TheVariants as types
 use Rattle.dns_rdata_c.specs.NameEnds.{IsLast, AreNameOctets, IsNameLength, HasNoNameEnd}
-use Rattle.dns_rdata_c.specs.Pieces.{HasNoPiece, AreCounted, IsPieceOf}
+use Rattle.dns_rdata_c.specs.Tlvs.{HasNoTlv, AreCounted, IsTlvOf}
 use Rattle.dns_rdata_c.specs.Parts.{IsServiceFront, IsFront, AreParts, AreNoParts, AreCutOptions, IsPartOf}
-use Rattle.dns_rdata_c.proofs.{PieceWalks.same_split, Walking.split}
+use Rattle.dns_rdata_c.proofs.{TlvWalks.same_split, Walking.split}
 
 -- ---- in front of parameters
 
@@ -61,8 +61,10 @@ pub same_name : (a b x y : List ℕ) → AreNameOctets a → AreNameOctets b →
 same_name a b x y f g e =
     let p = ending f.last x f.is_last in
     let q = ending g.last y g.is_last in
-    let left : a ++ x ≡ wire f.labels ++ p.first ∷ p.more = ap (λ (o : List ℕ). o ++ x) f.is ∙ append_assoc (wire f.labels) f.last x ∙ ap (λ (o : List ℕ). wire f.labels ++ o) p.is in
-    let right : b ++ y ≡ wire g.labels ++ q.first ∷ q.more = ap (λ (o : List ℕ). o ++ y) g.is ∙ append_assoc (wire g.labels) g.last y ∙ ap (λ (o : List ℕ). wire g.labels ++ o) q.is in
+    let left : a ++ x ≡ wire f.labels ++ p.first ∷ p.more =
+    ap (λ (o : List ℕ). o ++ x) f.is ∙ append_assoc (wire f.labels) f.last x ∙ ap (λ (o : List ℕ). wire f.labels ++ o) p.is in
+    let right : b ++ y ≡ wire g.labels ++ q.first ∷ q.more =
+    ap (λ (o : List ℕ). o ++ y) g.is ∙ append_assoc (wire g.labels) g.last y ∙ ap (λ (o : List ℕ). wire g.labels ++ o) q.is in
     let run = same_run f.labels g.labels p.more q.more p.first q.first f.are g.are p.stop q.stop (sym left ∙ e ∙ right) in
     let last = same_last f.last g.last x y f.is_last g.is_last (p.is ∙ run.1 ∙ sym q.is) in
     (f.is ∙ ap (λ (ls : List (List ℕ)). wire ls ++ f.last) run.0 ∙ ap (λ (o : List ℕ). wire g.labels ++ o) last.0 ∙ sym g.is, last.1)
@@ -81,47 +83,49 @@ same_front types.HTTPS a b x y f g e = same_service a b x y f g e
 same_front types.SVCB a b x y f g e = same_service a b x y f g e
 same_front t a b x y f g e = absurd f
 
-whole_none : HasNoPiece []
-whole_none x rest fit e = no_piece x rest e
+whole_none : HasNoTlv []
+whole_none x rest fit e = no_tlv x rest e
 
 -- octets are one list of parts
-pub same_parts : (t : RecordType) (s front front' : List ℕ) (ps qs : List (Numbered (List ℕ))) → AreParts t s front ps → AreParts t s front' qs → (front ≡ front') × (ps ≡ qs)
+pub same_parts : (t : RecordType) (s front front' : List ℕ) (ps qs : List (Numbered (List ℕ))) → AreParts t s front ps → AreParts t s front' qs
+    → (front ≡ front') × (ps ≡ qs)
 same_parts t s front front' ps qs a b =
-    let f = same_front t front front' (pieces ps) (pieces qs) a.is_front b.is_front (sym a.is ∙ b.is) in
-    let nil = λ (xs : List (Numbered (List ℕ))). append-nil (pieces xs) in
+    let f = same_front t front front' (tlvs ps) (tlvs qs) a.is_front b.is_front (sym a.is ∙ b.is) in
+    let nil = λ (xs : List (Numbered (List ℕ))). append-nil (tlvs xs) in
     (f.0, (same_split ps qs [] [] a.are b.are whole_none whole_none (nil ps ∙ f.1 ∙ sym (nil qs))).0)
 
 -- options that are whole are not cut
 pub not_cut : (t : RecordType) (s front : List ℕ) (ps : List (Numbered (List ℕ))) → AreParts t s front ps → AreCutOptions t s → ⊥
 not_cut t s front ps a c =
     let none : front ≡ [] = subst (λ (u : RecordType). IsFront u front) c.is_opt a.is_front in
-    let whole : pieces ps ++ [] ≡ pieces c.parts ++ c.stub = append-nil (pieces ps) ∙ ap (λ (o : List ℕ). o ++ pieces ps) (sym none) ∙ sym a.is ∙ c.is in
-    let r = same_split ps c.parts [] c.stub a.are c.are whole_none (λ x rest fit e. cut_piece (length s) x rest fit (subst (λ (o : List ℕ). IsCut (length s) o) e c.cut)) whole in
-    cut_nil (length s) (subst (λ (o : List ℕ). IsCut (length s) o) (sym r.1) c.cut)
+    let whole : tlvs ps ++ [] ≡ tlvs c.parts ++ c.stub = append-nil (tlvs ps) ∙ ap (λ (o : List ℕ). o ++ tlvs ps) (sym none) ∙ sym a.is ∙ c.is in
+    let r = same_split ps c.parts [] c.stub a.are c.are whole_none (λ x rest fit e. truncated_tlv (length s) x rest fit (subst (λ (o : List ℕ). IsTruncated (length s) o) e c.cut)) whole in
+    cut_nil (length s) (subst (λ (o : List ℕ). IsTruncated (length s) o) (sym r.1) c.cut)
   where
-    cut_nil : (n : ℕ) → IsCut n [] → ⊥
+    cut_nil : (n : ℕ) → IsTruncated n [] → ⊥
     cut_nil n (code, h, inl e) = omega (arith, ap length e, length-bytes 2 code)
     cut_nil n (code, h, inr r) = omega (arith, ap length r.5, length-append (bytes_high_first 2 code) (bytes_high_first 2 r.0 ++ r.1), length-bytes 2 code)
 
--- ---- pieces that end before the octets do
+-- ---- tlvs that end before the octets do
 
-pub damaged : (t : RecordType) (s front rest r stub : List ℕ) (n count end : ℕ) → IsFront t front → s ≡ front ++ rest → n ≡ length front → r ≡ drop n s → AreCounted r count end
-    → end < length r → stub ≡ drop end r → (t ≡ types.OPT → ¬ (IsCut (length s) stub)) → AreNoParts t s
+pub damaged : (t : RecordType) (s front rest r stub : List ℕ) (n count end : ℕ) → IsFront t front → s ≡ front ++ rest → n ≡ length front → r ≡ drop n s
+    → AreCounted r count end
+    → end < length r → stub ≡ drop end r → (t ≡ types.OPT → ¬ (IsTruncated (length s) stub)) → AreNoParts t s
 damaged t s front rest r stub n count end f e many begins c short cut_off uncut =
     let here : r ≡ rest = begins ∙ ap (drop n) e ∙ drop_at front rest n (sym many) in
-    let is : rest ≡ pieces c.read ++ c.rest = sym here ∙ c.is in
-    let left : stub ≡ c.rest = cut_off ∙ ap (drop end) c.is ∙ drop_at (pieces c.read) c.rest end (sym c.ends) in
-    let some : 0 < length c.rest = omega (arith, short, c.ends, ap length c.is, length-append (pieces c.read) c.rest) in
+    let is : rest ≡ tlvs c.read ++ c.rest = sym here ∙ c.is in
+    let left : stub ≡ c.rest = cut_off ∙ ap (drop end) c.is ∙ drop_at (tlvs c.read) c.rest end (sym c.ends) in
+    let some : 0 < length c.rest = omega (arith, short, c.ends, ap length c.is, length-append (tlvs c.read) c.rest) in
     record {
       none = λ front' ps a.
-          let same = same_front t front front' rest (pieces ps) f a.is_front (sym e ∙ a.is) in
-          let both = same_split c.read ps c.rest [] c.are a.are c.none whole_none (sym is ∙ same.1 ∙ sym (append-nil (pieces ps))) in
+          let same = same_front t front front' rest (tlvs ps) f a.is_front (sym e ∙ a.is) in
+          let both = same_split c.read ps c.rest [] c.are a.are c.none whole_none (sym is ∙ same.1 ∙ sym (append-nil (tlvs ps))) in
           omega (arith, some, ap length both.1);
       uncut = λ cut.
           let none : front ≡ [] = subst (λ (u : RecordType). IsFront u front) cut.is_opt f in
-          let whole : pieces c.read ++ c.rest ≡ pieces cut.parts ++ cut.stub = sym is ∙ ap (λ (o : List ℕ). o ++ rest) (sym none) ∙ sym e ∙ cut.is in
-          let both = same_split c.read cut.parts c.rest cut.stub c.are cut.are c.none (λ x more fit h. cut_piece (length s) x more fit (subst (λ (o : List ℕ). IsCut (length s) o) h cut.cut)) whole in
-          uncut cut.is_opt (subst (λ (o : List ℕ). IsCut (length s) o) (sym (left ∙ both.1)) cut.cut);
+          let whole : tlvs c.read ++ c.rest ≡ tlvs cut.parts ++ cut.stub = sym is ∙ ap (λ (o : List ℕ). o ++ rest) (sym none) ∙ sym e ∙ cut.is in
+          let both = same_split c.read cut.parts c.rest cut.stub c.are cut.are c.none (λ x more fit h. truncated_tlv (length s) x more fit (subst (λ (o : List ℕ). IsTruncated (length s) o) h cut.cut)) whole in
+          uncut cut.is_opt (subst (λ (o : List ℕ). IsTruncated (length s) o) (sym (left ∙ both.1)) cut.cut);
     }
 
 -- ---- room
@@ -131,37 +135,37 @@ got_within [] i x h = absurd cc
 got_within (y ∷ xs) zero x h = omega arith
 got_within (y ∷ xs) (suc i) x h = omega (arith, got_within xs i x h)
 
--- piece number i, and what is before its octets and behind
+-- tlv number i, and what is before its octets and after
 record Inside (xs : List (Numbered (List ℕ))) (i : ℕ) (octets : List ℕ) : Type 0 where
   front : List ℕ
   rest : List ℕ
-  whole : pieces xs ≡ front ++ (octets ++ rest)
-  long : length front ≡ length (pieces (take i xs)) + 4
+  whole : tlvs xs ≡ front ++ (octets ++ rest)
+  long : length front ≡ length (tlvs (take i xs)) + 4
 
 same_get : (a b : Numbered (List ℕ)) → ◌≡◌ {A = Option (Numbered (List ℕ))} (Some a) (Some b) → a ≡ b
 same_get a b e = cc
 
-inside : (xs : List (Numbered (List ℕ))) (i number : ℕ) (octets : List ℕ) → ArePieces xs → slice_get xs i ≡ Some (number, octets) → Inside xs i octets
+inside : (xs : List (Numbered (List ℕ))) (i number : ℕ) (octets : List ℕ) → AreTlvs xs → slice_get xs i ≡ Some (number, octets) → Inside xs i octets
 inside xs i number octets are h =
     let r = split xs i (got_within xs i (number, octets) h) are in
     let same : r.at ≡ (number, octets) = same_get r.at (number, octets) (sym r.get ∙ h) in
-    let before = pieces (take i xs) in
+    let before = tlvs (take i xs) in
     let head = bytes_high_first 2 number ++ bytes_high_first 2 (length octets) in
-    let rest = pieces (drop (suc i) xs) in
-    let whole : pieces xs ≡ before ++ (piece (number, octets) ++ rest) = r.whole ∙ ap (λ (x : Numbered (List ℕ)). before ++ (piece x ++ rest)) same in
+    let rest = tlvs (drop (suc i) xs) in
+    let whole : tlvs xs ≡ before ++ (tlv (number, octets) ++ rest) = r.whole ∙ ap (λ (x : Numbered (List ℕ)). before ++ (tlv x ++ rest)) same in
     record {
       front = before ++ head;
       rest = rest;
-      whole = whole ∙ ap (λ (o : List ℕ). before ++ o) (piece_before (number, octets) rest) ∙ sym (append_assoc before head (octets ++ rest));
+      whole = whole ∙ ap (λ (o : List ℕ). before ++ o) (tlv_before (number, octets) rest) ∙ sym (append_assoc before head (octets ++ rest));
       long = omega (arith, length-append before head);
     }
 
-pub piece_room : (s : List ℕ) (i number begin count : ℕ) → IsPieceOf s i number begin count → begin ≤ length s
-piece_room s i number begin count w =
+pub tlv_room : (s : List ℕ) (i number begin count : ℕ) → IsTlvOf s i number begin count → begin ≤ length s
+tlv_room s i number begin count w =
     let r = inside w.read i number w.octets w.are w.get in
     omega (arith, w.begins, r.long, ap length w.is, ap length r.whole, length-append r.front (w.octets ++ r.rest))
 
--- the octets of a part, and what is before them and behind
+-- the octets of a part, and what is before them and after
 pub record PartInside (s octets : List ℕ) (begin : ℕ) : Type 0 where
   pub front : List ℕ
   pub rest : List ℕ

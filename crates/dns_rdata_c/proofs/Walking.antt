@@ -1,53 +1,53 @@
--- A walk over pieces.
+-- A walk over tlvs.
 use Rattle.std.proofs.Common.{◌≡◌, ◌∙◌, ℕ, ◌+◌, ◌<◌, ◌≤◌, ◌^◌, zero, suc, List, [], ◌∷◌, ◌++◌, length, take, drop, refl, sym, ap, subst, arith}
 use Rattle.std.proofs.Common.{add-one, append_assoc, length-append, Some, slice_get}
 use Rattle.std.specs.Int.{bytes_high_first}
 use Rattle.std.proofs.lemmas.List.{append-nil, drop-drop, drop_at, take_at, length-drop}
-use Rattle.dns_fields.specs.Pieces.{Numbered, piece, pieces, IsPiece, ArePieces}
-use Rattle.dns_fields.proofs.{Numbers.length-bytes, Numbers.same_number, Pieces.piece_before}
-use Rattle.dns_rdata_c.specs.Pieces.{IsPieceOf}
+use Rattle.dns_fields.specs.Tlvs.{Numbered, tlv, tlvs, IsTlv, AreTlvs}
+use Rattle.dns_fields.proofs.{Numbers.length-bytes, Numbers.same_number, Tlvs.tlv_before}
+use Rattle.dns_rdata_c.specs.Tlvs.{IsTlvOf}
 
--- piece number i, and the pieces in front of it and behind
+-- tlv number i, and the tlvs in front of it and after
 pub record SplitAt (read : List (Numbered (List ℕ))) (i : ℕ) : Type 0 where
   pub at : Numbered (List ℕ)
-  pub fits : IsPiece at
+  pub fits : IsTlv at
   pub get : slice_get read i ≡ Some at
-  pub whole : pieces read ≡ pieces (take i read) ++ (piece at ++ pieces (drop (suc i) read))
-  pub next : pieces (take (suc i) read) ≡ pieces (take i read) ++ piece at
+  pub whole : tlvs read ≡ tlvs (take i read) ++ (tlv at ++ tlvs (drop (suc i) read))
+  pub next : tlvs (take (suc i) read) ≡ tlvs (take i read) ++ tlv at
 
-pub split : (read : List (Numbered (List ℕ))) (i : ℕ) → i < length read → ArePieces read → SplitAt read i
+pub split : (read : List (Numbered (List ℕ))) (i : ℕ) → i < length read → AreTlvs read → SplitAt read i
 split [] i h are = absurd (omega arith)
-split (x ∷ read) zero h are = record { at = x; fits = are.0; get = refl; whole = refl; next = append-nil (piece x) }
+split (x ∷ read) zero h are = record { at = x; fits = are.0; get = refl; whole = refl; next = append-nil (tlv x) }
 split (y ∷ read) (suc i) h are =
     let r = split read i (omega arith) are.1 in
     record {
       at = r.at;
       fits = r.fits;
       get = r.get;
-      whole = ap (λ (l : List ℕ). piece y ++ l) r.whole ∙ sym (append_assoc (piece y) (pieces (take i read)) (piece r.at ++ pieces (drop (suc i) read)));
-      next = ap (λ (l : List ℕ). piece y ++ l) r.next ∙ sym (append_assoc (piece y) (pieces (take i read)) (piece r.at));
+      whole = ap (λ (l : List ℕ). tlv y ++ l) r.whole ∙ sym (append_assoc (tlv y) (tlvs (take i read)) (tlv r.at ++ tlvs (drop (suc i) read)));
+      next = ap (λ (l : List ℕ). tlv y ++ l) r.next ∙ sym (append_assoc (tlv y) (tlvs (take i read)) (tlv r.at));
     }
 
--- behind i pieces
+-- after i tlvs
 pub record Walked (s : List ℕ) (index i at : ℕ) : Type 0 where
   pub read : List (Numbered (List ℕ))
-  pub is : s ≡ pieces read
-  pub are : ArePieces read
+  pub is : s ≡ tlvs read
+  pub are : AreTlvs read
   pub few : index < length read
-  pub here : at ≡ length (pieces (take i read))
+  pub here : at ≡ length (tlvs (take i read))
 
--- what stands there
+-- what is there
 record Here (s : List ℕ) (index i at : ℕ) : Type 0 where
   walk : Walked s index i at
   x : Numbered (List ℕ)
-  fits : IsPiece x
+  fits : IsTlv x
   get : slice_get walk.read i ≡ Some x
   rest : List ℕ
   stands : drop at s ≡ bytes_high_first 2 x.0 ++ (bytes_high_first 2 (length x.1) ++ (x.1 ++ rest))
-  next : at + (length x.1 + 4) ≡ length (pieces (take (suc i) walk.read))
+  next : at + (length x.1 + 4) ≡ length (tlvs (take (suc i) walk.read))
 
-length-piece : (x : Numbered (List ℕ)) → length (piece x) ≡ length x.1 + 4
-length-piece x = omega (
+length-tlv : (x : Numbered (List ℕ)) → length (tlv x) ≡ length x.1 + 4
+length-tlv x = omega (
   arith,
   length-append (bytes_high_first 2 x.0) (bytes_high_first 2 (length x.1) ++ x.1),
   length-append (bytes_high_first 2 (length x.1)) x.1,
@@ -58,15 +58,15 @@ length-piece x = omega (
 here_of : (s : List ℕ) (index i at : ℕ) → Walked s index i at → i ≤ index → Here s index i at
 here_of s index i at w h =
     let x = split w.read i (omega (arith, w.few, h)) w.are in
-    let rest = pieces (drop (suc i) w.read) in
+    let rest = tlvs (drop (suc i) w.read) in
     record {
       walk = w;
       x = x.at;
       fits = x.fits;
       get = x.get;
       rest = rest;
-      stands = ap (drop at) (w.is ∙ x.whole) ∙ drop_at (pieces (take i w.read)) (piece x.at ++ rest) at (sym w.here) ∙ piece_before x.at rest;
-      next = omega (arith, w.here, ap length x.next, length-append (pieces (take i w.read)) (piece x.at), length-piece x.at);
+      stands = ap (drop at) (w.is ∙ x.whole) ∙ drop_at (tlvs (take i w.read)) (tlv x.at ++ rest) at (sym w.here) ∙ tlv_before x.at rest;
+      next = omega (arith, w.here, ap length x.next, length-append (tlvs (take i w.read)) (tlv x.at), length-tlv x.at);
     }
 
 -- four octets, and as many as they say
@@ -99,7 +99,8 @@ is_length s index i at n e h f =
     sym (drop-drop 2 at s) ∙ ap (drop 2) e.stands ∙ drop_at (bytes_high_first 2 e.x.0) (bytes_high_first 2 (length e.x.1) ++ (e.x.1 ++ e.rest)) 2 (length-bytes 2 e.x.0) in
     first_number n (length e.x.1) (drop (at + 2) s) _ h e.fits.1 behind f
 
-pub walk_on : (s : List ℕ) (index i at n : ℕ) → Walked s index i at → i < index → n < 256 ^ 2 → bytes_high_first 2 n ≡ take 2 (drop (at + 2) s) → Walked s index (i + 1) (at + (n + 4))
+pub walk_on : (s : List ℕ) (index i at n : ℕ) → Walked s index i at → i < index → n < 256 ^ 2 → bytes_high_first 2 n ≡ take 2 (drop (at + 2) s)
+    → Walked s index (i + 1) (at + (n + 4))
 walk_on s index i at n w h k f =
     let e = here_of s index i at w (omega (arith, h)) in
     let size = is_length s index i at n e k f in
@@ -107,8 +108,9 @@ walk_on s index i at n w h k f =
     let next : Walked s index (suc i) (at + (n + 4)) = record { read = w'.read; is = w'.is; are = w'.are; few = w'.few; here = omega (arith, e.next, size) } in
     rw add-one next
 
-pub walk_ends : (s : List ℕ) (index i at number count : ℕ) → Walked s index i at → i ≡ index → number < 256 ^ 2 → count < 256 ^ 2 → bytes_high_first 2 number ≡ take 2 (drop at s)
-    → bytes_high_first 2 count ≡ take 2 (drop (at + 2) s) → IsPieceOf s index number (at + 4) count
+pub walk_ends : (s : List ℕ) (index i at number count : ℕ) → Walked s index i at → i ≡ index → number < 256 ^ 2 → count < 256 ^ 2
+    → bytes_high_first 2 number ≡ take 2 (drop at s)
+    → bytes_high_first 2 count ≡ take 2 (drop (at + 2) s) → IsTlvOf s index number (at + 4) count
 walk_ends s index i at number count w h k l f g =
     let v : Walked s index index at = subst (λ (j : ℕ). Walked s index j at) h w in
     let e = here_of s index index at v (omega arith) in

@@ -4,20 +4,20 @@ use Rattle.std.specs.Prelude.{Result, Ok, Err}
 use Rattle.std.specs.{Ordering.nat_cmp, Cmp.Lexicographic.slice_cmp, declared.cmp.Ordering.Ordering}
 use Rattle.std.specs.declared.cmp.Ordering.TheVariants.{Less, Equal, Greater}
 use Rattle.dns_fields.specs.{Labels.DomainName, Names.IsNameIn, Fields.canonical, Fields.all_emittable}
-use Rattle.dns_names_wire.specs.Words.{Because}
+use Rattle.dns_names_wire.specs.Terms.{Because}
 use Rattle.dns_types.specs.{declared.error.ProtoError.ProtoError, declared.error.DecodeError.DecodeError, declared.error.ParseError.ParseError}
 use Rattle.dns_types.specs.declared.record_type.RecordType.{RecordType}
 use Rattle.dns_text.specs.TextWords.{NoTextWords}
 use Rattle.dns_types.specs.declared.error.DecodeError.TheVariants as decode
 use Rattle.dns_types.specs.declared.error.ParseError.TheVariants as parse
-use Rattle.dns_rdata.specs.{declared.record_data.RData.RData, DataWords.IsDataTextAt, DataWords.GivesNoneAt, DataWords.HasNoWords, Texts.data_text, WholeOctets.whole_data}
+use Rattle.dns_rdata.specs.{declared.record_data.RData.RData, DataTokens.IsDataTextAt, DataTokens.GivesNoneAt, DataTokens.HasNoTokens, Texts.data_text, WholeOctets.whole_data}
 use Rattle.dns_rdata.specs.Data.{Fills, NoValue, fields_of, data_octets, IsEmittable}
 use Rattle.dns_rdata_zone.specs.{ZoneGives.GivesValue, ZoneGives.GivesNone, ZoneFaults.ZoneFault, ZoneTexts.zone_text}
-use Rattle.dns_rdata_c.specs.{declared.check.Refusal.Refusal, Reading.IsCauseAt, Reading.HasData}
+use Rattle.dns_rdata_c.specs.{declared.check.Reason.Reason, Reading.IsCauseAt, Reading.HasData}
 use Rattle.dns_rdata_c.specs.Status.{decode_status, parse_status}
 use Rattle.dns_rdata_c.specs.Buffers.{IsPut, IsTooMany, IsTextPut, IsTextTooLong}
 
--- ---- why octets are refused
+-- ---- why octets are rejected
 
 -- the octets that were read, and those that there should have been
 abbrev pub read_in : DecodeError → ℕ
@@ -45,7 +45,7 @@ stop_in decode.Memory offset = 0
 stop_in e offset = offset
 
 -- the numbers of an error, of the record's own result, and of the offset where reading stopped
-abbrev pub numbers_of : DecodeError → Result (Unit {0}) DecodeError → ℕ → Refusal
+abbrev pub numbers_of : DecodeError → Result (Unit {0}) DecodeError → ℕ → Reason
 numbers_of e own offset = record {
   read = read_in e;
   len = len_in e;
@@ -54,9 +54,9 @@ numbers_of e own offset = record {
   offset = stop_in e offset;
 }
 
--- The status and the numbers are those of the error by which the octets are rejected, of the record's own result, and of
--- the offset where reading stopped.
-pub record IsWhy (m : List ℕ) (p n : ℕ) (t : RecordType) (status : ℕ) (why : Refusal) : Type 0 where
+-- The status and the numbers are those of the error by which the octets are rejected, of the record's own result, and
+-- of the offset where reading stopped.
+pub record IsWhy (m : List ℕ) (p n : ℕ) (t : RecordType) (status : ℕ) (why : Reason) : Type 0 where
   pub error : DecodeError
   pub own : Result (Unit {0}) DecodeError
   pub offset : ℕ
@@ -66,7 +66,7 @@ pub record IsWhy (m : List ℕ) (p n : ℕ) (t : RecordType) (status : ℕ) (why
 
 -- ---- texts
 
--- the value's text stands in the buffer
+-- the value's text is in the buffer
 pub record PutsText (v : RData) (old new : List ℕ) (count : ℕ) : Type 0 where
   pub text : List ℕ
   pub is_text : data_text v ≡ Some text
@@ -80,12 +80,12 @@ pub record LacksRoomForText (v : RData) (old new : List ℕ) (count : ℕ) : Typ
 
 -- ---- octets
 
--- the octets are those of the value, its names whole and with their letters
+-- the octets are the uncompressed octets of the value
 pub record IsWire (v : RData) (octets : List ℕ) : Type 0 where
   pub is : octets ≡ whole_data v
   pub short : length octets ≤ 65535
 
--- the octets of the value stand in the buffer
+-- the octets of the value are in the buffer
 pub record PutsWire (v : RData) (old new : List ℕ) (count : ℕ) : Type 0 where
   pub short : length (whole_data v) ≤ 65535
   pub put : IsPut (whole_data v) old new count
@@ -95,7 +95,7 @@ pub record LacksRoomForWire (v : RData) (old new : List ℕ) (count : ℕ) : Typ
   pub short : length (whole_data v) ≤ 65535
   pub too_many : IsTooMany (whole_data v) old new count
 
--- the octets of the value stand in the buffer, and are data of the type
+-- the octets of the value are in the buffer, and are RDATA of the type
 pub record PutsData (t : RecordType) (v : RData) (old new : List ℕ) (count : ℕ) : Type 0 where
   pub short : length (whole_data v) ≤ 65535
   pub reads : HasData (whole_data v) 0 (length (whole_data v)) t (λ _. Unit {0})
@@ -132,7 +132,8 @@ TellsSame a b answer = ((answer ≡ pos 1) × (a ≡ b)) ⊎ ((answer ≡ pos 0)
 
 -- of two values that were read under one type, the number tells whether their canonical octets are the same
 abbrev pub TellsEqual : RData → RData → ℤ → Type 0
-TellsEqual v w answer = (t : RecordType) (m : List ℕ) (p n : ℕ) (m' : List ℕ) (p' n' : ℕ) → Fills m p n t v → Fills m' p' n' t w
+TellsEqual v w answer =
+    (t : RecordType) (m : List ℕ) (p n : ℕ) (m' : List ℕ) (p' n' : ℕ) → Fills m p n t v → Fills m' p' n' t w
     → TellsSame (data_octets v) (data_octets w) answer
 
 -- values fill the octets in both messages, and the number tells whether their canonical octets are the same
@@ -145,13 +146,13 @@ pub record HasEquality (t : RecordType) (m : List ℕ) (p n : ℕ) (m' : List �
 
 -- ---- data from a text
 
--- The text is of no value of the type, and the status is the number of the parser's error. A type that has no display text is
--- rejected as such, where the text has tokens at all.
+-- The text is of no value of the type, and the status is the number of the parser's error. A type that has no display
+-- text is rejected as such, where the text has tokens at all.
 pub record IsNoText (origin : Option DomainName) (t : RecordType) (text : List ℕ) (status : ℕ) : Type 0 where
   pub none : NoTextWords text ⊎ GivesNoneAt origin t text
   pub error : ParseError
   pub told : status ≡ parse_status error
-  pub unsupported : HasNoWords t → (error ≡ parse.UnsupportedRecordType t) ⊎ NoTextWords text
+  pub unsupported : HasNoTokens t → (error ≡ parse.UnsupportedRecordType t) ⊎ NoTextWords text
 
 -- ---- origins
 
@@ -200,15 +201,18 @@ pub record IsRefusedZoneText (octets : List ℕ) (t : RecordType) (text : List �
   pub is_origin : IsOrigin octets origin
   pub why : IsNoZoneText origin t text status
 
--- Of each value that fills octets of a message, and whose text in a zone file this is, P holds of the octets with whole names.
+-- P holds of the uncompressed octets of each value that fills RDATA of a message and whose zone text this is.
 pub record OfZoneText (t : RecordType) (text : List ℕ) (P : List ℕ → Type 0) : Type 0 where
-  pub holds : (m : List ℕ) (p n : ℕ) (v : RData) → Fills m p n t v → length (whole_data v) ≤ 65535 → text ≡ zone_text v → P (whole_data v)
+  pub holds : (m : List ℕ) (p n : ℕ) (v : RData) → Fills m p n t v → length (whole_data v) ≤ 65535
+      → text ≡ zone_text v → P (whole_data v)
 
 -- ---- written octets
 
 -- why a value is not written
 abbrev pub IsUnwritten : RData → ProtoError → Type 0
-IsUnwritten v e = Because e (65535 < length (canonical (fields_of v).kinds (fields_of v).values)) (all_emittable (fields_of v).kinds (fields_of v).values ≡ false)
+IsUnwritten v e =
+    Because e (65535 < length (canonical (fields_of v).kinds (fields_of v).values))
+    (all_emittable (fields_of v).kinds (fields_of v).values ≡ false)
 
 -- the status by which a value has no octets: memory ran out, or they are too many, or it cannot be emitted
 abbrev pub IsUnmade : RData → ℕ → Type 0

@@ -1,4 +1,5 @@
--- Where the octets of a name end that stands in a message: labels, and behind them an octet 0 or a pointer (RFC 1035, 3.1 and 4.1.4).
+-- Where a name ends in a message: labels, and then a zero octet or a compression pointer (RFC 1035, sections 3.1 and
+-- 4.1.4).
 use Rattle.std.specs.Prelude.{◌≡◌, ℕ, ◌<◌, ◌⊎◌, List, [], ◌∷◌, ◌++◌, length}
 use Rattle.dns_fields.specs.{Labels.AreLabels, Labels.wire, Names.pointer}
 
@@ -14,7 +15,7 @@ pub record AreNameOctets (octets : List ℕ) : Type 0 where
   pub is_last : IsLast last
   pub is : octets ≡ wire labels ++ last
 
--- a name of n octets stands in front
+-- the octets begin with a name of n octets
 pub record IsNameLength (s : List ℕ) (n : ℕ) : Type 0 where
   pub octets : List ℕ
   pub are : AreNameOctets octets
@@ -22,6 +23,6 @@ pub record IsNameLength (s : List ℕ) (n : ℕ) : Type 0 where
   pub is : s ≡ octets ++ rest
   pub many : n ≡ length octets
 
--- no name stands in front
+-- the octets begin with no name
 abbrev pub HasNoNameEnd : List ℕ → Type 0
 HasNoNameEnd s = (octets rest : List ℕ) → AreNameOctets octets → s ≡ octets ++ rest → ⊥

@@ -10,25 +10,25 @@ names_in [] = 0
 names_in (Name ∷ kinds) = suc (names_in kinds)
 names_in (k ∷ kinds) = names_in kinds
 
--- the number of a later name, counted from behind this field
+-- the number of a later name, counted from after this field
 abbrev pub counted_behind : Kind → ℕ → ℕ
 counted_behind Name (suc i) = i
 counted_behind k i = i
 
--- Of the fields that stand from p on, one behind the other, name number i begins at q and is x.
+-- Of the fields that follow each other from p on, name number i begins at q and is x.
 abbrev pub IsNameAt : List ℕ → ℕ → (kinds : List Kind) → Values kinds → ℕ → ℕ → DomainName → Type 0
 IsNameAt m p [] vs i q x = ⊥
 IsNameAt m p (Name ∷ kinds) vs zero q x = (q ≡ p) × (x ≡ vs.0)
 IsNameAt m p (k ∷ kinds) vs i q x = (b : ℕ) × Field m p k vs.0 b × IsNameAt m b kinds vs.1 (counted_behind k i) q x
 
--- a value fills the octets, and P holds of the place and the name of its name number i
+-- a value fills the octets, and P holds of the offset and the name of its name number i
 pub record HasName (m : List ℕ) (p n : ℕ) (t : RecordType) (i : ℕ) (P : ℕ → DomainName → Type 0) : Type 0 where
   pub value : RData
   pub fills : Fills m p n t value
-  pub place : ℕ
+  pub offset : ℕ
   pub name : DomainName
-  pub is_name : IsNameAt m p (fields_of value).kinds (fields_of value).values i place name
-  pub holds : P place name
+  pub is_name : IsNameAt m p (fields_of value).kinds (fields_of value).values i offset name
+  pub holds : P offset name
 
 -- the n octets are the data of the value
 pub record IsFilledBy (m : List ℕ) (p n : ℕ) (v : RData) : Type 0 where

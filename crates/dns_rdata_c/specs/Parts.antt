@@ -1,8 +1,8 @@
--- The parts of record data: the options of OPT (RFC 6891, 6.1.2) and the parameters of a service binding (RFC 9460, 2.2). What they
--- are of octets, and what they are of a value that fills the octets.
+-- The parts of record data: the options of OPT (RFC 6891, 6.1.2) and the parameters of a service binding (RFC 9460,
+-- 2.2). What they are of octets, and what they are of a value that fills the octets.
 use Rattle.std.specs.Prelude.{◌≡◌, ℕ, ◌+◌, ◌≤◌, ◌⊎◌, Bool, true, false, List, [], ◌++◌, length, map, take, drop, Some, slice_get}
 use Rattle.dns_fields.specs.Octets.{At}
-use Rattle.dns_fields.specs.Pieces.{Numbered, pieces, ArePieces, AllHeld, OptionHeld, ParameterHeld, IsCut}
+use Rattle.dns_fields.specs.Tlvs.{Numbered, tlvs, AreTlvs, AllHeld, OptionHeld, ParameterHeld, IsTruncated}
 use Rattle.dns_types.specs.declared.record_type.RecordType.{RecordType}
 use Rattle.dns_types.specs.declared.record_type.RecordType.TheVariants as types
 use Rattle.dns_rdata.specs.declared.record_data.RData.{RData}
@@ -39,34 +39,34 @@ IsFront t front = ⊥
 abbrev pub HasNoFront : RecordType → List ℕ → Type 0
 HasNoFront t s = (front rest : List ℕ) → IsFront t front → s ≡ front ++ rest → ⊥
 
--- behind what stands in front the octets are these parts, each its number, its length and its octets
+-- after what precedes the parts, the octets are these parts: each its number, its length and its octets
 pub record AreParts (t : RecordType) (s front : List ℕ) (parts : List (Numbered (List ℕ))) : Type 0 where
   pub is_front : IsFront t front
-  pub is : s ≡ front ++ pieces parts
-  pub are : ArePieces parts
+  pub is : s ≡ front ++ tlvs parts
+  pub are : AreTlvs parts
 
--- Options of which the last is cut: of those data has none.
+-- Truncated options: such RDATA has none.
 pub record AreCutOptions (t : RecordType) (s : List ℕ) : Type 0 where
   pub is_opt : t ≡ types.OPT
   pub parts : List (Numbered (List ℕ))
   pub stub : List ℕ
-  pub is : s ≡ pieces parts ++ stub
-  pub are : ArePieces parts
-  pub cut : IsCut (length s) stub
+  pub is : s ≡ tlvs parts ++ stub
+  pub are : AreTlvs parts
+  pub cut : IsTruncated (length s) stub
 
 -- the octets are no parts
 pub record AreNoParts (t : RecordType) (s : List ℕ) : Type 0 where
   pub none : (front : List ℕ) (parts : List (Numbered (List ℕ))) → AreParts t s front parts → ⊥
   pub uncut : AreCutOptions t s → ⊥
 
--- part number i of the octets has this number, and its octets begin at this place and are so many
+-- part number i of the octets has this number, and its octets begin at this offset and are so many
 pub record IsPartOf (t : RecordType) (s : List ℕ) (i number begin count : ℕ) : Type 0 where
   pub front : List ℕ
   pub parts : List (Numbered (List ℕ))
   pub all : AreParts t s front parts
   pub octets : List ℕ
   pub is : slice_get parts i ≡ Some (number, octets)
-  pub begins : begin ≡ length front + (length (pieces (take i parts)) + 4)
+  pub begins : begin ≡ length front + (length (tlvs (take i parts)) + 4)
   pub told : count ≡ length octets
 
 -- the octets are i parts at most
@@ -78,25 +78,27 @@ pub record AreFewParts (t : RecordType) (s : List ℕ) (i : ℕ) : Type 0 where
 
 -- ---- of octets in a message
 
--- the n octets from p are parts, and part number i stands there
+-- the n octets from p are parts, and part number i is there
 pub record HasPart (m : List ℕ) (p n : ℕ) (t : RecordType) (i number begin count : ℕ) : Type 0 where
   pub within : p + n ≤ length m
   pub from : ℕ
   pub part : IsPartOf t (take n (drop p m)) i number from count
   pub begins : begin ≡ p + from
 
--- Data of the type has no parts; or the n octets from p are i parts at most, or options of which the last is cut.
+-- RDATA of the type has no parts, or the n octets from p are at most i parts, or they are truncated options.
 abbrev pub LacksPart : List ℕ → ℕ → ℕ → RecordType → ℕ → Type 0
-LacksPart m p n t i = (is_partless t ≡ true) ⊎ ((p + n ≤ length m) × (AreFewParts t (take n (drop p m)) i ⊎ AreCutOptions t (take n (drop p m))))
+LacksPart m p n t i =
+    (is_partless t ≡ true)
+    ⊎ ((p + n ≤ length m) × (AreFewParts t (take n (drop p m)) i ⊎ AreCutOptions t (take n (drop p m))))
 
--- A cursor before part number i of the n octets from p, which are parts: at the offset where that part begins, and with the
--- offset where the octets end.
+-- A cursor before part number i of the n octets from p, which are parts: at the offset where that part begins, and with
+-- the offset where the octets end.
 pub record IsBefore (m : List ℕ) (p n : ℕ) (t : RecordType) (i : ℕ) (cursor : PartsCursor) : Type 0 where
   pub within : p + n ≤ length m
   pub front : List ℕ
   pub parts : List (Numbered (List ℕ))
   pub all : AreParts t (take n (drop p m)) front parts
-  pub here : cursor.next ≡ p + (length front + length (pieces (take i parts)))
+  pub here : cursor.next ≡ p + (length front + length (tlvs (take i parts)))
   pub ends : cursor.end ≡ p + n
 
 -- ---- of a value
@@ -108,15 +110,15 @@ parts_in (rdata.HTTPS x) = length x.0.svc_params
 parts_in (rdata.SVCB x) = length x.svc_params
 parts_in v = 0
 
--- each option or parameter of the value is held by the part of its place
+-- each option or parameter of the value is held by the part of its offset
 abbrev pub HoldValue : RData → List (Numbered (List ℕ)) → Type 0
 HoldValue (rdata.OPT x) parts = AllHeld OptionHeld parts (map pair_value x)
 HoldValue (rdata.HTTPS x) parts = AllHeld ParameterHeld parts (map parameter_of x.0.svc_params)
 HoldValue (rdata.SVCB x) parts = AllHeld ParameterHeld parts (map parameter_of x.svc_params)
 HoldValue v parts = ⊥
 
--- The option or parameter number i of the value has this number, and the octets that hold it stand at this place of the message and
--- are so many.
+-- The option or parameter number i of the value has this number, and the octets that hold it are at this offset of the
+-- message and are so many.
 pub record IsPartIn (m : List ℕ) (v : RData) (i number begin count : ℕ) : Type 0 where
   pub parts : List (Numbered (List ℕ))
   pub hold : HoldValue v parts

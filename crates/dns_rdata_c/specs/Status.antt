@@ -1,4 +1,4 @@
--- The numbers of refusals.
+-- The numbers of errors.
 use Rattle.std.specs.Prelude.{ℕ}
 use Rattle.dns_types.specs.{declared.error.DecodeError.DecodeError, declared.error.ParseError.ParseError}
 use Rattle.dns_types.specs.declared.error.DecodeError.TheVariants as decode
@@ -22,7 +22,7 @@ decode_status decode.Utf8 = 28
 
 abbrev pub parse_status : ParseError → ℕ
 parse_status parse.Memory = 1
-parse_status (parse.MissingToken word) = 48
+parse_status (parse.MissingToken token) = 48
 parse_status (parse.Message text) = 49
 parse_status (parse.UnsupportedRecordType t) = 50
 parse_status parse.AddrParse = 51

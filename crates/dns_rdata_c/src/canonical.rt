@@ -5,7 +5,7 @@ ghost use Rattle.dns_types.specs.RecordTypes.{record_type_of};
 ghost use Rattle.dns_rdata.specs.{Data.NoValue, Data.data_octets, Laws.ReadsCanonical};
 ghost use Rattle.dns_rdata_c.specs.{Reading.HasData, Reading.IsRejected, Buffers.IsPut};
 
-use crate::filling::put_canonical;
+use crate::canonical_put::put_canonical;
 use crate::reading::{octets_at, read_at};
 use crate::status::{BUFFER, MEMORY, OK, REFUSED, TOO_LONG};
 use std::alloc::Global;
@@ -18,27 +18,27 @@ use std::alloc::Global;
 pub extern "C" fn dns_rdata_canonical(
     alloc: Global,
     message: &[u8],
-    place: usize,
+    offset: usize,
     length: u16,
     type_number: u16,
     out: &mut [u8],
     count: &mut usize,
 ) -> u32
-    ensures ok { result ≡ OK → HasData message.now place length (record_type_of type_number)
+    ensures ok { result ≡ OK → HasData message.now offset length (record_type_of type_number)
         (λ v. IsPut (data_octets v) out.old out.new count.new × ReadsCanonical (record_type_of type_number) v) }
-    ensures buffer { result ≡ BUFFER → HasData message.now place length (record_type_of type_number)
+    ensures buffer { result ≡ BUFFER → HasData message.now offset length (record_type_of type_number)
         (λ v. (size out.old < size (data_octets v)) × (count.new ≡ size (data_octets v))) }
-    ensures too_long { result ≡ TOO_LONG → HasData message.now place length (record_type_of type_number) (λ v. 65535 < size (data_octets v)) }
-    ensures refused { REFUSED ≤ result → NoValue message.now place length (record_type_of type_number) }
-    ensures cause { REFUSED ≤ result → IsRejected message.now place length (record_type_of type_number) result }
+    ensures too_long { result ≡ TOO_LONG → HasData message.now offset length (record_type_of type_number) (λ v. 65535 < size (data_octets v)) }
+    ensures refused { REFUSED ≤ result → NoValue message.now offset length (record_type_of type_number) }
+    ensures cause { REFUSED ≤ result → IsRejected message.now offset length (record_type_of type_number) result }
     ensures status { (result ≡ OK) ⊎ (result ≡ MEMORY) ⊎ (result ≡ BUFFER) ⊎ (result ≡ TOO_LONG) ⊎ (REFUSED ≤ result) }
     ensures kept { result ≢ OK → result ≢ BUFFER → result ≢ TOO_LONG → out.new ≡ out.old }
     ensures untold { result ≢ OK → result ≢ BUFFER → count.new ≡ count.old }
 {
-    match read_at(alloc, message, place, length, type_number) {
+    match read_at(alloc, message, offset, length, type_number) {
         Err(status) => status,
         Ok(value) => {
-            let octets = octets_at(message, place, length);
+            let octets = octets_at(message, offset, length);
             put_canonical(alloc, octets, &value, out, count)
         }
     }

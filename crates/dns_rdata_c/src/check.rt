@@ -2,7 +2,7 @@
 
 ghost use Rattle.std.specs.Prelude.{◌≡◌, ◌≢◌, ◌≤◌, ◌⊎◌, IfErr, OnOk};
 ghost use Rattle.dns_types.specs.RecordTypes.{record_type_of};
-ghost use Rattle.dns_names_wire.specs.Words.{UnlessMemory};
+ghost use Rattle.dns_names_wire.specs.Terms.{UnlessMemory};
 ghost use Rattle.dns_rdata.specs.Data.{HasValue, NoValue};
 ghost use Rattle.dns_rdata_c.specs.{Reading.HasData, Reading.IsCauseAt, Calls.IsWhy, Calls.numbers_of};
 ghost use Rattle.dns_rdata_c.specs.Calls.{own_number, own_status};
@@ -12,10 +12,10 @@ use dns_rdata::{BinDecoder, DecodeError, RData, RecordType, Restrict};
 use dns_rdata_base::counted::by_length;
 use std::alloc::Global;
 
-/// The numbers of a refusal. Those that a status has nothing to say of are 0.
+/// The numbers of an error. Those that the status does not use are 0.
 #[repr(C)]
 #[derive(Clone, Copy)]
-pub struct Refusal {
+pub struct Reason {
     /// Octets that were read, of `LENGTH`.
     pub read: usize,
     /// Octets that there should have been, of `LENGTH`.
@@ -37,8 +37,8 @@ struct Cause {
     offset: usize,
 }
 
-// The numbers of a refusal.
-fn numbers(cause: &Cause) -> Refusal
+// The numbers of an error.
+fn numbers(cause: &Cause) -> Reason
     ensures { result ≡ numbers_of cause.now.error cause.now.own cause.now.offset }
 {
     let number = number_in(cause.own);
@@ -47,7 +47,7 @@ fn numbers(cause: &Cause) -> Refusal
         DecodeError::IncorrectRDataLengthRead { read, len } => (read, len, cause.offset),
         _ => (0, 0, cause.offset),
     };
-    Refusal {
+    Reason {
         read,
         len,
         number,
@@ -84,26 +84,26 @@ fn status_in(own: Result<(), DecodeError>) -> u32
 fn check_at(
     alloc: Global,
     message: &[u8],
-    place: usize,
+    start: usize,
     length: u16,
     record_type: RecordType,
 ) -> Result<(), Cause>
-    ensures found { OnOk result (HasValue message.now place length record_type) }
-    ensures refused { IfErr result (λ c. UnlessMemory c.error (NoValue message.now place length record_type)) }
-    ensures cause { IfErr result (λ c. IsCauseAt message.now place length record_type c.error c.own c.offset) }
+    ensures found { OnOk result (HasValue message.now start length record_type) }
+    ensures refused { IfErr result (λ c. UnlessMemory c.error (NoValue message.now start length record_type)) }
+    ensures cause { IfErr result (λ c. IsCauseAt message.now start length record_type c.error c.own c.offset) }
 {
-    let Ok(mut decoder) = BinDecoder::at(alloc, message, place) else {
+    let Ok(mut decoder) = BinDecoder::at(alloc, message, start) else {
         let error = DecodeError::InsufficientBytes;
         return Err(Cause {
             error,
             own: Err(error),
-            offset: place,
+            offset: start,
         });
     };
     let length = Restrict::new(length);
     let own = RData::own_result(&mut decoder, record_type, length);
     let offset = decoder.index();
-    match by_length(own, &decoder, place, length) {
+    match by_length(own, &decoder, start, length) {
         Ok(()) => Ok(()),
         Err(error) => Err(Cause { error, own, offset }),
     }
@@ -115,20 +115,26 @@ fn check_at(
 pub extern "C" fn dns_rdata_check(
     alloc: Global,
     message: &[u8],
-    place: usize,
+    offset: usize,
     length: u16,
     type_number: u16,
-    why: &mut Refusal,
+    why: &mut Reason,
 ) -> u32
     // A value of the type fills the octets.
-    ensures ok { result ≡ OK → HasData message.now place length (record_type_of type_number) (λ _. Unit {0}) }
+    ensures ok { result ≡ OK → HasData message.now offset length (record_type_of type_number) (λ _. Unit {0}) }
     // None does.
-    ensures refused { REFUSED ≤ result → NoValue message.now place length (record_type_of type_number) }
-    ensures why { result ≢ OK → IsWhy message.now place length (record_type_of type_number) result why.new }
+    ensures refused { REFUSED ≤ result → NoValue message.now offset length (record_type_of type_number) }
+    ensures why { result ≢ OK → IsWhy message.now offset length (record_type_of type_number) result why.new }
     ensures status { (result ≡ OK) ⊎ (result ≡ MEMORY) ⊎ (REFUSED ≤ result) }
     ensures untold { result ≡ OK → why.new ≡ why.old }
 {
-    match check_at(alloc, message, place, length, RecordType::from(type_number)) {
+    match check_at(
+        alloc,
+        message,
+        offset,
+        length,
+        RecordType::from(type_number),
+    ) {
         Ok(()) => return OK,
         Err(cause) => {
             *why = numbers(&cause);

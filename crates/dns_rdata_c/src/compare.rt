@@ -28,27 +28,27 @@ fn number_of(order: Ordering) -> i32
 pub extern "C" fn dns_rdata_compare(
     alloc: Global,
     message: &[u8],
-    place: usize,
+    offset: usize,
     length: u16,
     other: &[u8],
-    other_place: usize,
+    other_offset: usize,
     other_length: u16,
     type_number: u16,
     order: &mut i32,
 ) -> u32
-    ensures ok { result ≡ OK → HasOrder (record_type_of type_number) message.now place length other.now other_place other_length order.new }
-    ensures refused { REFUSED ≤ result → NoValue message.now place length (record_type_of type_number)
-        ⊎ NoValue other.now other_place other_length (record_type_of type_number) }
-    ensures cause { REFUSED ≤ result → IsRejected message.now place length (record_type_of type_number) result
-        ⊎ IsRejected other.now other_place other_length (record_type_of type_number) result }
+    ensures ok { result ≡ OK → HasOrder (record_type_of type_number) message.now offset length other.now other_offset other_length order.new }
+    ensures refused { REFUSED ≤ result → NoValue message.now offset length (record_type_of type_number)
+        ⊎ NoValue other.now other_offset other_length (record_type_of type_number) }
+    ensures cause { REFUSED ≤ result → IsRejected message.now offset length (record_type_of type_number) result
+        ⊎ IsRejected other.now other_offset other_length (record_type_of type_number) result }
     ensures status { (result ≡ OK) ⊎ (result ≡ MEMORY) ⊎ (REFUSED ≤ result) }
     ensures untold { result ≢ OK → order.new ≡ order.old }
 {
-    let value = match read_at(alloc, message, place, length, type_number) {
+    let value = match read_at(alloc, message, offset, length, type_number) {
         Ok(value) => value,
         Err(status) => return status,
     };
-    match read_at(alloc, other, other_place, other_length, type_number) {
+    match read_at(alloc, other, other_offset, other_length, type_number) {
         Err(status) => status,
         Ok(other) => {
             *order = number_of(value.cmp(&other));
@@ -70,27 +70,27 @@ fn equality_of(value: &RData, other: &RData) -> i32
 pub extern "C" fn dns_rdata_equal(
     alloc: Global,
     message: &[u8],
-    place: usize,
+    offset: usize,
     length: u16,
     other: &[u8],
-    other_place: usize,
+    other_offset: usize,
     other_length: u16,
     type_number: u16,
     equal: &mut i32,
 ) -> u32
-    ensures ok { result ≡ OK → HasEquality (record_type_of type_number) message.now place length other.now other_place other_length equal.new }
-    ensures refused { REFUSED ≤ result → NoValue message.now place length (record_type_of type_number)
-        ⊎ NoValue other.now other_place other_length (record_type_of type_number) }
-    ensures cause { REFUSED ≤ result → IsRejected message.now place length (record_type_of type_number) result
-        ⊎ IsRejected other.now other_place other_length (record_type_of type_number) result }
+    ensures ok { result ≡ OK → HasEquality (record_type_of type_number) message.now offset length other.now other_offset other_length equal.new }
+    ensures refused { REFUSED ≤ result → NoValue message.now offset length (record_type_of type_number)
+        ⊎ NoValue other.now other_offset other_length (record_type_of type_number) }
+    ensures cause { REFUSED ≤ result → IsRejected message.now offset length (record_type_of type_number) result
+        ⊎ IsRejected other.now other_offset other_length (record_type_of type_number) result }
     ensures status { (result ≡ OK) ⊎ (result ≡ MEMORY) ⊎ (REFUSED ≤ result) }
     ensures untold { result ≢ OK → equal.new ≡ equal.old }
 {
-    let value = match read_at(alloc, message, place, length, type_number) {
+    let value = match read_at(alloc, message, offset, length, type_number) {
         Ok(value) => value,
         Err(status) => return status,
     };
-    match read_at(alloc, other, other_place, other_length, type_number) {
+    match read_at(alloc, other, other_offset, other_length, type_number) {
         Err(status) => status,
         Ok(other) => {
             *equal = equality_of(&value, &other);
@@ -100,7 +100,7 @@ pub extern "C" fn dns_rdata_equal(
 }
 
 /// The order of two lists of octets: -1, 0 or 1, a proper beginning before what goes on. Of canonical octets it is the order
-/// of the data. Takes no memory.
+/// of the data. Allocates nothing.
 #[unsafe(no_mangle)]
 pub extern "C" fn dns_rdata_compare_canonical(octets: &[u8], other: &[u8]) -> i32
     ensures { result ≡ octets_order octets.now other.now }

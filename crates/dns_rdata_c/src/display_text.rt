@@ -43,22 +43,22 @@ fn put_value_text(alloc: Global, value: &RData, out: &mut [u8], count: &mut usiz
 pub extern "C" fn dns_rdata_display_text(
     alloc: Global,
     message: &[u8],
-    place: usize,
+    offset: usize,
     length: u16,
     type_number: u16,
     out: &mut [u8],
     count: &mut usize,
 ) -> u32
-    ensures ok { result ≡ OK → HasData message.now place length (record_type_of type_number) (λ v. PutsText v out.old out.new count.new) }
-    ensures buffer { result ≡ BUFFER → HasData message.now place length (record_type_of type_number) (λ v. LacksRoomForText v out.old out.new count.new) }
-    ensures no_text { result ≡ NO_TEXT → HasData message.now place length (record_type_of type_number) (λ v. data_text v ≡ None) }
-    ensures refused { REFUSED ≤ result → NoValue message.now place length (record_type_of type_number) }
-    ensures cause { REFUSED ≤ result → IsRejected message.now place length (record_type_of type_number) result }
+    ensures ok { result ≡ OK → HasData message.now offset length (record_type_of type_number) (λ v. PutsText v out.old out.new count.new) }
+    ensures buffer { result ≡ BUFFER → HasData message.now offset length (record_type_of type_number) (λ v. LacksRoomForText v out.old out.new count.new) }
+    ensures no_text { result ≡ NO_TEXT → HasData message.now offset length (record_type_of type_number) (λ v. data_text v ≡ None) }
+    ensures refused { REFUSED ≤ result → NoValue message.now offset length (record_type_of type_number) }
+    ensures cause { REFUSED ≤ result → IsRejected message.now offset length (record_type_of type_number) result }
     ensures status { (result ≡ OK) ⊎ (result ≡ MEMORY) ⊎ (result ≡ BUFFER) ⊎ (result ≡ NO_TEXT) ⊎ (REFUSED ≤ result) }
     ensures kept { result ≢ OK → out.new ≡ out.old }
     ensures untold { result ≢ OK → result ≢ BUFFER → count.new ≡ count.old }
 {
-    match read_at(alloc, message, place, length, type_number) {
+    match read_at(alloc, message, offset, length, type_number) {
         Err(status) => status,
         Ok(value) => put_value_text(alloc, &value, out, count),
     }

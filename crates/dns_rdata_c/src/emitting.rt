@@ -1,4 +1,4 @@
-//! The octets of a value with its names whole.
+//! The uncompressed octets of a value, case preserved.
 
 ghost use Rattle.std.specs.Prelude.{◌≡◌, [], IfErr, OnOk, IfOk};
 ghost use Rattle.dns_rdata.specs.WholeOctets.{name_octets, whole_data};
@@ -8,13 +8,13 @@ use crate::status::{MEMORY, TOO_LONG, UNFIT};
 use dns_rdata::{BinEncodable, BinEncoder, Name, ProtoError, RData, RDataEncoding};
 use std::alloc::Global;
 
-// The most octets that the data of a record has (RFC 1035, 3.2.1).
+// The greatest RDLENGTH (RFC 1035, section 3.2.1).
 const MAX_OCTETS: usize = 65535;
 
-// What is asked for at first, so that most data needs no further request.
+// The first allocation has so many octets, so that most RDATA needs no second one.
 const FIRST_ROOM: usize = 512;
 
-// Writes the octets of a value to an empty vector, its names whole.
+// Appends the uncompressed octets of a value to an empty vector.
 fn emit_to(alloc: Global, octets: &mut Vec<u8>, value: &RData) -> Result<(), ProtoError>
     requires { octets.old.items ≡ [] }
     ensures ok { OnOk result (octets.new.items ≡ whole_data value.now) }
@@ -26,8 +26,8 @@ fn emit_to(alloc: Global, octets: &mut Vec<u8>, value: &RData) -> Result<(), Pro
     outcome
 }
 
-/// The octets of a value with its names whole, or the status of a refusal. `RData::emit` would write the names of CNAME, MX, NS,
-/// PTR and SOA with pointers, which are places of the encoder's own message.
+/// The uncompressed octets of a value, or the status of the error. `RData::emit` would compress the names of CNAME, MX, NS, PTR
+/// and SOA, by pointers into the encoder's own message.
 #[tactic(auto, using(crate::proofs::Whole::as_many))]
 pub fn whole_octets(alloc: Global, value: &RData) -> Result<Vec<u8>, u32>
     ensures made { IfOk result (λ octets. IsWire value.now octets.items) }
@@ -66,7 +66,7 @@ fn emit_name(alloc: Global, octets: &mut Vec<u8>, name: &Name) -> Result<(), Pro
     outcome
 }
 
-/// The octets of a name, whole and with its letters (RFC 1035, 3.1).
+/// The octets of a name, uncompressed and case preserved (RFC 1035, section 3.1).
 pub fn octets_of_name(alloc: Global, name: &Name) -> Result<Vec<u8>, ProtoError>
     ensures { IfOk result (λ octets. octets.items ≡ name_octets name.now) }
 {

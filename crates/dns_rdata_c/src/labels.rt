@@ -1,4 +1,4 @@
-//! Names that are put into buffers of the caller, whole and with their letters. Takes no memory.
+//! Names that are written to buffers of the caller, uncompressed and case preserved. Allocates nothing.
 
 ghost use Rattle.std.specs.Prelude.{◌≡◌, ◌≢◌, ◌+◌, ◌<◌, ◌≤◌, ◌⊎◌, ◌++◌, length as size, take, drop};
 ghost use Rattle.dns_rdata.specs.WholeOctets.{name_octets};
@@ -7,38 +7,31 @@ ghost use Rattle.dns_rdata_c.specs.Buffers.{IsPut, IsTooMany};
 use crate::status::{BUFFER, OK, TOO_LONG};
 use dns_rdata::Name;
 
-// The most octets that the data of a record has (RFC 1035, 3.2.1).
+// The greatest RDLENGTH (RFC 1035, section 3.2.1).
 const MAX_OCTETS: usize = 65535;
 
-// Writes a name's octets from a place of a buffer on, and tells where they end.
+// Writes the octets of a name to a buffer from an offset on, and returns the offset after them.
 fn write_name(name: &Name, out: &mut [u8], start: usize) -> usize
     requires { start + size (name_octets name.now) ≤ size out.old }
     ensures ends { result ≡ start + size (name_octets name.now) }
     ensures written { out.new ≡ take start out.old ++ (name_octets name.now ++ drop result out.old) }
 {
-    // Called for its clauses: no label has more than 63 octets.
-    let _len = name.len();
-    let mut at = start;
-    for label in name.iter() {
-        let begin = at + 1;
-        let end = begin + label.len();
-        out[at] = label.len() as u8;
-        out[begin..end].copy_from_slice(label);
-        at = end;
-    }
-    out[at] = 0;
-    at + 1
+    let octets = name.label_octets();
+    let end = start + octets.len();
+    out[start..end].copy_from_slice(octets);
+    out[end] = 0;
+    end + 1
 }
 
 /// How many octets a name has.
-pub fn name_len(name: &Name) -> usize
+pub fn wire_len(name: &Name) -> usize
     ensures many { result ≡ size (name_octets name.now) }
     ensures few { result ≤ 255 }
 {
     name.len()
 }
 
-/// Puts octets and a name behind them at the front of the buffer where both fit, and tells their number.
+/// Writes octets and a name after them to the front of the buffer if both fit, and sets the number of octets.
 pub fn put_named(front: &[u8], name: &Name, out: &mut [u8], count: &mut usize) -> u32
     ensures ok { result ≡ OK → IsPut (front.now ++ name_octets name.now) out.old out.new count.new }
     ensures buffer { result ≡ BUFFER → IsTooMany (front.now ++ name_octets name.now) out.old out.new count.new }
@@ -49,7 +42,7 @@ pub fn put_named(front: &[u8], name: &Name, out: &mut [u8], count: &mut usize) -
     ensures untold { result ≢ OK → result ≢ BUFFER → count.new ≡ count.old }
 {
     let begin = front.len();
-    let len = begin + name_len(name);
+    let len = begin + wire_len(name);
     if len > MAX_OCTETS {
         return TOO_LONG;
     }
@@ -62,7 +55,7 @@ pub fn put_named(front: &[u8], name: &Name, out: &mut [u8], count: &mut usize) -
     OK
 }
 
-/// Puts two names and octets behind them at the front of the buffer where all fit, and tells their number.
+/// Writes two names and octets after them to the front of the buffer if all fit, and sets the number of octets.
 pub fn put_two_names(
     first: &Name,
     second: &Name,
@@ -78,7 +71,7 @@ pub fn put_two_names(
     ensures kept { result ≢ OK → out.new ≡ out.old }
     ensures untold { result ≢ OK → result ≢ BUFFER → count.new ≡ count.old }
 {
-    let len = name_len(first) + name_len(second) + behind.len();
+    let len = wire_len(first) + wire_len(second) + behind.len();
     if len > MAX_OCTETS {
         return TOO_LONG;
     }

@@ -1,30 +1,30 @@
-//! The data of DNS resource records (RDATA) for programs in C: checked, compared, put into canonical and plain octets, printed
-//! and read from texts.
+//! The data of DNS resource records (RDATA) for programs in C: the calls check and compare it, write its canonical and its
+//! uncompressed octets, print it and read it from text.
 //!
-//! Each call takes octets, gives what it makes in buffers of the caller, keeps no pointer, and answers a status (`status`).
+//! Each call takes octets, writes its result to buffers of the caller, keeps no pointer, and returns a status (`status`).
 //! `c/include/dns_rdata.h` declares the calls and is their document for C.
 #![tactic(auto)]
 
 pub mod canonical;
+mod canonical_put;
 pub mod check;
 pub mod compare;
 pub mod display_text;
 mod emitting;
-mod filling;
 mod labels;
-mod lowering;
+mod lowercased;
 mod name_ends;
 pub mod names;
 pub mod parse;
 pub mod parse_display_text;
 pub mod parts;
 pub mod parts_cursor;
-mod pieces;
 mod putting;
 mod reading;
-mod standing;
 pub mod status;
 pub mod text;
+mod tlvs;
 pub mod types;
+mod uncompressed;
 mod values;
 pub mod wire;

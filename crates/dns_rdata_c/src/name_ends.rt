@@ -1,10 +1,10 @@
-//! Names that are gone over where they stand in a message. Takes no memory.
+//! Where a name ends in a message. Allocates nothing.
 
 ghost use Rattle.std.specs.Prelude.{MatchOption};
 ghost use Rattle.dns_rdata_c.specs.NameEnds.{HasNoNameEnd, IsNameLength};
 
-/// How many octets a name has that stands in front: labels, and behind them a 0 or a pointer.
-pub fn name_length(octets: &[u8]) -> Option<usize>
+/// How many octets the name at the front of the octets takes there: labels, and then a zero octet or a compression pointer.
+pub fn encoded_len(octets: &[u8]) -> Option<usize>
     ensures { MatchOption result (HasNoNameEnd octets.now) (IsNameLength octets.now) }
 {
     let mut at = 0usize;

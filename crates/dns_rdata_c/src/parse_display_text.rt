@@ -1,4 +1,4 @@
-//! Record data from a text that hickory-proto reads.
+//! RDATA from a text in hickory-proto's form.
 
 ghost use Rattle.std.specs.Prelude.{◌≡◌, ◌≢◌, ◌<◌, ◌≤◌, ◌⊎◌, length as size};
 ghost use Rattle.std.specs.Str.{IsUtf8};
@@ -15,7 +15,7 @@ use crate::values::{origin_of, read_text};
 use dns_rdata::{DecodeError, RData, RecordType};
 use std::alloc::Global;
 
-// Whether octets are data of the type of this number.
+// Whether octets are RDATA of the type of this number.
 fn reads_again(alloc: Global, octets: &[u8], type_number: u16) -> u32
     requires { size octets.now < 65536 }
     ensures ok { result ≡ OK → HasData octets.now 0 (size octets.now) (record_type_of type_number) (λ _. Unit {0}) }
@@ -30,8 +30,8 @@ fn reads_again(alloc: Global, octets: &[u8], type_number: u16) -> u32
     }
 }
 
-// Puts the octets of a value into a buffer, its names whole, where they are data of the type of this number, and tells
-// their number.
+// Writes the uncompressed octets of a value to a buffer if they are RDATA of the type of this number, and sets the number of
+// octets.
 fn put_data(
     alloc: Global,
     value: &RData,
@@ -59,10 +59,10 @@ fn put_data(
     put_octets(octets.as_slice(), out, count)
 }
 
-/// Reads record data from a text as hickory-proto reads it, and puts its octets into a buffer, names whole and with their
-/// letters. Words, quotes, parentheses and comments are those of a zone file (RFC 1035, 5.1); the form `\#` of RFC 3597 is
-/// not read. A relative name is completed by the origin, of which the octets are given; of none, it stands as if it were
-/// fully qualified.
+/// Reads RDATA from a text as hickory-proto does, and writes its octets to a buffer, names uncompressed and case preserved.
+/// Tokens, quotes, parentheses and comments are those of a zone file (RFC 1035, section 5.1); the form `\#` of RFC 3597 is not
+/// read. A relative name is completed by the origin, whose octets are given. With no octets of an origin it is taken as fully
+/// qualified.
 #[unsafe(no_mangle)]
 pub extern "C" fn dns_rdata_parse_display_text(
     alloc: Global,

@@ -7,8 +7,8 @@ ghost use Rattle.dns_rdata.specs.Data.{Fills, NoValue};
 ghost use Rattle.dns_rdata_c.specs.Parts.{AreNoParts, HasNoFront, HasPart, IsBefore, LacksPart, parts_in};
 
 use crate::parts::dns_rdata_part;
-use crate::pieces::piece_at;
 use crate::status::{ABSENT, LENGTH, MISSING_OCTETS, NAME, OK, REFUSED};
+use crate::tlvs::tlv_at;
 
 /// Where the next part of RDATA is in its message. The caller holds it; any numbers in it are safe.
 #[repr(C)]
@@ -25,19 +25,19 @@ pub struct PartsCursor {
 #[unsafe(no_mangle)]
 pub extern "C" fn dns_rdata_parts_begin(
     message: &[u8],
-    place: usize,
+    offset: usize,
     length: u16,
     type_number: u16,
     parts: &mut PartsCursor,
 ) -> u32
-    ensures ok { result ≡ OK → IsBefore message.now place length (record_type_of type_number) 0 parts.new }
-    ensures absent { result ≡ ABSENT → LacksPart message.now place length (record_type_of type_number) 0 }
-    ensures short { result ≡ MISSING_OCTETS → size message.now < place + length }
-    ensures name { result ≡ NAME → HasNoFront (record_type_of type_number) (take length (drop place message.now)) }
-    ensures damaged { result ≡ LENGTH → AreNoParts (record_type_of type_number) (take length (drop place message.now)) }
+    ensures ok { result ≡ OK → IsBefore message.now offset length (record_type_of type_number) 0 parts.new }
+    ensures absent { result ≡ ABSENT → LacksPart message.now offset length (record_type_of type_number) 0 }
+    ensures short { result ≡ MISSING_OCTETS → size message.now < offset + length }
+    ensures name { result ≡ NAME → HasNoFront (record_type_of type_number) (take length (drop offset message.now)) }
+    ensures damaged { result ≡ LENGTH → AreNoParts (record_type_of type_number) (take length (drop offset message.now)) }
     ensures status { (result ≡ OK) ⊎ (result ≡ ABSENT) ⊎ (result ≡ MISSING_OCTETS) ⊎ (result ≡ NAME) ⊎ (result ≡ LENGTH) }
-    ensures none { result ≡ ABSENT → (v : _) → Fills message.now place length (record_type_of type_number) v → parts_in v ≤ 0 }
-    ensures refused { REFUSED ≤ result → NoValue message.now place length (record_type_of type_number) }
+    ensures none { result ≡ ABSENT → (v : _) → Fills message.now offset length (record_type_of type_number) v → parts_in v ≤ 0 }
+    ensures refused { REFUSED ≤ result → NoValue message.now offset length (record_type_of type_number) }
     ensures emptied { result ≢ OK → (parts.new.next ≡ 0) × (parts.new.end ≡ 0) }
 {
     *parts = PartsCursor { next: 0, end: 0 };
@@ -46,7 +46,7 @@ pub extern "C" fn dns_rdata_parts_begin(
     let mut count = 0;
     let status = dns_rdata_part(
         message,
-        place,
+        offset,
         length,
         type_number,
         0,
@@ -56,7 +56,7 @@ pub extern "C" fn dns_rdata_parts_begin(
     );
     if status == OK {
         parts.next = begin - 4;
-        parts.end = place + length as usize;
+        parts.end = offset + length as usize;
     }
     status
 }
@@ -82,7 +82,7 @@ pub extern "C" fn dns_rdata_parts_next(
     ensures unmoved { result ≡ ABSENT → parts.new ≡ parts.old }
     ensures untold { result ≡ ABSENT → (number.new ≡ number.old) × (begin.new ≡ begin.old) × (count.new ≡ count.old) }
 {
-    let Some(part) = piece_at(message, parts.next, parts.end) else {
+    let Some(part) = tlv_at(message, parts.next, parts.end) else {
         return ABSENT;
     };
     *number = part.number;

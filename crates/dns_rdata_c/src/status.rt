@@ -1,4 +1,4 @@
-//! The numbers that calls answer. `c/include/dns_rdata.h` has the same names behind `DNS_RDATA_`.
+//! The numbers that calls return. `c/include/dns_rdata.h` has the same names with the prefix `DNS_RDATA_`.
 
 ghost use Rattle.std.specs.Prelude.{◌≡◌};
 ghost use Rattle.dns_rdata_c.specs.Status.{decode_status, parse_status};
@@ -80,22 +80,22 @@ pub const UTF8: u32 = 28;
 /// From this number on, a text is of no data of the type.
 pub const NO_DATA_TEXT: u32 = 48;
 
-/// A word is missing.
+/// A token is missing.
 pub const MISSING_WORD: u32 = 48;
 
-/// A word, or the whole text, is wrong.
+/// A token, or the text as a whole, is wrong.
 pub const WRONG_WORD: u32 = 49;
 
 /// No text is read of this type.
 pub const UNSUPPORTED_TYPE: u32 = 50;
 
-/// A word is no address.
+/// A token is no address.
 pub const WRONG_ADDRESS: u32 = 51;
 
 /// A name or a value in the text is wrong.
 pub const WRONG_VALUE: u32 = 52;
 
-/// The number of a refusal to read octets.
+/// The number of an error of reading octets.
 pub fn status_of(error: DecodeError) -> u32
     ensures { result ≡ decode_status error }
 {
@@ -117,7 +117,7 @@ pub fn status_of(error: DecodeError) -> u32
     }
 }
 
-/// The number of a refusal to read a text.
+/// The number of an error of reading a text.
 pub fn status_of_text(error: ParseError) -> u32
     ensures { result ≡ parse_status error }
 {

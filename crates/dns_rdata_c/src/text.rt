@@ -1,4 +1,4 @@
-//! The text of record data in a zone file.
+//! Zone text of RDATA.
 
 ghost use Rattle.std.specs.Prelude.{◌≡◌, ◌≢◌, ◌<◌, ◌≤◌, ◌⊎◌, length as size, IfOk, string_bytes};
 ghost use Rattle.dns_types.specs.RecordTypes.{record_type_of};
@@ -59,26 +59,26 @@ fn put_zone_text(alloc: Global, value: &RData, out: &mut [u8], count: &mut usize
 pub extern "C" fn dns_rdata_text(
     alloc: Global,
     message: &[u8],
-    place: usize,
+    offset: usize,
     length: u16,
     type_number: u16,
     out: &mut [u8],
     count: &mut usize,
 ) -> u32
-    ensures ok { result ≡ OK → HasData message.now place length (record_type_of type_number) (λ v. (size (whole_data v) ≤ 65535) × IsTextPut (zone_text v) out.old out.new count.new) }
-    ensures buffer { result ≡ BUFFER → HasData message.now place length (record_type_of type_number) (λ v. (size (whole_data v) ≤ 65535) × IsTextTooLong (zone_text v) out.old out.new count.new) }
-    ensures too_long { result ≡ TOO_LONG → HasData message.now place length (record_type_of type_number) (λ v. 65535 < size (whole_data v)) }
-    ensures refused { REFUSED ≤ result → NoValue message.now place length (record_type_of type_number) }
-    ensures cause { REFUSED ≤ result → IsRejected message.now place length (record_type_of type_number) result }
+    ensures ok { result ≡ OK → HasData message.now offset length (record_type_of type_number) (λ v. (size (whole_data v) ≤ 65535) × IsTextPut (zone_text v) out.old out.new count.new) }
+    ensures buffer { result ≡ BUFFER → HasData message.now offset length (record_type_of type_number) (λ v. (size (whole_data v) ≤ 65535) × IsTextTooLong (zone_text v) out.old out.new count.new) }
+    ensures too_long { result ≡ TOO_LONG → HasData message.now offset length (record_type_of type_number) (λ v. 65535 < size (whole_data v)) }
+    ensures refused { REFUSED ≤ result → NoValue message.now offset length (record_type_of type_number) }
+    ensures cause { REFUSED ≤ result → IsRejected message.now offset length (record_type_of type_number) result }
     ensures status { (result ≡ OK) ⊎ (result ≡ MEMORY) ⊎ (result ≡ BUFFER) ⊎ (result ≡ TOO_LONG) ⊎ (REFUSED ≤ result) }
     ensures kept { result ≢ OK → out.new ≡ out.old }
     ensures untold { result ≢ OK → result ≢ BUFFER → count.new ≡ count.old }
 {
-    let value = match read_at(alloc, message, place, length, type_number) {
+    let value = match read_at(alloc, message, offset, length, type_number) {
         Ok(value) => value,
         Err(status) => return status,
     };
-    let fits = fits_record(alloc, octets_at(message, place, length), &value);
+    let fits = fits_record(alloc, octets_at(message, offset, length), &value);
     if fits != OK {
         return fits;
     }

@@ -10,8 +10,8 @@ use crate::status::{BUFFER, MEMORY, NO_TYPE, NOT_UTF8, OK};
 use dns_rdata::RecordType;
 use std::alloc::Global;
 
-/// Puts the name of the type of this number into a buffer, with a 0 behind it, and tells its length: the name in capitals,
-/// or `TYPE` and the number (RFC 3597, 5).
+/// Writes the name of the type of this number to a buffer, with a 0 after it, and sets its length: the name in capitals, or
+/// `TYPE` and the number (RFC 3597, section 5).
 #[unsafe(no_mangle)]
 pub extern "C" fn dns_rdata_type_text(
     alloc: Global,
@@ -31,7 +31,7 @@ pub extern "C" fn dns_rdata_type_text(
     }
 }
 
-/// Tells the number of the type of this name: its name in capitals, or `TYPE` and its number. Takes no memory.
+/// Tells the number of the type of this name: its name in capitals, or `TYPE` and its number. Allocates nothing.
 #[unsafe(no_mangle)]
 pub extern "C" fn dns_rdata_type_number(text: &[u8], type_number: &mut u16) -> u32
     ensures ok { result ≡ OK → (t : _) × IsTypeText text.now t × (type_number.new ≡ number_of t) }

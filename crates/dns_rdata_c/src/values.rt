@@ -2,7 +2,7 @@
 
 ghost use Rattle.std.specs.Prelude.{◌≡◌, ◌≤◌, ◌⊎◌, IfOk, IfErr};
 ghost use Rattle.std.specs.Option.{option_copied};
-ghost use Rattle.dns_rdata.specs.{Data.IsEmittable, DataWords.IsDataTextAt};
+ghost use Rattle.dns_rdata.specs.{Data.IsEmittable, DataTokens.IsDataTextAt};
 ghost use Rattle.dns_rdata_zone.specs.ZoneGives.{GivesValue};
 ghost use Rattle.dns_rdata_c.specs.Calls.{IsOrigin, IsNoOrigin, IsNoText, IsNoZoneText};
 
@@ -33,7 +33,7 @@ pub fn origin_of(alloc: Global, octets: &[u8]) -> Result<Option<Name>, u32>
     }
 }
 
-/// The value of a text in a zone file, relative names in it completed by the origin, or the status of a refusal.
+/// The value of a text in a zone file, relative names in it completed by the origin, or the status of the error.
 pub fn read_zone_text(
     alloc: Global,
     record_type: RecordType,
@@ -50,7 +50,7 @@ pub fn read_zone_text(
     }
 }
 
-/// The value of a text, relative names in it completed by the origin, or the status of a refusal.
+/// The value of a text, relative names in it completed by the origin, or the status of the error.
 pub fn read_text(
     alloc: Global,
     record_type: RecordType,

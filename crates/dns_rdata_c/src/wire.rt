@@ -1,4 +1,4 @@
-//! Record data as it stands in a message, without pointers.
+//! Uncompressed RDATA.
 
 ghost use Rattle.std.specs.Prelude.{◌≡◌, ◌≢◌, ◌<◌, ◌≤◌, ◌⊎◌, length as size};
 ghost use Rattle.dns_types.specs.RecordTypes.{record_type_of};
@@ -8,12 +8,12 @@ ghost use Rattle.dns_rdata_c.specs.{Reading.HasData, Reading.IsRejected, Calls.P
 use crate::emitting::whole_octets;
 use crate::putting::put_octets;
 use crate::reading::{octets_at, read_at};
-use crate::standing::put_standing;
 use crate::status::{BUFFER, MEMORY, OK, REFUSED, TOO_LONG, UNFIT};
+use crate::uncompressed::put_uncompressed;
 use dns_rdata::RData;
 use std::alloc::Global;
 
-/// Puts the octets of a value into a buffer, its names whole, and tells their number.
+/// Writes the uncompressed octets of a value to a buffer, and sets the count of octets.
 pub fn put_wire(alloc: Global, value: &RData, out: &mut [u8], count: &mut usize) -> u32
     ensures ok { result ≡ OK → PutsWire value.now out.old out.new count.new }
     ensures buffer { result ≡ BUFFER → LacksRoomForWire value.now out.old out.new count.new }
@@ -30,7 +30,7 @@ pub fn put_wire(alloc: Global, value: &RData, out: &mut [u8], count: &mut usize)
 }
 
 /// Puts the uncompressed octets of a value that was read into a buffer: those from which it was read, if they serve
-/// (`put_standing`), and otherwise those that `emit_whole` appends.
+/// (`put_uncompressed`), and otherwise those that `emit_whole` appends.
 pub fn put_read(
     alloc: Global,
     octets: &[u8],
@@ -48,7 +48,7 @@ pub fn put_read(
     ensures kept { result ≢ OK → out.new ≡ out.old }
     ensures untold { result ≢ OK → result ≢ BUFFER → count.new ≡ count.old }
 {
-    match put_standing(octets, value, out, count) {
+    match put_uncompressed(octets, value, out, count) {
         Some(status) => status,
         None => put_wire(alloc, value, out, count),
     }
@@ -60,25 +60,25 @@ pub fn put_read(
 pub extern "C" fn dns_rdata_wire(
     alloc: Global,
     message: &[u8],
-    place: usize,
+    offset: usize,
     length: u16,
     type_number: u16,
     out: &mut [u8],
     count: &mut usize,
 ) -> u32
-    ensures ok { result ≡ OK → HasData message.now place length (record_type_of type_number) (λ v. PutsWire v out.old out.new count.new) }
-    ensures buffer { result ≡ BUFFER → HasData message.now place length (record_type_of type_number) (λ v. LacksRoomForWire v out.old out.new count.new) }
-    ensures too_long { result ≡ TOO_LONG → HasData message.now place length (record_type_of type_number) (λ v. 65535 < size (whole_data v)) }
-    ensures refused { REFUSED ≤ result → NoValue message.now place length (record_type_of type_number) }
-    ensures cause { REFUSED ≤ result → IsRejected message.now place length (record_type_of type_number) result }
+    ensures ok { result ≡ OK → HasData message.now offset length (record_type_of type_number) (λ v. PutsWire v out.old out.new count.new) }
+    ensures buffer { result ≡ BUFFER → HasData message.now offset length (record_type_of type_number) (λ v. LacksRoomForWire v out.old out.new count.new) }
+    ensures too_long { result ≡ TOO_LONG → HasData message.now offset length (record_type_of type_number) (λ v. 65535 < size (whole_data v)) }
+    ensures refused { REFUSED ≤ result → NoValue message.now offset length (record_type_of type_number) }
+    ensures cause { REFUSED ≤ result → IsRejected message.now offset length (record_type_of type_number) result }
     ensures status { (result ≡ OK) ⊎ (result ≡ MEMORY) ⊎ (result ≡ BUFFER) ⊎ (result ≡ TOO_LONG) ⊎ (REFUSED ≤ result) }
     ensures kept { result ≢ OK → out.new ≡ out.old }
     ensures untold { result ≢ OK → result ≢ BUFFER → count.new ≡ count.old }
 {
-    match read_at(alloc, message, place, length, type_number) {
+    match read_at(alloc, message, offset, length, type_number) {
         Err(status) => status,
         Ok(value) => {
-            let octets = octets_at(message, place, length);
+            let octets = octets_at(message, offset, length);
             put_read(alloc, octets, &value, out, count)
         }
     }

@@ -1,4 +1,4 @@
 pub mod Fronts
 pub mod Numbers
 pub mod Values
-pub mod WordsBack
+pub mod TokensBack

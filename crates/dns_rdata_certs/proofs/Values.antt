@@ -3,7 +3,7 @@
 use Rattle.std.proofs.Common.{◌≡◌, ◌↔◌, ℕ, List, length, Result, Ok, Err, refl, sym, ap}
 use Rattle.std.specs.Result.{IfOk}
 use Rattle.dns_types.specs.declared.error.DecodeError.{DecodeError}
-use Rattle.dns_names_wire.specs.{State.Reading, Words.ReadsWindow}
+use Rattle.dns_names_wire.specs.{State.Reading, Terms.ReadsRegion}
 use Rattle.dns_fields.specs.Fields.{Values, Same}
 use Rattle.dns_rdata_certs.specs.Enums.{cert_type_number, cert_type_variant, cert_type_of, cert_usage_number, cert_usage_variant, cert_usage_of}
 use Rattle.dns_rdata_certs.specs.Enums.{selector_number, selector_variant, selector_of, matching_number, matching_variant, matching_of}
@@ -107,7 +107,7 @@ cert_keys-same a b x y =
 
 -- a certificate that is read from octets of its own
 pub whole_cert : (octets : List ℕ) (new : Reading) (r : Result CERT DecodeError)
-    → ReadsWindow cert_shape MeetsCertCondition cert_fields (length octets) r (record { message = octets; index = 0 }) new
-    → IfOk r (λ x. cert_facts.made (length octets) x (record { message = octets; index = 0 }) new) → ReadsWholeCert octets r
+    → ReadsRegion cert_shape MeetsCertCondition cert_fields (length octets) r (record { message = octets; index = 0 }) new
+    → IfOk r (λ x. cert_facts.after_read (length octets) x (record { message = octets; index = 0 }) new) → ReadsWholeCert octets r
 whole_cert octets new (Ok x) h m = h.here m.1
 whole_cert octets new (Err e) h m = h.none

@@ -4,7 +4,7 @@ use Rattle.base64.specs.{Engines.standard, GeneralPurpose.encode_of}
 use Rattle.dns_types.specs.declared.error.DecodeError.{DecodeError}
 use Rattle.dns_types.specs.declared.error.DecodeError.TheVariants as decode
 use Rattle.dns_fields.specs.Fields.{Kind, Number, Rest, Values}
-use Rattle.dns_names_wire.specs.{State.Reading, Words.LacksOctets, Words.UnlessMemory, Words.Window, Words.NoWindow, Facts.Facts, Facts.filling}
+use Rattle.dns_names_wire.specs.{State.Reading, Terms.LacksOctets, Terms.UnlessMemory, Terms.Region, Terms.NoRegion, Facts.Facts, Facts.filling}
 use Rattle.dns_rdata_base.specs.{Numbered.keyed, Ordered.by_keys}
 use Rattle.dns_rdata_certs.specs.Enums.{cert_type_number, cert_type_variant, cert_type_of, cert_type_text, cert_algorithm_number}
 use Rattle.dns_rdata_certs.specs.Enums.{cert_algorithm_variant, cert_algorithm_of, cert_algorithm_text}
@@ -40,10 +40,11 @@ cert_data_text x = encode_of standard x.cert_data
 
 -- the fields, a blank between
 abbrev pub cert_text : CERT → List ℕ
-cert_text x = cert_type_text x.cert_type ++ codes " " ++ decimal x.key_tag ++ codes " " ++ cert_algorithm_text x.algorithm ++ codes " "
+cert_text x = cert_type_text x.cert_type ++ codes " " ++ decimal x.key_tag ++ codes " "
+    ++ cert_algorithm_text x.algorithm ++ codes " "
     ++ cert_data_text x
 
--- ---- refusals
+-- ---- errors
 
 -- a length without room for a certificate: nothing is taken
 pub record ShortCert (n : ℕ) (old : Reading) (e : DecodeError) (new : Reading) : Type 0 where
@@ -52,14 +53,14 @@ pub record ShortCert (n : ℕ) (old : Reading) (e : DecodeError) (new : Reading)
   pub unchanged : new ≡ old
 
 -- the five octets before the certificate are not all there, and the fields that are there are taken
-pub record CutCertFields (n : ℕ) (old : Reading) (e : DecodeError) (new : Reading) : Type 0 where
+pub record TruncatedCertFields (n : ℕ) (old : Reading) (e : DecodeError) (new : Reading) : Type 0 where
   pub error : e ≡ decode.InsufficientBytes
   pub long : 5 < n
   pub lacks : LacksOctets old 5
   pub index : new.index ≡ old.index + (length old.message - old.index) / 2 * 2
 
 -- the fields before the certificate are taken, and it lacks octets
-pub record CutCert (n : ℕ) (old : Reading) (e : DecodeError) (new : Reading) : Type 0 where
+pub record TruncatedCert (n : ℕ) (old : Reading) (e : DecodeError) (new : Reading) : Type 0 where
   pub error : e ≡ decode.InsufficientBytes
   pub long : 5 < n
   pub lacks : LacksOctets old n
@@ -71,20 +72,21 @@ pub record NoCertMemory (n : ℕ) (old : Reading) (e : DecodeError) (new : Readi
   pub long : 5 < n
   pub index : new.index ≡ old.index + 5
 
-abbrev pub IsCertRefusal : ℕ → Reading → DecodeError → Reading → Type 0
-IsCertRefusal n old e new = ShortCert n old e new ⊎ (CutCertFields n old e new ⊎ (CutCert n old e new ⊎ NoCertMemory n old e new))
+abbrev pub IsCertError : ℕ → Reading → DecodeError → Reading → Type 0
+IsCertError n old e new = ShortCert n old e new
+    ⊎ (TruncatedCertFields n old e new ⊎ (TruncatedCert n old e new ⊎ NoCertMemory n old e new))
 
--- the octets are a whole certificate record, and are refused where they are none
+-- the octets are a whole certificate record, and are rejected if they are none
 abbrev pub ReadsWholeCert : List ℕ → Result CERT DecodeError → Type 0
-ReadsWholeCert octets (Ok x) = Window octets 0 (length octets) cert_shape MeetsCertCondition (cert_fields x)
-ReadsWholeCert octets (Err e) = UnlessMemory e (NoWindow octets 0 (length octets) cert_shape MeetsCertCondition)
+ReadsWholeCert octets (Ok x) = Region octets 0 (length octets) cert_shape MeetsCertCondition (cert_fields x)
+ReadsWholeCert octets (Err e) = UnlessMemory e (NoRegion octets 0 (length octets) cert_shape MeetsCertCondition)
 
 -- of n octets: too few, or more than a record has
-abbrev pub IsWholeCertRefusal : ℕ → DecodeError → Type 0
-IsWholeCertRefusal n e =
+abbrev pub IsWholeCertError : ℕ → DecodeError → Type 0
+IsWholeCertError n e =
     ((n ≤ 5) × (e ≡ decode.IncorrectRDataLengthRead n 6))
     ⊎ (((65535 < n) × (e ≡ decode.IncorrectRDataLengthRead n 65535))
     ⊎ ((5 < n) × (n ≤ 65535) × (e ≡ decode.Memory)))
 
 abbrev pub cert_facts : Facts CERT
-cert_facts = by_keys cert_key_shape cert_keys (filling cert_shape MeetsCertCondition cert_fields IsCertRefusal IsReadCert)
+cert_facts = by_keys cert_key_shape cert_keys (filling cert_shape MeetsCertCondition cert_fields IsCertError IsReadCert)

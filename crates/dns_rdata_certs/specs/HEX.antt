@@ -20,12 +20,12 @@ octets_of_hex text = decode_of (without_blanks text)
 pub record IsNoHex (text : List ℕ) : Type 0 where
   pub none : (octets : List ℕ) → octets_of_hex text ≡ Ok octets → ⊥
 
-abbrev pub RefusesHex : List ℕ → ParseError → Type 0
-RefusesHex text parse.Memory = Unit {0}
-RefusesHex text (parse.Message m) = IsNoHex text
-RefusesHex text e = ⊥
+abbrev pub IsHexError : List ℕ → ParseError → Type 0
+IsHexError text parse.Memory = Unit {0}
+IsHexError text (parse.Message m) = IsNoHex text
+IsHexError text e = ⊥
 
--- the octets of the text, and a refusal exactly where it has none
+-- the octets of the text, and an error exactly if it has none
 abbrev pub DecodesHex : List ℕ → Result (Vec ℕ Global) ParseError → Type 0
 DecodesHex text (Ok octets) = octets_of_hex text ≡ Ok octets.items
-DecodesHex text (Err e) = RefusesHex text e
+DecodesHex text (Err e) = IsHexError text e

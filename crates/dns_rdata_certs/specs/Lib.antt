@@ -5,4 +5,4 @@ pub mod Rests
 pub mod SMIMEA
 pub mod SSHFP
 pub mod TLSA
-pub mod WordRows
+pub mod TokenRows

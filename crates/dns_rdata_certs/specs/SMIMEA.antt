@@ -4,7 +4,7 @@ use Rattle.dns_types.specs.declared.error.DecodeError.{DecodeError}
 use Rattle.dns_fields.specs.Fields.{Kind, Values}
 use Rattle.dns_names_wire.specs.{State.Reading, Facts.Facts, Facts.filling}
 use Rattle.dns_rdata_base.specs.{Ordered.by_keys}
-use Rattle.dns_rdata_certs.specs.TLSA.{tlsa_shape, tlsa_fields, tlsa_key_shape, tlsa_keys, IsReadTlsa, tlsa_text, IsTlsaRefusal}
+use Rattle.dns_rdata_certs.specs.TLSA.{tlsa_shape, tlsa_fields, tlsa_key_shape, tlsa_keys, IsReadTlsa, tlsa_text, IsTlsaError}
 use Rattle.dns_rdata_certs.specs.declared.smimea.SMIMEA.{SMIMEA}
 
 abbrev pub smimea_shape : List Kind
@@ -25,8 +25,9 @@ IsReadSmimea x = IsReadTlsa x.0
 abbrev pub smimea_text : SMIMEA → List ℕ
 smimea_text x = tlsa_text x.0
 
-abbrev pub IsSmimeaRefusal : ℕ → Reading → DecodeError → Reading → Type 0
-IsSmimeaRefusal n old e new = IsTlsaRefusal n old e new
+abbrev pub IsSmimeaError : ℕ → Reading → DecodeError → Reading → Type 0
+IsSmimeaError n old e new = IsTlsaError n old e new
 
 abbrev pub smimea_facts : Facts SMIMEA
-smimea_facts = by_keys smimea_key_shape smimea_keys (filling smimea_shape (λ _. Unit {0}) smimea_fields IsSmimeaRefusal IsReadSmimea)
+smimea_facts =
+    by_keys smimea_key_shape smimea_keys (filling smimea_shape (λ _. Unit {0}) smimea_fields IsSmimeaError IsReadSmimea)

@@ -5,7 +5,7 @@ use Rattle.dns_types.specs.declared.error.DecodeError.{DecodeError}
 use Rattle.dns_fields.specs.Fields.{Kind, Number, Rest, Values}
 use Rattle.dns_names_wire.specs.{State.Reading, Facts.Facts, Facts.filling}
 use Rattle.dns_rdata_base.specs.{Numbered.keyed, Ordered.by_keys}
-use Rattle.dns_rdata_certs.specs.{Rests.IsRestRefusal, declared.sshfp.SSHFP.SSHFP}
+use Rattle.dns_rdata_certs.specs.{Rests.IsRestError, declared.sshfp.SSHFP.SSHFP}
 use Rattle.dns_rdata_certs.specs.Enums.{sshfp_algorithm_number, sshfp_algorithm_variant, sshfp_algorithm_of, fingerprint_type_number}
 use Rattle.dns_rdata_certs.specs.Enums.{fingerprint_type_variant, fingerprint_type_of}
 
@@ -31,12 +31,14 @@ pub record IsReadSshfp (x : SSHFP) : Type 0 where
 
 -- the two numbers and the fingerprint in hexadecimal, a blank between
 abbrev pub sshfp_text : SSHFP → List ℕ
-sshfp_text x = decimal (sshfp_algorithm_number x.algorithm) ++ codes " " ++ decimal (fingerprint_type_number x.fingerprint_type) ++ codes " "
+sshfp_text x = decimal (sshfp_algorithm_number x.algorithm) ++ codes " "
+    ++ decimal (fingerprint_type_number x.fingerprint_type) ++ codes " "
     ++ encode_lower x.fingerprint
 
 -- two octets of fixed fields
-abbrev pub IsSshfpRefusal : ℕ → Reading → DecodeError → Reading → Type 0
-IsSshfpRefusal n old e new = IsRestRefusal 2 n old e new
+abbrev pub IsSshfpError : ℕ → Reading → DecodeError → Reading → Type 0
+IsSshfpError n old e new = IsRestError 2 n old e new
 
 abbrev pub sshfp_facts : Facts SSHFP
-sshfp_facts = by_keys sshfp_key_shape sshfp_keys (filling sshfp_shape (λ _. Unit {0}) sshfp_fields IsSshfpRefusal IsReadSshfp)
+sshfp_facts =
+    by_keys sshfp_key_shape sshfp_keys (filling sshfp_shape (λ _. Unit {0}) sshfp_fields IsSshfpError IsReadSshfp)

@@ -7,14 +7,15 @@ use Rattle.dns_names_wire.specs.{State.Reading, Facts.Facts, Facts.filling}
 use Rattle.dns_rdata_base.specs.{Numbered.keyed, Ordered.by_keys}
 use Rattle.dns_rdata_certs.specs.Enums.{selector_number, selector_variant, selector_of, matching_number, matching_variant, matching_of}
 use Rattle.dns_rdata_certs.specs.Enums.{cert_usage_number, cert_usage_variant, cert_usage_of}
-use Rattle.dns_rdata_certs.specs.{Rests.IsRestRefusal, declared.tlsa.TLSA.TLSA}
+use Rattle.dns_rdata_certs.specs.{Rests.IsRestError, declared.tlsa.TLSA.TLSA}
 
 -- usage, selector, matching type, data
 abbrev pub tlsa_shape : List Kind
 tlsa_shape = Number 1 ∷ Number 1 ∷ Number 1 ∷ Rest ∷ []
 
 abbrev pub tlsa_fields : TLSA → Values tlsa_shape
-tlsa_fields x = (cert_usage_number x.cert_usage, (selector_number x.selector, (matching_number x.matching, (x.cert_data, tt))))
+tlsa_fields x =
+    (cert_usage_number x.cert_usage, (selector_number x.selector, (matching_number x.matching, (x.cert_data, tt))))
 
 -- what is compared: of each enum the number and then the variant
 abbrev pub tlsa_key_shape : List Kind
@@ -36,8 +37,8 @@ tlsa_text x = decimal (cert_usage_number x.cert_usage) ++ codes " " ++ decimal (
     ++ decimal (matching_number x.matching) ++ codes " " ++ encode_lower x.cert_data
 
 -- three octets of fixed fields
-abbrev pub IsTlsaRefusal : ℕ → Reading → DecodeError → Reading → Type 0
-IsTlsaRefusal n old e new = IsRestRefusal 3 n old e new
+abbrev pub IsTlsaError : ℕ → Reading → DecodeError → Reading → Type 0
+IsTlsaError n old e new = IsRestError 3 n old e new
 
 abbrev pub tlsa_facts : Facts TLSA
-tlsa_facts = by_keys tlsa_key_shape tlsa_keys (filling tlsa_shape (λ _. Unit {0}) tlsa_fields IsTlsaRefusal IsReadTlsa)
+tlsa_facts = by_keys tlsa_key_shape tlsa_keys (filling tlsa_shape (λ _. Unit {0}) tlsa_fields IsTlsaError IsReadTlsa)

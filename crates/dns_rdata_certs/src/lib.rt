@@ -1,13 +1,13 @@
-//! The data of DNS records with certificates, keys and fingerprints.
-#![tactic(auto, using(dns_names_wire::proofs::FieldReads::reading, dns_names_wire::proofs::WindowReads::filled_window, dns_words::proofs::Steps::reading, dns_pieces::proofs::Comparing::then_equal, dns_pieces::proofs::Comparing::then_assoc))]
+//! RDATA of certificates, keys and fingerprints.
+#![tactic(auto, using(dns_names_wire::proofs::FieldReads::reading, dns_names_wire::proofs::RegionReads::filled_region, dns_tokens::proofs::Steps::reading, dns_canonical::proofs::Comparing::then_equal, dns_canonical::proofs::Comparing::then_assoc))]
 
-// Matches over an enum with numbers. The enum's list calls the macro with what was given for it, the enum's name, a row
-// for each variant of one number, and one for each variant with its number inside: name, number, place in the
+// Matches over an enum with numbers. The enum's list calls the macro with what was given for it, the enum's name, an
+// entry for each variant of one number, and one for each variant with its number inside: name, number, rank in the
 // declaration.
 
-// The variant of a number; the arms behind the value are for numbers that no variant has alone.
+// The variant of a number; the arms after the value are for numbers that no variant has alone.
 macro_rules! of_number {
-    (($value:expr, $($other:tt)+) $kind:ident $(($name:ident $number:literal $place:literal))+ $([$inside:ident $at:literal])+) => {
+    (($value:expr, $($other:tt)+) $kind:ident $(($name:ident $number:literal $rank:literal))+ $([$inside:ident $at:literal])+) => {
         match $value {
             $($number => $kind::$name,)+
             $($other)+
@@ -17,7 +17,7 @@ macro_rules! of_number {
 
 // The number of a variant.
 macro_rules! number_of {
-    (($value:expr) $kind:ident $(($name:ident $number:literal $place:literal))+ $([$inside:ident $at:literal])+) => {
+    (($value:expr) $kind:ident $(($name:ident $number:literal $rank:literal))+ $([$inside:ident $at:literal])+) => {
         match $value {
             $($kind::$name => $number,)+
             $($kind::$inside(number) => number,)+
@@ -25,11 +25,11 @@ macro_rules! number_of {
     };
 }
 
-// The place of a variant in the declaration.
-macro_rules! place_of {
-    (($value:expr) $kind:ident $(($name:ident $number:literal $place:literal))+ $([$inside:ident $at:literal])+) => {
+// The rank of a variant in the declaration.
+macro_rules! rank_of {
+    (($value:expr) $kind:ident $(($name:ident $number:literal $rank:literal))+ $([$inside:ident $at:literal])+) => {
         match $value {
-            $($kind::$name => $place,)+
+            $($kind::$name => $rank,)+
             $($kind::$inside(_) => $at,)+
         }
     };
@@ -37,7 +37,7 @@ macro_rules! place_of {
 
 // Whether two values are one variant, and have one number inside if any.
 macro_rules! are_same {
-    (($a:expr, $b:expr) $kind:ident $(($name:ident $number:literal $place:literal))+ $([$inside:ident $at:literal])+) => {
+    (($a:expr, $b:expr) $kind:ident $(($name:ident $number:literal $rank:literal))+ $([$inside:ident $at:literal])+) => {
         $a.variant() == $b.variant()
             && match ($a, $b) {
                 $(($kind::$inside(a), $kind::$inside(b)) => a == b,)+
@@ -46,9 +46,9 @@ macro_rules! are_same {
     };
 }
 
-// Writes the name of a variant; the arms behind are for variants with their number inside.
+// Writes the name of a variant; the arms after the formatter are for variants with their number inside.
 macro_rules! write_name {
-    (($value:expr, $f:ident, $($other:tt)+) $kind:ident $(($name:ident $number:literal $place:literal))+ $([$inside:ident $at:literal])+) => {
+    (($value:expr, $f:ident, $($other:tt)+) $kind:ident $(($name:ident $number:literal $rank:literal))+ $([$inside:ident $at:literal])+) => {
         match $value {
             $($kind::$name => $f.write_str(stringify!($name)),)+
             $($other)+
@@ -58,12 +58,9 @@ macro_rules! write_name {
 
 pub mod cert;
 pub mod hexadecimal;
-pub mod order;
 pub mod smimea;
 pub mod sshfp;
-pub mod steps;
 pub mod tlsa;
-mod words;
 
 pub use cert::CERT;
 pub use hexadecimal::HEX;

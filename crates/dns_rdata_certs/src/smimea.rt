@@ -1,14 +1,21 @@
 //! SMIMEA: a certificate of a mail user (RFC 8162, 2).
 
-ghost use Rattle.std.specs.Prelude.{◌≡◌, Some};
-ghost use Rattle.dns_names_wire.specs.{Words.Emits};
-ghost use Rattle.dns_rdata_certs.specs.SMIMEA.{smimea_shape, smimea_fields, smimea_facts, smimea_key_shape, smimea_keys, smimea_text};
+ghost use Rattle.std.specs.{Prelude.◌≡◌, Prelude.IfOk, Prelude.Some, Iterator.IsFinite};
+ghost use Rattle.dns_names_wire.specs.{Terms.Emits};
+ghost use Rattle.dns_rdata_certs.specs.SMIMEA.{smimea_shape, smimea_fields, smimea_facts, smimea_key_shape, smimea_keys, smimea_text, IsReadSmimea};
+ghost use Rattle.dns_rdata_certs.specs.TokenRows.{smimea_tokens};
+ghost use Rattle.dns_tokens.specs.Reads.{ReadsTokenRow};
 
 use crate::tlsa::{CertUsage, Matching, Selector, TLSA};
+use dns_canonical::{AtOnce, Head, Tail};
 use dns_names_wire::{
-    BinDecoder, BinEncodable, BinEncoder, DecodeError, ProtoError, Record, RecordDataDecodable,
-    Restrict,
+    BinDecoder, BinEncodable, BinEncoder, DecodeError, ParseError, ProtoError, Record,
+    RecordDataDecodable, Restrict,
 };
+use dns_rdata_base::OrderedRecord;
+use std::alloc::Global;
+use std::cmp::Ordering;
+use std::convert::AsStr;
 use std::fmt;
 use std::ops::Deref;
 
@@ -32,6 +39,22 @@ impl SMIMEA {
         ensures data { result.0.cert_data ≡ cert_data.items }
     {
         SMIMEA(TLSA::new(cert_usage, selector, matching, cert_data))
+    }
+
+    /// Reads the tokens of TLSA, and fails as that does.
+    pub fn from_tokens<S: AsStr + Drop, I: Iterator<Item = S>>(
+        alloc: Global,
+        tokens: I,
+    ) -> Result<SMIMEA, ParseError>
+        requires can { I.can_next tokens }
+        requires ends { IsFinite (I.remaining tokens) }
+        ensures reads { ReadsTokenRow I.next_gives S.text smimea_tokens smimea_fields result tokens }
+        ensures enums { IfOk result IsReadSmimea }
+    {
+        match TLSA::from_tokens(alloc, tokens) {
+            Ok(certificate) => Ok(SMIMEA(certificate)),
+            Err(e) => Err(e),
+        }
     }
 }
 
@@ -71,6 +94,24 @@ impl Deref for SMIMEA {
     #[inline]
     fn deref(&self) -> &TLSA {
         &self.0
+    }
+}
+
+impl AtOnce for SMIMEA {
+    #[inline]
+    fn at_once<'a>(&'a self, head: &mut Head) -> Tail<'a> {
+        self.0.at_once(head)
+    }
+}
+
+impl OrderedRecord for SMIMEA {
+    #[inline]
+    fn cmp_canonical_fields(&self, other: &SMIMEA) -> Option<Ordering> {
+        self.0.cmp_canonical_fields(&other.0)
+    }
+
+    fn cmp_values(&self, other: &SMIMEA) -> Ordering {
+        self.0.cmp_values(&other.0)
     }
 }
 

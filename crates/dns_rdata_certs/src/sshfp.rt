@@ -1,20 +1,33 @@
 //! SSHFP: the fingerprint of a host's key (RFC 4255, 3.1).
 
-ghost use Rattle.std.specs.Prelude.{◌≡◌, Some};
-ghost use Rattle.dns_names_wire.specs.{Words.Emits};
-ghost use Rattle.dns_rdata_certs.specs.SSHFP.{sshfp_shape, sshfp_fields, sshfp_facts, sshfp_key_shape, sshfp_keys, sshfp_text};
+ghost use Rattle.std.specs.Prelude.{◌≡◌, IfOk, IsTrue, Some, true};
+ghost use Rattle.dns_names_wire.specs.{Terms.Emits};
+ghost use Rattle.dns_rdata_certs.specs.SSHFP.{sshfp_shape, sshfp_fields, sshfp_facts, sshfp_key_shape, sshfp_keys, sshfp_text, IsReadSshfp};
+ghost use Rattle.dns_rdata_certs.specs.{Enums.fingerprint_type_number, Enums.sshfp_algorithm_number, TokenRows.hex_digits, TokenRows.sshfp_tokens};
+ghost use Rattle.dns_tokens.specs.Reads.{ReadsText, ReadsToken, ReadsTokenRow, GoesOn};
 
 mod algorithm;
 mod fingerprint_type;
 
-use crate::hexadecimal::Hexadecimal;
+use crate::hexadecimal::{HEX, Hexadecimal};
 pub use algorithm::Algorithm;
+use dns_canonical::{AtOnce, Head, Tail, one_behind, rest_behind};
 use dns_names_wire::{
-    BinDecoder, BinEncodable, BinEncoder, DecodeError, ProtoError, Record, RecordDataDecodable,
-    Restrict, SmallOctets,
+    BinDecoder, BinEncodable, BinEncoder, DecodeError, ParseError, ProtoError, Record,
+    RecordDataDecodable, Restrict, SmallOctets,
 };
+use dns_rdata_base::rest::rest_order;
+use dns_rdata_base::{OrderedRecord, cmp_each_field};
+use dns_tokens::{Field, next_token, next_u8, no_more, number_field};
 pub use fingerprint_type::FingerprintType;
+use std::alloc::Global;
+use std::cmp::Ordering;
+use std::convert::AsStr;
 use std::fmt;
+
+const SSHFP_ALGORITHM: Field = number_field!("SSHFP algorithm");
+
+const FINGERPRINT_TYPE: Field = number_field!("SSHFP fingerprint type");
 
 /// SSHFP RDATA (RFC 4255, section 3.1): the fingerprint of a host's key.
 ///
@@ -50,6 +63,57 @@ impl SSHFP {
             fingerprint: SmallOctets::from_vec(fingerprint),
         }
     }
+
+    /// Reads three tokens: algorithm and fingerprint type, decimal numbers of 8 bits, and the fingerprint, hexadecimal
+    /// digits in either case ([`HEX`]) in a token that is not empty.
+    ///
+    /// # Errors
+    ///
+    /// - [`MissingToken`](ParseError::MissingToken): a token is missing.
+    /// - [`Message`](ParseError::Message): a token is no such number, empty, or no digits; or there is a further one.
+    /// - [`Memory`](ParseError::Memory): an allocation failed.
+    pub fn from_tokens<S: AsStr + Drop, I: Iterator<Item = S>>(
+        alloc: Global,
+        mut tokens: I,
+    ) -> Result<SSHFP, ParseError>
+        requires can { I.can_next tokens }
+        ensures reads { ReadsTokenRow I.next_gives S.text sshfp_tokens sshfp_fields result tokens }
+        ensures enums { IfOk result IsReadSshfp }
+    {
+        let algorithm = Algorithm::from(next_u8(&mut tokens, SSHFP_ALGORITHM)?);
+        let fingerprint_type = FingerprintType::from(next_u8(&mut tokens, FINGERPRINT_TYPE)?);
+        let fingerprint = next_hex(alloc, &mut tokens)?;
+        no_more(&mut tokens, "a token after the SSHFP fingerprint")?;
+        Ok(SSHFP {
+            algorithm,
+            fingerprint_type,
+            fingerprint,
+        })
+    }
+}
+
+// The octets of hexadecimal digits. An empty token is rejected.
+fn hex_of(alloc: Global, token: &str) -> Result<SmallOctets<64>, ParseError>
+    ensures { ReadsText hex_digits (λ x. x) result token.now }
+{
+    if token.len() == 0 {
+        return Err(ParseError::Message("no hexadecimal digits in SSHFP fingerprint token"));
+    }
+    let octets = HEX.decode(alloc, token.as_bytes())?;
+    Ok(SmallOctets::from_vec(octets))
+}
+
+// The octets of the next token, hexadecimal digits.
+fn next_hex<S: AsStr + Drop, I: Iterator<Item = S>>(
+    alloc: Global,
+    tokens: &mut I,
+) -> Result<SmallOctets<64>, ParseError>
+    requires can { I.can_next tokens.old }
+    ensures reads { ReadsToken I.next_gives S.text hex_digits (λ x. x) result tokens.old tokens.new }
+    ensures goes { GoesOn I.can_next I.remaining result tokens.old tokens.new }
+{
+    let token = next_token(tokens, "SSHFP fingerprint")?;
+    hex_of(alloc, token.as_str())
 }
 
 impl Record for SSHFP {
@@ -95,6 +159,46 @@ impl BinEncodable for SSHFP {
         let algorithm = u8::from(self.algorithm);
         let kind = u8::from(self.fingerprint_type);
         encoder.emit_both(&[algorithm, kind], self.fingerprint.as_slice())
+    }
+}
+
+impl AtOnce for SSHFP {
+    #[inline]
+    fn at_once<'a>(&'a self, head: &mut Head) -> Tail<'a> {
+        head.one(u8::from(self.algorithm));
+        head.one(u8::from(self.fingerprint_type));
+        Tail::rest(self.fingerprint.as_slice())
+    }
+}
+
+// Whether two SSHFP have equal fields before the fingerprint.
+#[inline]
+fn is_sshfp_front_same(a: &SSHFP, b: &SSHFP) -> bool
+    ensures numbers { IsTrue result → (sshfp_algorithm_number a.now.algorithm ≡ sshfp_algorithm_number b.now.algorithm) × (fingerprint_type_number a.now.fingerprint_type ≡ fingerprint_type_number b.now.fingerprint_type) }
+    ensures equal { IsTrue result → a.now.fingerprint ≡ b.now.fingerprint → ⟦<SSHFP as PartialEq>⟧.eq a.now b.now ≡ true }
+{
+    a.algorithm == b.algorithm && a.fingerprint_type == b.fingerprint_type
+}
+
+impl OrderedRecord for SSHFP {
+    /// By the octets of the fingerprint if the fields before it are equal.
+    #[inline]
+    #[tactic(auto, using(crate::proofs::Fronts::sshfp_tied, crate::proofs::Fronts::sshfp_differ, dns_rdata_base::proofs::QuickOrders::no_difference))]
+    fn cmp_canonical_fields(&self, other: &SSHFP) -> Option<Ordering> {
+        if is_sshfp_front_same(self, other) {
+            return Some(rest_order(self.fingerprint.as_slice(), other.fingerprint.as_slice()));
+        }
+        let algorithm = u8::from(self.algorithm);
+        let algorithms = one_behind(Ordering::Equal, algorithm, u8::from(other.algorithm));
+        let kind = u8::from(self.fingerprint_type);
+        let kinds = one_behind(algorithms, kind, u8::from(other.fingerprint_type));
+        let (data, other_data) = (self.fingerprint.as_slice(), other.fingerprint.as_slice());
+        let order = rest_behind(kinds, data, other_data);
+        if order.is_ne() { Some(order) } else { None }
+    }
+
+    fn cmp_values(&self, other: &SSHFP) -> Ordering {
+        cmp_each_field!((self, other) algorithm fingerprint_type fingerprint)
     }
 }
 

@@ -1,19 +1,19 @@
-//! Laws of record data that a client's own proofs may cite: functions without a body, whose contracts say what holds of
-//! all values. A program does not call them.
+//! Laws of RDATA that a client's own proofs may cite: functions without a body, whose contracts say what is true of all
+//! values. A program does not call them.
 #![tactic(auto)]
 
-ghost use Rattle.dns_rdata.specs.Laws.{OneValue, EachWindow};
+ghost use Rattle.dns_rdata.specs.Laws.{OneValue, EachRegion};
 
 pub use dns_fields::{comparing_holds, fields_hold};
 pub use dns_labels::laws::{names_hold, texts_hold as name_texts_hold};
+pub use dns_rdata_caa_csync::laws::issuers_hold;
 pub use dns_rdata_options::laws::{options_hold, orders_hold};
-pub use dns_rdata_sets::laws::issuers_hold;
 pub use dns_text::laws::{texts_hold, tokens_hold};
 
 /// Octets as the RDATA of a record type.
-pub fn windows_hold()
+pub fn regions_hold()
     // Octets are the RDATA of at most one value of a type.
     ensures one { OneValue }
-    // They are the RDATA of one wherever the fields of the type fill them.
-    ensures each { EachWindow }
+    // They are the RDATA of one if the fields of the type fill them.
+    ensures each { EachRegion }
 {}

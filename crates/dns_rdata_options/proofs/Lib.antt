@@ -1,5 +1,5 @@
 pub mod ChoiceSteps
-pub mod Differences
+pub mod FirstOctets
 pub mod Masks
 pub mod NetTexts
 pub mod NoOptions
@@ -8,8 +8,8 @@ pub mod OptionOrders
 pub mod OptionValues
 pub mod OptionsOf
 pub mod Pairs
-pub mod PieceOrder
-pub mod Refusals
+pub mod TlvOrder
+pub mod OptionErrors
 pub mod Selection
 pub mod Subnets
 pub mod Values

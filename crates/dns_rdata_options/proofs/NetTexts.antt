@@ -11,7 +11,7 @@ use Rattle.dns_types.specs.declared.error.AddrParseError.{AddrParseError}
 use Rattle.dns_rdata_options.specs.{IpNet.address_bits, NetText.IsNetText, NetText.IsPrefixText}
 use denote.Ref.{Bor}
 
--- the octet c does not stand in s
+-- the octet c is not in s
 abbrev pub Lacks : ℕ → List ℕ → Type 0
 Lacks c s = AllByRecursion (λ x. x ≢ c) s
 
@@ -39,7 +39,7 @@ pub record SplitsLast (c : ℕ) (text front back : List ℕ) : Type 0 where
   pub cut : text ≡ front ++ (c ∷ back)
   pub last : Lacks c back
 
--- what `rsplit_once` answers at an ASCII character
+-- what `rsplit_once` returns at an ASCII character
 pub rsplit_parts : (c : ℕ) (text : List ℕ) (r : Option (Bor (List ℕ) × Bor (List ℕ)))
     → MatchOption r (RFindsChar c text None) (λ x. (i : ℕ) × (j : ℕ) × RFindsChar c text (Some (i, j)) × (x.0.now ≡ take i text) × (x.1.now ≡ drop j text)
     × (i ≤ j) × (length x.0.now ≡ i) × (length x.1.now + j ≡ length text))
@@ -58,8 +58,9 @@ digits_lack digits n p = lacks_each 47 digits (λ i l e. let digit = digit_at di
 pub no_slash : (text : List ℕ) (net : IpAddr × ℕ) → Lacks 47 text → IsNetText text net → ⊥
 no_slash text net lacks is = not_behind 47 text is.address is.digits lacks is.spelled
 
--- a net's prefix stands behind the last `/`, and its address in front of it
-pub net_parts : {text front back : List ℕ} (net : IpAddr × ℕ) → SplitsLast 47 text front back → IsNetText text net → IsIpText front net.0 × IsPrefixText back net.1
+-- a net's prefix follows the last `/`, and its address in front of it
+pub net_parts : {text front back : List ℕ} (net : IpAddr × ℕ) → SplitsLast 47 text front back → IsNetText text net
+    → IsIpText front net.0 × IsPrefixText back net.1
 net_parts {text} {front} {back} net s is =
     let same = last_one 47 is.address is.digits front back (sym is.spelled ∙ s.cut) (digits_lack is.digits net.1 is.prefix) s.last in
     (subst (λ (t : List ℕ). IsIpText t net.0) same.0 is.address_text, subst (λ (t : List ℕ). IsPrefixText t net.1) same.1 is.prefix)
@@ -68,7 +69,7 @@ most_bits : (ip : IpAddr) → address_bits ip < 2 ^ 8
 most_bits (V4 ip) = omega arith
 most_bits (V6 ip) = omega arith
 
--- no prefix stands there
+-- there is no prefix
 pub no_prefix : {text front back : List ℕ} (net : IpAddr × ℕ) → SplitsLast 47 text front back → ((n : ℕ) → n < 2 ^ 8 → ¬ (IsPrefixText back n))
     → IsNetText text net → ⊥
 no_prefix net s none is =
@@ -77,7 +78,8 @@ no_prefix net s none is =
     none net.1 (omega arith) (net_parts net s is).1
 
 -- an address with a prefix is a net where the prefix has no more bits than the address
-pub net_read : {text front back : List ℕ} (ip : IpAddr) (n : ℕ) (o : Option (IpAddr × ℕ)) (e : AddrParseError) → SplitsLast 47 text front back → IsIpText front ip
+pub net_read : {text front back : List ℕ} (ip : IpAddr) (n : ℕ) (o : Option (IpAddr × ℕ)) (e : AddrParseError) → SplitsLast 47 text front back
+    → IsIpText front ip
     → IsPrefixText back n → IfSome o (λ net. (net ≡ (ip, n)) × (n ≤ address_bits ip)) → IfNone o (address_bits ip < n) → Parses IsNetText text (ok_or o e)
 net_read {text} {front} {back} ip n (Some net) e s is prefix some none =
     subst (λ (x : IpAddr × ℕ). IsNetText text x) (sym some.0)

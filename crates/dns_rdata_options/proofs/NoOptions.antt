@@ -3,9 +3,9 @@ use Rattle.std.proofs.Common.{◌≡◌, ◌≢◌, ◌&&◌, ℕ, ◌<◌, ◌=
 use Rattle.std.proofs.{lemmas.List.length-append, lemmas.Bool.Decides.nat_tests}
 use Rattle.std.specs.{List.flat_map, Cmp.Lexicographic.nat_list_cmp_total, Cmp.Lexicographic.slice_cmp, Ordering.nat_cmp, Ordering.ordering_reverse}
 use Rattle.std.specs.{declared.cmp.Ordering.Ordering, declared.cmp.Ordering.TheVariants.Less, declared.cmp.Ordering.TheVariants.Equal, declared.cmp.Ordering.TheVariants.Greater}
-use Rattle.dns_fields.specs.{Fields.canonical, Fields.field_octets, Fields.option_pieces, Pieces.as_piece, Pieces.option_octets, Pieces.piece, Sorting.sorted}
-use Rattle.dns_fields.proofs.{Sorted.octets_cmp, Sorted.length_sorted, Pieces.length-piece}
-use Rattle.dns_pieces.specs.Fronts.{canonical_cmp}
+use Rattle.dns_fields.specs.{Fields.canonical, Fields.field_octets, Fields.option_tlvs, Tlvs.as_tlv, Tlvs.option_octets, Tlvs.tlv, Sorting.sorted}
+use Rattle.dns_fields.proofs.{Sorted.octets_cmp, Sorted.length_sorted, Tlvs.length-tlv}
+use Rattle.dns_canonical.specs.Fronts.{canonical_cmp}
 use Rattle.dns_rdata_base.specs.Ordered.{IsOrder}
 use Rattle.dns_rdata_options.specs.{OPT.Pair, OPT.opt_shape, OPT.opt_fields, OPT.pair_value, Order.opt_eq, Steps.pairs_emittable}
 
@@ -13,14 +13,14 @@ use Rattle.dns_rdata_options.specs.{OPT.Pair, OPT.opt_shape, OPT.opt_fields, OPT
 some_octets : (p : Pair) (ps : List Pair) → 0 < length (canonical opt_shape (opt_fields (p ∷ ps)))
 unfolding field_octets
 some_octets p ps =
-    let x = piece (as_piece option_octets (pair_value p)) in
-    let all = map piece (option_pieces (map pair_value (p ∷ ps))) in
+    let x = tlv (as_tlv option_octets (pair_value p)) in
+    let all = map tlv (option_tlvs (map pair_value (p ∷ ps))) in
     omega (
       arith,
       length-append (flat_map (λ s. s) (sorted octets_cmp all)) [],
       length_sorted octets_cmp all,
-      length-append x (flat_map (λ s. s) (map piece (option_pieces (map pair_value ps)))),
-      length-piece (as_piece option_octets (pair_value p)),
+      length-append x (flat_map (λ s. s) (map tlv (option_tlvs (map pair_value ps)))),
+      length-tlv (as_tlv option_octets (pair_value p)),
     )
 
 before_some : (l : List ℕ) → 0 < length l → Less ≡ slice_cmp nat_cmp [] l
@@ -38,7 +38,8 @@ none_first (p ∷ ps) b n m = absurd (above (length (p ∷ ps)) (omega arith) n)
     above n h e = grind (arith, nat_tests, h, e)
 
 pub some_last : (a b : List Pair) → false ≡ (length a == 0) → true ≡ (length b == 0) → Greater ≡ canonical_cmp opt_shape (opt_fields a) (opt_fields b)
-some_last a b n m = ap ordering_reverse (none_first b a m n) ∙ sym (nat_list_cmp_total.antisymm (canonical opt_shape (opt_fields a)) (canonical opt_shape (opt_fields b)))
+some_last a b n m =
+    ap ordering_reverse (none_first b a m n) ∙ sym (nat_list_cmp_total.antisymm (canonical opt_shape (opt_fields a)) (canonical opt_shape (opt_fields b)))
 
 pub opt_orders : (a b : List Pair) (o : Ordering) → pairs_emittable a ≡ true → pairs_emittable b ≡ true → o ≢ Equal
     → o ≡ canonical_cmp opt_shape (opt_fields a) (opt_fields b) → IsOrder opt_shape (opt_fields a) (opt_fields b) (opt_eq a b) o

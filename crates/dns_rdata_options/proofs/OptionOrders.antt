@@ -5,7 +5,7 @@ use Rattle.std.specs.{declared.cmp.Ordering.Ordering, declared.net.ip_addr.IpAdd
 use Rattle.std.specs.declared.cmp.Ordering.TheVariants.{Less, Equal}
 use Rattle.std.specs.declared.net.ip_addr.IpAddr.TheVariants.{V4, V6}
 use Rattle.std.specs.contracts.net.ip_addr.IpAddrOrd.TheImpl as ordered_addresses
-use Rattle.dns_pieces.proofs.Comparing.{then_assoc}
+use Rattle.dns_canonical.proofs.Comparing.{then_assoc}
 use Rattle.dns_rdata_options.specs.{declared.opt.option.EdnsOption.EdnsOption, declared.opt.subnet.ClientSubnet.ClientSubnet}
 use Rattle.dns_rdata_options.specs.Order.{address_cmp, subnet_cmp, option_cmp}
 use Rattle.dns_rdata_options.specs.declared.opt.option.EdnsOption.TheVariants.{Subnet, NSID, Unknown}

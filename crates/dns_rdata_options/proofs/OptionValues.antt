@@ -6,16 +6,16 @@ use Rattle.std.specs.Int.{bytes_high_first}
 use Rattle.dns_types.specs.declared.error.DecodeError.{DecodeError}
 use Rattle.dns_types.specs.declared.error.DecodeError.TheVariants as decode
 use Rattle.dns_fields.specs.Octets.{AreOctets, At}
-use Rattle.dns_fields.specs.Pieces.{Numbered, piece, OptionValue, Subnet, Plain, option_octets, OptionHeld, IsEmittableOption}
+use Rattle.dns_fields.specs.Tlvs.{Numbered, tlv, OptionValue, Subnet, OpaqueOption, option_octets, OptionHeld, IsEmittableOption}
 use Rattle.dns_fields.proofs.OctetLaws.{AreOctets-at, AreOctets-back, AreOctets-front, AreOctets-same, AreOctets-tail}
 use Rattle.dns_rdata_base.proofs.NumberLaws.{number-numbered_of}
 use Rattle.dns_rdata_options.specs.{OPT.Pair, OPT.option_of, declared.opt.code.EdnsCode.EdnsCode, declared.opt.option.EdnsOption.EdnsOption}
 use Rattle.dns_rdata_options.specs.EdnsCode.{edns_code_number, named_edns_codes, other_edns_code, edns_code_of}
-use Rattle.dns_rdata_options.specs.ClientSubnet.{subnet_value, subnet_of, NoSubnet, ReadsSubnet, IsSubnetRefusal}
-use Rattle.dns_rdata_options.specs.EdnsOption.{option_value, IsOptionOf, IsOptionRefusal}
-use Rattle.dns_rdata_options.specs.OptionReads.{KeptOption, NoOptionValue, NoneLeft, TookPiece}
+use Rattle.dns_rdata_options.specs.ClientSubnet.{subnet_value, subnet_of, NoSubnet, ReadsSubnet, IsSubnetError}
+use Rattle.dns_rdata_options.specs.EdnsOption.{option_value, IsOptionOf, IsOptionError}
+use Rattle.dns_rdata_options.specs.OptionReads.{KeptOption, NoOptionValue, NoneLeft, TookTlv}
 use Rattle.dns_rdata_options.specs.declared.opt.subnet.ClientSubnet.{ClientSubnet}
-use Rattle.dns_names_wire.specs.{State.Reading, Words.StaysBehind, Words.UnlessMemory}
+use Rattle.dns_names_wire.specs.{State.Reading, Terms.StaysBehind, Terms.UnlessMemory}
 use Rattle.dns_names_wire.proofs.FieldReads.{unless_all}
 use Rattle.dns_rdata_options.specs.declared.opt.code.EdnsCode.TheVariants as codes
 use Rattle.dns_rdata_options.specs.declared.opt.option.EdnsOption.TheVariants as edns
@@ -44,7 +44,8 @@ three_else : (n : ℕ) (x y : EdnsOption) → n ≢ 3 → cond (n == 3) x y ≡ 
 three_else n x y h = let no : (n == 3) ≡ false = grind (arith, nat_tests) in rw no refl
 
 -- what a code and octets give holds these octets' value, and is the option that the value gives
-held_code : (code : EdnsCode) (s : List ℕ) (x : EdnsOption) → edns_code_of (edns_code_number code) ≡ code → IsOptionOf code s x → HeldAs (edns_code_number code) s x
+held_code : (code : EdnsCode) (s : List ℕ) (x : EdnsOption) → edns_code_of (edns_code_number code) ≡ code → IsOptionOf code s x
+    → HeldAs (edns_code_number code) s x
 held_code codes.Subnet s (edns.Subnet x) e h = record {
   held = (refl, h.1.fits, drop (length (option_octets (subnet_value x))) s, begun h.1.at);
   given = ap edns.Subnet h.1.read.padded;
@@ -74,9 +75,10 @@ no_subnet_value s are none (Subnet f source scope a) h =
           (at_zero s (option_octets (Subnet f source scope a)) h.2 h.3);
       read = made_read f source scope a h.1 octets;
     })
-no_subnet_value s are none (Plain t) h = h.0 refl
+no_subnet_value s are none (OpaqueOption t) h = h.0 refl
 
-no_value_code : (code : EdnsCode) (s : List ℕ) (e : DecodeError) → length s < 65536 → AreOctets s → IsOptionRefusal code s e → NoOptionValue (edns_code_number code) s
+no_value_code : (code : EdnsCode) (s : List ℕ) (e : DecodeError) → length s < 65536 → AreOctets s → IsOptionError code s e
+    → NoOptionValue (edns_code_number code) s
 no_value_code codes.Subnet s e short are r = record { none = no_subnet_value s are r.0 }
 no_value_code codes.NSID s e short are r = absurd (omega (arith, r.0, short))
 no_value_code code s e short are r = absurd r
@@ -97,7 +99,8 @@ option_kept {old = old} n s code x is h pushed =
       );
     }
 
-pub subnet_tested : {keeps : Bool} {old new : List Pair} (n : ℕ) (s : List ℕ) (x : ClientSubnet) → keeps ≡ false → n ≡ 8 → ReadsSubnet s (Ok x) → KeptOption keeps n s old new
+pub subnet_tested : {keeps : Bool} {old new : List Pair} (n : ℕ) (s : List ℕ) (x : ClientSubnet) → keeps ≡ false → n ≡ 8 → ReadsSubnet s (Ok x)
+    → KeptOption keeps n s old new
 subnet_tested n s x off is h = record {
   value = subnet_value x;
   held = subst (λ (k : ℕ). OptionHeld k s (subnet_value x)) (sym is) (held_code codes.Subnet s (edns.Subnet x) of_8 h).held;
@@ -105,26 +108,26 @@ subnet_tested n s x off is h = record {
 }
 
 pub plain_tested : {keeps : Bool} {old new : List Pair} (n : ℕ) (s : List ℕ) → keeps ≡ false → n ≢ 8 → KeptOption keeps n s old new
-plain_tested n s off h = record { value = Plain s; held = (h, refl); pair = λ t. cc (t, off) }
+plain_tested n s off h = record { value = OpaqueOption s; held = (h, refl); pair = λ t. cc (t, off) }
 
-body_octets : {d new : Reading} {end : ℕ} {x : Numbered (List ℕ)} → AreOctets d.message → TookPiece d end x new → AreOctets x.1
+body_octets : {d new : Reading} {end : ℕ} {x : Numbered (List ℕ)} → AreOctets d.message → TookTlv d end x new → AreOctets x.1
 body_octets {d} {new} {end} {x} are t =
     AreOctets-back (bytes_high_first 2 (length x.1)) x.1
-    (AreOctets-back (bytes_high_first 2 x.0) (bytes_high_first 2 (length x.1) ++ x.1) (AreOctets-at d.message d.index (piece x) new.index are t.at))
+    (AreOctets-back (bytes_high_first 2 x.0) (bytes_high_first 2 (length x.1) ++ x.1) (AreOctets-at d.message d.index (tlv x) new.index are t.at))
 
-piece_behind : {d new : Reading} {end : ℕ} {x : Numbered (List ℕ)} → TookPiece d end x new → StaysBehind d new
-piece_behind t = record { message = t.message; index = omega (arith, t.at.ends) }
+tlv_behind : {d new : Reading} {end : ℕ} {x : Numbered (List ℕ)} → TookTlv d end x new → StaysBehind d new
+tlv_behind t = record { message = t.message; index = omega (arith, t.at.ends) }
 
-pub subnet_refused : (n : ℕ) (s : List ℕ) (e : DecodeError) → n ≡ 8 → NoSubnet s × IsSubnetRefusal s e → IsOptionRefusal (edns_code_of n) s e
-subnet_refused n s e is h = subst (λ (c : EdnsCode). IsOptionRefusal c s e) (sym (ap edns_code_of is ∙ of_8)) h
+pub subnet_refused : (n : ℕ) (s : List ℕ) (e : DecodeError) → n ≡ 8 → NoSubnet s × IsSubnetError s e → IsOptionError (edns_code_of n) s e
+subnet_refused n s e is h = subst (λ (c : EdnsCode). IsOptionError c s e) (sym (ap edns_code_of is ∙ of_8)) h
 
 -- an option without a value, or one for which memory ran out
-pub refused_option : {d new : Reading} (start n : ℕ) (x : Numbered (List ℕ)) (e : DecodeError) → AreOctets d.message → TookPiece d (start + n) x new
-    → (e ≡ decode.Memory) ⊎ IsOptionRefusal (edns_code_of x.0) x.1 e → RefusedHere e d start n new
+pub refused_option : {d new : Reading} (start n : ℕ) (x : Numbered (List ℕ)) (e : DecodeError) → AreOctets d.message → TookTlv d (start + n) x new
+    → (e ≡ decode.Memory) ⊎ IsOptionError (edns_code_of x.0) x.1 e → RefusedHere e d start n new
 refused_option {d} start n x e are t (inl m) =
-    (piece_behind t, subst (λ (z : DecodeError). UnlessMemory z (NoneLeft d.message n d.index (start + n))) (sym m) tt, inl m)
+    (tlv_behind t, subst (λ (z : DecodeError). UnlessMemory z (NoneLeft d.message n d.index (start + n))) (sym m) tt, inl m)
 refused_option start n x e are t (inr r) = (
-  piece_behind t,
+  tlv_behind t,
   unless_all e (no_value t (subst (λ (k : ℕ). NoOptionValue k x.1) (edns_code_number-of x.0) (no_value_code (edns_code_of x.0) x.1 e (omega (arith, t.fits.1)) (body_octets are t) r))),
   inr (inr (record { code = x.0; body = x.1; at = t.at; fits = t.fits; inside = t.inside; refused = r })),
 )

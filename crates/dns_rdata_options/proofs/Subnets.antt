@@ -6,7 +6,7 @@ use Rattle.std.specs.{declared.net.ip_addr.IpAddr.TheVariants.V6, declared.net.i
 use Rattle.std.proofs.{lemmas.Bool.Decides.nat_tests, lemmas.Nat.be_bytes_2}
 use Rattle.std.proofs.lemmas.List.{length-append, length-take-le, length-drop, length-replicate, take-append-drop, take_at}
 use Rattle.dns_fields.specs.Octets.{At, AreOctets}
-use Rattle.dns_fields.specs.Pieces.{OptionValue, Subnet, option_octets, IsAddress, IsEmittableOption}
+use Rattle.dns_fields.specs.Tlvs.{OptionValue, Subnet, option_octets, IsAddress, IsEmittableOption}
 use Rattle.dns_fields.proofs.Numbers.{length-bytes}
 use Rattle.dns_fields.proofs.OctetLaws.{AreOctets-nil, AreOctets-cons, AreOctets-append, AreOctets-take, AreOctets-drop}
 use Rattle.dns_rdata_base.proofs.Addresses.{octets_of-segments}
@@ -37,7 +37,7 @@ pub head_first : (s : List ℕ) (f : ℕ) → f ≡ from_be_bytes w16 (get_or s 
     → SubnetHead s f (get_or s 2 0) (get_or s 3 0) (drop 4 s)
 head_first s f e n b known = record { octets = family_first s f e (omega arith) b ∙ ap (λ (o : List ℕ). bytes_high_first 2 f ++ o) (heads s n); known = known }
 
--- ---- a subnet that stands
+-- ---- a subnet that is encoded
 
 padded-length : (n : ℕ) (s : List ℕ) → length s ≤ n → length (padded n s) ≡ n
 padded-length n s le = omega (arith, length-append s (replicate (n - length s) 0), length-replicate {A = ℕ} (n - length s) 0)
@@ -120,7 +120,7 @@ subnet_stands s f x n b e known most enough is =
       read = made_read f source scope a address are;
     })
 
--- ---- where no subnet stands
+-- ---- where no subnet is encoded
 
 -- the octets that a subnet begins
 pub begun : {s x : List ℕ} {q : ℕ} → At s 0 x q → s ≡ x ++ drop (length x) s

@@ -1,4 +1,4 @@
--- Records of options by their fields: one that was read is told by them, and fields that stand make one. `==` of records
+-- Records of options by their fields: one that was read is told by them, and fields that are make one. `==` of records
 -- tells whether one is the other in another order; of two that were read, whether their fields are.
 use Rattle.std.proofs.Common.{◌≡◌, ◌↔◌, ◌⊎◌, inl, inr, ℕ, ◌-◌, ◌==◌, Bool, true, false, cond, List, [], ◌∷◌, ◌++◌, map, count_by, get_or, slice_get}
 use Rattle.std.proofs.Common.{Some, refl, sym, ap, ◌∙◌, subst}
@@ -8,8 +8,8 @@ use Rattle.std.specs.declared.net.ip_addr.IpAddr.TheVariants.{V4, V6}
 use Rattle.std.proofs.{lemmas.Option.get_or_from_slice_get, lemmas.List.Sorted.IsPermutation-map}
 use Rattle.std.proofs.lemmas.Bool.Decides.{same_from_decides, Decides-like}
 use Rattle.std.specs.contracts.net.ip_addr.IpAddrPartialEq.TheImpl as equal_addresses
-use Rattle.dns_fields.specs.{Octets.AreOctets, Fields.Values, Fields.WholeOptions, Fields.CutOptions, Fields.Stands, Fields.Same, Equal.values_eq}
-use Rattle.dns_fields.specs.Pieces.{Numbered, piece, pieces, AllHeld, OptionValue, Subnet, Plain, OptionHeld}
+use Rattle.dns_fields.specs.{Octets.AreOctets, Fields.Values, Fields.CompleteOptions, Fields.TruncatedOptions, Fields.Stands, Fields.Same, Equal.values_eq}
+use Rattle.dns_fields.specs.Tlvs.{Numbered, tlv, tlvs, AllHeld, OptionValue, Subnet, OpaqueOption, OptionHeld}
 use Rattle.dns_fields.proofs.{EqualLaws.values_decide, Multisets.count_ext, Multisets.counts_decide, Sorted.permutation_counts}
 use Rattle.dns_fields.proofs.OctetLaws.{AreOctets-at, AreOctets-front, AreOctets-back}
 use Rattle.dns_rdata_options.specs.{EdnsOption.option_value, Order.pair_eq, Order.pair_cmp, Order.opt_eq, declared.opt.code.EdnsCode.EdnsCode}
@@ -27,28 +27,28 @@ use Rattle.dns_rdata_options.proofs.{OptionValues.edns_code_number-of, OptionVal
 
 held_value : (n : ℕ) (s : List ℕ) (v : OptionValue) → AreOctets s → OptionHeld n s v → option_value (option_of n v) ≡ v
 held_value n s (Subnet f source scope a) are h = value_back f source scope a h.1 (held_octets n s f source scope a are h)
-held_value n s (Plain t) are h = either (n == 3) where
-  either : (b : Bool) → option_value (cond b (edns.NSID t) (edns.Unknown n t)) ≡ Plain t
+held_value n s (OpaqueOption t) are h = either (n == 3) where
+  either : (b : Bool) → option_value (cond b (edns.NSID t) (edns.Unknown n t)) ≡ OpaqueOption t
   either true = refl
   either false = refl
 
-pairs_back : (read : List (Numbered (List ℕ))) (v : List (Numbered OptionValue)) → AreOctets (pieces read) → AllHeld OptionHeld read v
+pairs_back : (read : List (Numbered (List ℕ))) (v : List (Numbered OptionValue)) → AreOctets (tlvs read) → AllHeld OptionHeld read v
     → map pair_value (map pair_of v) ≡ v
 pairs_back [] [] are h = refl
 pairs_back (x ∷ xs) (y ∷ ys) are h =
-    let first : AreOctets (piece x) = AreOctets-front (piece x) (pieces xs) are in
-    let rest : AreOctets (pieces xs) = AreOctets-back (piece x) (pieces xs) are in
+    let first : AreOctets (tlv x) = AreOctets-front (tlv x) (tlvs xs) are in
+    let rest : AreOctets (tlvs xs) = AreOctets-back (tlv x) (tlvs xs) are in
     let body : AreOctets x.1 = AreOctets-back (bytes_high_first 2 _) x.1 (AreOctets-back (bytes_high_first 2 x.0) (bytes_high_first 2 _ ++ x.1) first) in
     ap (λ (n : ℕ). (n, option_value (option_of y.0 y.1)) ∷ map pair_value (map pair_of ys)) (edns_code_number-of y.0)
     ∙ ap (λ (v : OptionValue). (y.0, v) ∷ map pair_value (map pair_of ys)) (held_value y.0 x.1 y.1 body h.1)
     ∙ ap (λ (l : List (Numbered OptionValue)). y ∷ l) (pairs_back xs ys rest h.2)
 pairs_back xs v are h = absurd h
 
--- the fields of options that stand are those of the record that they make
+-- the fields of options that are encoded are those of the record that they make
 pub opt_fields-from : (m : List ℕ) (p : ℕ) (vs : Values opt_shape) (q : ℕ) → AreOctets m → Stands m p opt_shape vs q → opt_fields (opt_from vs) ≡ vs
 opt_fields-from m p vs q are s = ap (λ (l : List (Numbered OptionValue)). (l, tt)) (back s.1.is) where
-  back : WholeOptions m p vs.0 s.0 ⊎ ((vs.0 ≡ []) × CutOptions m (s.0 - p) p s.0) → map pair_value (map pair_of vs.0) ≡ vs.0
-  back (inl w) = pairs_back w.read vs.0 (AreOctets-at m p (pieces w.read) s.0 are w.at) w.held
+  back : CompleteOptions m p vs.0 s.0 ⊎ ((vs.0 ≡ []) × TruncatedOptions m (s.0 - p) p s.0) → map pair_value (map pair_of vs.0) ≡ vs.0
+  back (inl w) = pairs_back w.read vs.0 (AreOctets-at m p (tlvs w.read) s.0 are w.at) w.held
   back (inr c) = ap (λ (l : List (Numbered OptionValue)). map pair_value (map pair_of l)) c.0 ∙ sym c.0
 
 pub opt_from-read : (m : List ℕ) (p : ℕ) (vs : Values opt_shape) (q : ℕ) → AreOctets m → Stands m p opt_shape vs q → IsReadOpt (opt_from vs)

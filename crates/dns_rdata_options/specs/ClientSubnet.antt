@@ -5,7 +5,7 @@ use Rattle.std.specs.{Int.bytes_high_first, declared.net.ip_addr.IpAddr.IpAddr, 
 use Rattle.std.specs.declared.net.ip_addr.IpAddr.TheVariants.{V4, V6}
 use Rattle.dns_types.specs.declared.error.DecodeError.{DecodeError}
 use Rattle.dns_types.specs.declared.error.DecodeError.TheVariants as decode
-use Rattle.dns_fields.specs.{Octets.At, Pieces.OptionValue, Pieces.Subnet, Pieces.option_octets, Pieces.IsEmittableOption}
+use Rattle.dns_fields.specs.{Octets.At, Tlvs.OptionValue, Tlvs.Subnet, Tlvs.option_octets, Tlvs.IsEmittableOption}
 use Rattle.dns_rdata_options.specs.declared.opt.subnet.ClientSubnet.{ClientSubnet}
 
 -- 1 for IPv4, 2 for IPv6
@@ -27,30 +27,35 @@ family_octets family = if family == 1 then 4 else 16
 
 -- family, source prefix, scope prefix, and the first octets of the address
 abbrev pub subnet_value : ClientSubnet → OptionValue
-subnet_value x = Subnet (family_of x.address) x.source_prefix x.scope_prefix (take (prefix_octets x.source_prefix) (address_octets x.address))
+subnet_value x = Subnet (family_of x.address) x.source_prefix x.scope_prefix
+    (take (prefix_octets x.source_prefix) (address_octets x.address))
 
--- octets 0 behind these, up to n octets
+-- octets 0 after these, up to n octets
 abbrev pub padded : ℕ → List ℕ → List ℕ
 padded n octets = octets ++ replicate (n - length octets) 0
 
 -- the address of the family that begins with these octets and goes on with octets 0
 abbrev pub address_of : ℕ → List ℕ → IpAddr
-address_of family octets = if family == 1 then V4 (record { octets = padded 4 octets }) else V6 (record { segments = segments_of (padded 16 octets) })
+address_of family octets =
+    if family == 1 then V4 (record { octets = padded 4 octets })
+    else V6 (record { segments = segments_of (padded 16 octets) })
 
 abbrev pub subnet_of : ℕ → ℕ → ℕ → List ℕ → ClientSubnet
-subnet_of family source scope octets = record { address = address_of family octets; source_prefix = source; scope_prefix = scope }
+subnet_of family source scope octets =
+    record { address = address_of family octets; source_prefix = source; scope_prefix = scope }
 
 -- the octets of the address that no prefix asks for are 0
 pub record IsReadSubnet (x : ClientSubnet) : Type 0 where
-  pub padded : x ≡ subnet_of (family_of x.address) x.source_prefix x.scope_prefix (take (prefix_octets x.source_prefix) (address_octets x.address))
+  pub padded : x ≡ subnet_of (family_of x.address) x.source_prefix x.scope_prefix
+      (take (prefix_octets x.source_prefix) (address_octets x.address))
 
--- in the message the subnet stands from p to q
+-- the subnet is encoded in the message from p to q
 pub record SubnetAt (m : List ℕ) (p : ℕ) (x : ClientSubnet) (q : ℕ) : Type 0 where
   pub fits : IsEmittableOption (subnet_value x)
   pub at : At m p (option_octets (subnet_value x)) q
   pub read : IsReadSubnet x
 
--- ---- refusals: why octets don't begin with a subnet
+-- ---- errors: why octets do not begin with a subnet
 
 abbrev pub IsFamily : ℕ → Type 0
 IsFamily family = (family ≡ 1) ⊎ (family ≡ 2)
@@ -69,7 +74,7 @@ pub record UnknownFamily (s : List ℕ) (e : DecodeError) : Type 0 where
   pub unknown : IsFamily family → ⊥
   pub error : e ≡ decode.UnknownAddressFamily family
 
--- behind a known family the prefixes lack octets
+-- after a known family the prefixes lack octets
 pub record LacksPrefixes (s : List ℕ) (e : DecodeError) : Type 0 where
   pub family : ℕ
   pub rest : List ℕ
@@ -104,8 +109,8 @@ pub record LacksAddress (s : List ℕ) (e : DecodeError) : Type 0 where
   pub short : length rest < prefix_octets source
   pub error : e ≡ decode.InsufficientBytes
 
-abbrev pub IsSubnetRefusal : List ℕ → DecodeError → Type 0
-IsSubnetRefusal s e = LacksFamily s e ⊎ (UnknownFamily s e ⊎ (LacksPrefixes s e ⊎ (LongPrefix s e ⊎ LacksAddress s e)))
+abbrev pub IsSubnetError : List ℕ → DecodeError → Type 0
+IsSubnetError s e = LacksFamily s e ⊎ (UnknownFamily s e ⊎ (LacksPrefixes s e ⊎ (LongPrefix s e ⊎ LacksAddress s e)))
 
 -- no subnet begins the octets
 pub record NoSubnet (s : List ℕ) : Type 0 where
@@ -114,4 +119,4 @@ pub record NoSubnet (s : List ℕ) : Type 0 where
 -- a subnet begins the octets, whatever follows, or none does
 abbrev pub ReadsSubnet : List ℕ → Result ClientSubnet DecodeError → Type 0
 ReadsSubnet s (Ok x) = (q : ℕ) × SubnetAt s 0 x q
-ReadsSubnet s (Err e) = NoSubnet s × IsSubnetRefusal s e
+ReadsSubnet s (Err e) = NoSubnet s × IsSubnetError s e

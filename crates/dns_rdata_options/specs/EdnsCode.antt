@@ -1,4 +1,5 @@
--- The codes of EDNS options: the numbers of the variants (RFC 6891, 9). One with a number of its own inside has that number.
+-- The codes of EDNS options: the numbers of the variants (RFC 6891, 9). One with a number of its own inside has that
+-- number.
 use Rattle.std.specs.Prelude.{ℕ, List, [], ◌∷◌}
 use Rattle.dns_rdata_base.specs.Numbered.{numbered_of}
 use Rattle.dns_rdata_options.specs.declared.opt.code.EdnsCode.{EdnsCode}
@@ -21,7 +22,7 @@ edns_code_number Padding = 12
 edns_code_number Chain = 13
 edns_code_number (Unknown n) = n
 
--- the place in the declaration
+-- the rank in the declaration
 abbrev pub edns_code_variant : EdnsCode → ℕ
 edns_code_variant Zero = 0
 edns_code_variant LLQ = 1
@@ -39,7 +40,8 @@ edns_code_variant Chain = 12
 edns_code_variant (Unknown n) = 13
 
 abbrev pub named_edns_codes : List EdnsCode
-named_edns_codes = Zero ∷ LLQ ∷ UL ∷ NSID ∷ DAU ∷ DHU ∷ N3U ∷ Subnet ∷ Expire ∷ Cookie ∷ Keepalive ∷ Padding ∷ Chain ∷ []
+named_edns_codes =
+    Zero ∷ LLQ ∷ UL ∷ NSID ∷ DAU ∷ DHU ∷ N3U ∷ Subnet ∷ Expire ∷ Cookie ∷ Keepalive ∷ Padding ∷ Chain ∷ []
 
 -- what has no number above
 abbrev pub other_edns_code : ℕ → EdnsCode

@@ -11,7 +11,7 @@ address_bits (V6 ip) = 128
 abbrev pub masked_octet : ℕ → ℕ → ℕ
 masked_octet bits octet = octet / 2 ^ (8 - bits) * 2 ^ (8 - bits)
 
--- octets with their first bits as they are, and 0 for the others: behind each octet the prefix has eight bits less
+-- octets with their first bits as they are, and 0 for the others: after each octet the prefix has eight bits less
 abbrev pub masked_octets : ℕ → List ℕ → List ℕ
 masked_octets bits [] = []
 masked_octets bits (x ∷ s) = masked_octet bits x ∷ masked_octets (bits - 8) s
@@ -37,7 +37,8 @@ host = 0x20 ∷ 0x01 ∷ 0x0d ∷ 0xb8 ∷ 0xab ∷ 0xcd ∷ 0x12 ∷ 0x34 ∷ 0
 
 -- to 36 bits 2001:db8:a000::
 abbrev pub MaskedSixteen : Type 0
-MaskedSixteen = masked_octets 36 host ≡ 0x20 ∷ 0x01 ∷ 0x0d ∷ 0xb8 ∷ 0xa0 ∷ 0 ∷ 0 ∷ 0 ∷ 0 ∷ 0 ∷ 0 ∷ 0 ∷ 0 ∷ 0 ∷ 0 ∷ 0 ∷ []
+MaskedSixteen =
+    masked_octets 36 host ≡ 0x20 ∷ 0x01 ∷ 0x0d ∷ 0xb8 ∷ 0xa0 ∷ 0 ∷ 0 ∷ 0 ∷ 0 ∷ 0 ∷ 0 ∷ 0 ∷ 0 ∷ 0 ∷ 0 ∷ 0 ∷ []
 
 -- to 128 bits
 abbrev pub MaskedWhole : Type 0

@@ -8,8 +8,7 @@ pub mod OptText
 pub mod Lent
 pub mod Order
 pub mod OrderLaws
-pub mod Places
+pub mod Indices
 pub mod OptionReads
 pub mod Steps
-pub mod LeastDifferences
 pub mod Heads

@@ -2,14 +2,14 @@
 use Rattle.std.specs.Prelude.{◌≡◌, ◌⊎◌, ℕ, ◌+◌, ◌-◌, ◌≤◌, ◌<◌, ◌==◌, Bool, not, List, [], ◌∷◌, length, map, filter, if◌then◌else◌}
 use Rattle.dns_types.specs.declared.error.DecodeError.{DecodeError}
 use Rattle.dns_types.specs.declared.error.DecodeError.TheVariants as decode
-use Rattle.dns_fields.specs.{Octets.At, Fields.Kind, Fields.Number, Fields.Options, Fields.Values, Fields.WholeOptions}
-use Rattle.dns_fields.specs.Pieces.{Numbered, piece, IsPiece, OptionValue, Plain}
-use Rattle.dns_fields.specs.Pieces as pieces
-use Rattle.dns_names_wire.specs.{State.Reading, Words.TookField, Words.Took, Words.LacksOctets, Facts.Facts, Facts.filling}
+use Rattle.dns_fields.specs.{Octets.At, Fields.Kind, Fields.Number, Fields.Options, Fields.Values, Fields.CompleteOptions}
+use Rattle.dns_fields.specs.Tlvs.{Numbered, tlv, IsTlv, OptionValue, OpaqueOption}
+use Rattle.dns_fields.specs.Tlvs as tlvs
+use Rattle.dns_names_wire.specs.{State.Reading, Terms.TookField, Terms.Took, Terms.LacksOctets, Facts.Facts, Facts.filling}
 use Rattle.dns_rdata_base.specs.Numbered.{numbered_eq}
 use Rattle.dns_rdata_options.specs.{ClientSubnet.subnet_of, declared.opt.code.EdnsCode.EdnsCode, declared.opt.option.EdnsOption.EdnsOption}
 use Rattle.dns_rdata_options.specs.EdnsCode.{edns_code_number, edns_code_variant, edns_code_of}
-use Rattle.dns_rdata_options.specs.EdnsOption.{option_value, IsOptionRefusal}
+use Rattle.dns_rdata_options.specs.EdnsOption.{option_value, IsOptionError}
 use Rattle.dns_rdata_options.specs.declared.opt.option.EdnsOption.TheVariants.{Subnet, NSID, Unknown}
 
 -- an option with its code, as a value holds them
@@ -31,8 +31,8 @@ opt_fields x = (map pair_value x, tt)
 
 -- the option that a code's number and a value of the wire give
 abbrev pub option_of : ℕ → OptionValue → EdnsOption
-option_of n (pieces.Subnet family source scope address) = Subnet (subnet_of family source scope address)
-option_of n (Plain s) = if n == 3 then NSID s else Unknown n s
+option_of n (tlvs.Subnet family source scope address) = Subnet (subnet_of family source scope address)
+option_of n (OpaqueOption s) = if n == 3 then NSID s else Unknown n s
 
 abbrev pub pair_of : Numbered OptionValue → Pair
 pair_of x = (edns_code_of x.0, option_of x.0 x.1)
@@ -57,13 +57,13 @@ options_of code x = map (λ p. p.1) (filter (λ p. code_eq code p.0) x)
 abbrev pub without : EdnsCode → List Pair → List Pair
 without code x = filter (λ p. not (code_eq code p.0)) x
 
--- ---- refusals
+-- ---- errors
 
--- whole options that hold values stand from where the decoder was to a place before the end of the n octets
+-- complete options that hold values are encoded from where the decoder was to an offset before the end of the n octets
 pub record OptionsBefore (old : Reading) (n : ℕ) (between : Reading) : Type 0 where
   pub message : between.message ≡ old.message
   pub values : List (Numbered OptionValue)
-  pub took : WholeOptions old.message old.index values between.index
+  pub took : CompleteOptions old.message old.index values between.index
   pub before : between.index < old.index + n
 
 -- the code lacks octets
@@ -72,7 +72,7 @@ pub record LacksCode (d : Reading) (e : DecodeError) (new : Reading) : Type 0 wh
   pub lacks : LacksOctets d 2
   pub unchanged : new ≡ d
 
--- the length behind a code lacks octets
+-- the length after a code lacks octets
 pub record LacksLength (end : ℕ) (d : Reading) (e : DecodeError) (new : Reading) : Type 0 where
   pub error : e ≡ decode.InsufficientBytes
   pub code : ℕ
@@ -80,7 +80,7 @@ pub record LacksLength (end : ℕ) (d : Reading) (e : DecodeError) (new : Readin
   pub before : new.index < end
   pub lacks : LacksOctets new 2
 
--- the code, or the length behind it, goes past the end of the n octets
+-- the code, or the length after it, goes past the end of the n octets
 pub record PassedEnd (start n : ℕ) (d : Reading) (e : DecodeError) (new : Reading) : Type 0 where
   pub error : e ≡ decode.IncorrectRDataLengthRead (new.index - start) n
   pub past : start + n < new.index
@@ -100,7 +100,8 @@ pub record LongOption (n end : ℕ) (d : Reading) (e : DecodeError) (new : Readi
   pub long : n < size
   pub error : e ≡ decode.IncorrectRDataLengthRead n size
 
--- the message ends within the option's octets, or within those that are left of the record; those that are there are taken
+-- the message ends within the option's octets, or within those that are left of the record; those that are there are
+-- taken
 pub record LacksBody (n end : ℕ) (d : Reading) (e : DecodeError) (new : Reading) : Type 0 where
   pub code : ℕ
   pub size : ℕ
@@ -112,31 +113,32 @@ pub record LacksBody (n end : ℕ) (d : Reading) (e : DecodeError) (new : Readin
   pub error : e ≡ decode.InsufficientBytes
   pub index : new.index ≡ length d.message
 
--- an option stands, and its octets have no value
+-- an option is encoded, and its octets have no value
 pub record BadOption (end : ℕ) (d : Reading) (e : DecodeError) (new : Reading) : Type 0 where
   pub code : ℕ
   pub body : List ℕ
-  pub at : At d.message d.index (piece (code, body)) new.index
-  pub fits : IsPiece (code, body)
+  pub at : At d.message d.index (tlv (code, body)) new.index
+  pub fits : IsTlv (code, body)
   pub inside : new.index ≤ end
-  pub refused : IsOptionRefusal (edns_code_of code) body e
+  pub refused : IsOptionError (edns_code_of code) body e
 
--- no code, no length, or no octets of them stand
-abbrev pub IsPieceRefusal : ℕ → ℕ → Reading → DecodeError → Reading → Type 0
-IsPieceRefusal start n d e new = LacksCode d e new
-    ⊎ (LacksLength (start + n) d e new ⊎ (PassedEnd start n d e new ⊎ (LongOption n (start + n) d e new ⊎ LacksBody n (start + n) d e new)))
+-- there is no code, no length, or no such octets
+abbrev pub IsTlvError : ℕ → ℕ → Reading → DecodeError → Reading → Type 0
+IsTlvError start n d e new = LacksCode d e new
+    ⊎ (LacksLength (start + n) d e new
+    ⊎ (PassedEnd start n d e new ⊎ (LongOption n (start + n) d e new ⊎ LacksBody n (start + n) d e new)))
 
-abbrev pub IsNextRefusal : ℕ → ℕ → Reading → DecodeError → Reading → Type 0
-IsNextRefusal start n d e new = IsPieceRefusal start n d e new ⊎ BadOption (start + n) d e new
+abbrev pub IsNextError : ℕ → ℕ → Reading → DecodeError → Reading → Type 0
+IsNextError start n d e new = IsTlvError start n d e new ⊎ BadOption (start + n) d e new
 
--- behind whole options the next one is refused
+-- after complete options the next one is rejected
 pub record RefusedNext (n : ℕ) (old : Reading) (e : DecodeError) (new : Reading) : Type 0 where
   pub between : Reading
   pub before : OptionsBefore old n between
-  pub next : IsNextRefusal old.index n between e new
+  pub next : IsNextError old.index n between e new
 
-abbrev pub IsOptRefusal : ℕ → Reading → DecodeError → Reading → Type 0
-IsOptRefusal n old e new = (e ≡ decode.Memory) ⊎ RefusedNext n old e new
+abbrev pub IsOptError : ℕ → Reading → DecodeError → Reading → Type 0
+IsOptError n old e new = (e ≡ decode.Memory) ⊎ RefusedNext n old e new
 
 abbrev pub opt_facts : Facts (List Pair)
-opt_facts = filling opt_shape (λ _. Unit {0}) opt_fields IsOptRefusal IsReadOpt
+opt_facts = filling opt_shape (λ _. Unit {0}) opt_fields IsOptError IsReadOpt

@@ -26,7 +26,8 @@ address_cmp a b = slice_cmp nat_cmp (address_octets a) (address_octets b)
 
 -- by address, then by source prefix, then by scope prefix
 abbrev pub subnet_cmp : ClientSubnet → ClientSubnet → Ordering
-subnet_cmp a b = ordering_then (address_cmp a.address b.address) (ordering_then (nat_cmp a.source_prefix b.source_prefix) (nat_cmp a.scope_prefix b.scope_prefix))
+subnet_cmp a b = ordering_then (address_cmp a.address b.address)
+    (ordering_then (nat_cmp a.source_prefix b.source_prefix) (nat_cmp a.scope_prefix b.scope_prefix))
 
 -- by the first octet that differs; a proper beginning comes first
 abbrev pub payload_cmp : List ℕ → List ℕ → Ordering

@@ -10,15 +10,17 @@ use Rattle.dns_rdata_options.specs.contracts.opt.option.EdnsOptionOrd.TheImpl as
 use Rattle.dns_rdata_options.specs.contracts.opt.option.EdnsOptionOrd.TheImpl.Laws as ordered_laws
 
 pub pair_equiv : IsEquivalence pair_eq
-pair_equiv = and_equiv (on_equiv (λ (p : Pair). p.0) (numbered_equiv edns_code_number edns_code_variant)) (on_equiv (λ (p : Pair). p.1) equal_laws.laws-law)
+pair_equiv = and_equiv (on_equiv (λ (p : Pair). p.0) (numbered_equiv edns_code_number edns_code_variant))
+    (on_equiv (λ (p : Pair). p.1) equal_laws.laws-law)
 
 pub pair_total : IsTotalOrder pair_cmp
-pair_total = then_total (on_total (λ (p : Pair). p.0) (numbered_total edns_code_number edns_code_variant)) (on_total (λ (p : Pair). p.1) ordered_laws.total-law)
+pair_total = then_total (on_total (λ (p : Pair). p.0) (numbered_total edns_code_number edns_code_variant))
+    (on_total (λ (p : Pair). p.1) ordered_laws.total-law)
 
--- `==` of pairs holds exactly where their order answers Equal
+-- `==` of pairs holds exactly where their order returns Equal
 pub pair_ties : (p q : Pair) → pair_eq p q ≡ is_eq (pair_cmp p q)
-pair_ties p q = both_tied _ _ (code_cmp p.0 q.0) (ordered_options.ghosts.cmp p.1 q.1) (numbered_ties edns_code_number edns_code_variant p.0 q.0)
-    (ordered_laws.matches_eq-law p.1 q.1)
+pair_ties p q = both_tied _ _ (code_cmp p.0 q.0) (ordered_options.ghosts.cmp p.1 q.1)
+    (numbered_ties edns_code_number edns_code_variant p.0 q.0) (ordered_laws.matches_eq-law p.1 q.1)
 
 pub opt_equiv : IsEquivalence opt_eq
 opt_equiv = on_equiv risen (lists_equiv pair_equiv)

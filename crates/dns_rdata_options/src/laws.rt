@@ -24,7 +24,7 @@ pub fn orders_hold()
 /// What `OPT::get` and `OPT::get_all` find in lists that grow by `insert` and lose options by `remove`.
 #[tactic(auto, using(crate::proofs::OptionsOf::options_joined, crate::proofs::OptionsOf::options_removed, crate::proofs::OptionsOf::options_kept))]
 pub fn options_hold()
-    // of two lists one behind the other, the options of the first, and then those of the second
+    // of two lists one after the other, the options of the first, and then those of the second
     ensures joined { (code : Code) (x y : List Pair) → options_of code (x ++ y) ≡ options_of code x ++ options_of code y }
     // none of a code that was removed
     ensures removed { (code : Code) (x : List Pair) → options_of code (without code x) ≡ [] }

@@ -3,8 +3,8 @@
 ghost use Rattle.std.specs.Prelude.{◌≡◌, ◌↔◌, ◌+◌, ◌^◌, ◌<◌, ◌++◌, ◌∷◌, [], length, map, slice_get, IfOk, IsTrue, OnOk, OnErr};
 ghost use Rattle.std.specs.{Option.option_copied, Slice.Iter.iter_rest, Iterator.Adapters.IterYieldsInOrder};
 ghost use Rattle.dns_rdata_options.specs.{declared.opt.code.EdnsCode.EdnsCode as Code, declared.opt.option.EdnsOption.EdnsOption as Content};
-ghost use Rattle.dns_fields.specs.Pieces.{piece, as_piece, option_octets, OptionFits};
-ghost use Rattle.dns_names_wire.specs.Words.{Emits, EmitsFitting};
+ghost use Rattle.dns_fields.specs.Tlvs.{tlv, as_tlv, option_octets, OptionFits};
+ghost use Rattle.dns_names_wire.specs.Terms.{Emits, EmitsFitting};
 ghost use Rattle.dns_rdata_options.specs.{EdnsCode.edns_code_number, EdnsOption.code_of};
 ghost use Rattle.dns_rdata_options.specs.{OPT.opt_shape, OPT.opt_fields, OPT.opt_facts, OPT.pair_value, OPT.options_of, OPT.without, Order.opt_cmp};
 
@@ -213,7 +213,7 @@ fn emit_pair(
     option: &EdnsOption,
 ) -> Result<(), ProtoError>
     ensures small { edns_code_number code < 65536 }
-    ensures emits { EmitsFitting (OptionFits (pair_value (code, option.now))) (piece (as_piece option_octets (pair_value (code, option.now)))) result
+    ensures emits { EmitsFitting (OptionFits (pair_value (code, option.now))) (tlv (as_tlv option_octets (pair_value (code, option.now)))) result
         encoder.old encoder.new }
 {
     let len = option.octets_len();

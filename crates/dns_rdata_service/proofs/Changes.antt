@@ -2,13 +2,13 @@
 use Rattle.std.proofs.Common.{◌≡◌, ◌≢◌, ℕ, zero, suc, ◌+◌, ◌<◌, ◌≤◌, ◌==◌, ◌++◌, List, [], ◌∷◌, Some, map, true, false, refl, ap, ◌∙◌, sym, subst, length, get_or, take, drop, drop-cons}
 use Rattle.std.proofs.Common.{if◌then◌else◌, nat_lt, arith, rules, add-one}
 use Rattle.std.proofs.lemmas.{List.drop_all, Bool.ltb-true, Bool.ltb-false, Bool.eqb-true, Bool.eqb-false}
-use Rattle.dns_fields.specs.Pieces.{Rising, Below}
+use Rattle.dns_fields.specs.Tlvs.{Rising, Below}
 use Rattle.dns_rdata_service.specs.{Parameters.Parameter, Parameters.parameter_of, SVCB.number_of_parameter, SVCB.value_at}
 use Rattle.dns_rdata_service.specs.Changing.{inserted, RisesIn}
 
 -- ---- where a parameter goes
 
--- behind parameters of lesser numbers
+-- after parameters of lesser numbers
 past_lesser : (p : Parameter) (xs : List Parameter) (at : ℕ) → at ≤ length xs
     → ((k : ℕ) (d : Parameter) → k < at → number_of_parameter (get_or xs k d) < number_of_parameter p) → inserted p xs ≡ take at xs ++ inserted p (drop at xs)
 past_lesser p xs zero l h = refl
@@ -19,25 +19,25 @@ past_lesser p (x ∷ xs) (suc at) l h =
     grind (arith, less, rest)
 
 -- all are lesser: it goes to the end
-pub placed_last : (p : Parameter) (xs : List Parameter) (at : ℕ) → at ≡ length xs
+pub inserted_last : (p : Parameter) (xs : List Parameter) (at : ℕ) → at ≡ length xs
     → ((k : ℕ) (d : Parameter) → k < at → number_of_parameter (get_or xs k d) < number_of_parameter p) → inserted p xs ≡ take at xs ++ p ∷ drop at xs
-placed_last p xs at e h =
+inserted_last p xs at e h =
     let f = past_lesser p xs at (omega arith) h in
     rw (drop_all at xs (omega (arith, e))) (f ∙ rw (drop_all at xs (omega (arith, e))) refl)
 
 -- the next has a greater number
-pub placed_before : (p x : Parameter) (xs : List Parameter) (at : ℕ) → at < length xs → x ≡ get_or xs at x → number_of_parameter p < number_of_parameter x
+pub inserted_before : (p x : Parameter) (xs : List Parameter) (at : ℕ) → at < length xs → x ≡ get_or xs at x → number_of_parameter p < number_of_parameter x
     → ((k : ℕ) (d : Parameter) → k < at → number_of_parameter (get_or xs k d) < number_of_parameter p) → inserted p xs ≡ take at xs ++ p ∷ drop at xs
-placed_before p x xs at l is less h =
+inserted_before p x xs at l is less h =
     let f = past_lesser p xs at (omega arith) h in
     let d : drop at xs ≡ x ∷ drop (suc at) xs = drop-cons xs at x l ∙ ap (λ (y : Parameter). y ∷ drop (suc at) xs) (sym is) in
     let g : inserted p (drop at xs) ≡ p ∷ drop at xs = rw d (grind (arith, less)) in
     f ∙ ap (λ (l : List Parameter). take at xs ++ l) g
 
 -- the next has the same number
-pub placed_there : (p x : Parameter) (xs : List Parameter) (at : ℕ) → at < length xs → x ≡ get_or xs at x → number_of_parameter p ≡ number_of_parameter x
+pub inserted_there : (p x : Parameter) (xs : List Parameter) (at : ℕ) → at < length xs → x ≡ get_or xs at x → number_of_parameter p ≡ number_of_parameter x
     → ((k : ℕ) (d : Parameter) → k < at → number_of_parameter (get_or xs k d) < number_of_parameter p) → inserted p xs ≡ take at xs ++ p ∷ drop (at + 1) xs
-placed_there p x xs at l is same h =
+inserted_there p x xs at l is same h =
     let f = past_lesser p xs at (omega arith) h in
     let d : drop at xs ≡ x ∷ drop (suc at) xs = drop-cons xs at x l ∙ ap (λ (y : Parameter). y ∷ drop (suc at) xs) (sym is) in
     let g : inserted p (drop at xs) ≡ p ∷ drop (at + 1) xs = rw (d, add-one) (grind (arith, same)) in

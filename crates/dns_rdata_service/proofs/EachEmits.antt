@@ -5,12 +5,12 @@ use Rattle.std.proofs.lemmas.List.{length-append, append-nil, drop_more, take-ap
 use Rattle.std.proofs.{lemmas.List.Folds.flat_map-map, lemmas.Grind.put_two, Math.Bool.and-false}
 use Rattle.std.specs.{Fmt.◌++?◌, Fmt.HasWritten, Fmt.IsPlainFormatter, Fmt.DisplaysOnOk, List.flat_map, List.list_all, List.AllByRecursion}
 use Rattle.std.specs.{declared.fmt.Formatter.Formatter, declared.fmt.Error.Error, Int.bytes_high_first}
-use Rattle.dns_fields.specs.Pieces.{string, ParameterValue, Mandatory, Alpn, is_some, IsEmittable, parameter_octets, parameter_emittable, Numbered}
-use Rattle.dns_fields.specs.Fields.{Number, Text, Rest, field_octets, Parameters, parameter_pieces}
-use Rattle.dns_fields.specs.Pieces.{piece, ParameterFits, pieces, as_piece, Rising, rising}
+use Rattle.dns_fields.specs.Tlvs.{string, ParameterValue, Mandatory, Alpn, is_some, IsEmittable, parameter_octets, parameter_emittable, Numbered}
+use Rattle.dns_fields.specs.Fields.{Number, CharacterString, Rest, field_octets, Parameters, parameter_tlvs}
+use Rattle.dns_fields.specs.Tlvs.{tlv, ParameterFits, tlvs, as_tlv, Rising, rising}
 use Rattle.dns_types.specs.declared.error.ProtoError.{ProtoError}
 use Rattle.dns_names_wire.specs.State.{Writing}
-use Rattle.dns_names_wire.specs.Words.{Extends, EmitsField, AppendedField, StoppedField, Because, AppendedOctets, StoppedOctets, EmitsOctets}
+use Rattle.dns_names_wire.specs.Terms.{Extends, EmitsField, AppendedField, StoppedField, Because, AppendedOctets, StoppedOctets, EmitsOctets}
 use Rattle.dns_names_wire.proofs.FieldWrites.{keeps_same, keeps_then, because_map, extends_then}
 use Rattle.dns_rdata_service.specs.Parameters.{Parameter, parameter_of, IsAbove, EmitsParameter}
 use Rattle.dns_rdata_service.specs.{SvcParamValue.fits_value, SvcParamValue.sized, SvcParamValue.EmitsValue, Hints.EmitsEach, Hints.each_text}
@@ -31,7 +31,7 @@ emits_stop E [] x ys e w b n h s = inr (e, refl, subst (λ (v : Writing). E x (E
 emits_stop E (y ∷ zs) x ys e w b n (inl h) s = inl (h.0, h.1, emits_stop E zs x ys e h.0 b n h.2 s)
 emits_stop E (y ∷ zs) x ys e w b n (inr h) s = absurd (cc h.1)
 
--- a list about one of its places
+-- a list around one of its indices
 pub list_at : {T : Type 0} (i : ℕ) (xs : List T) (x d : T) → x ≡ get_or xs i d → i < length xs → take i xs ++ x ∷ drop (i + 1) xs ≡ xs
 list_at i xs x d is lt = ap (λ y. take i xs ++ y ∷ drop (i + 1) xs) is ∙ ap (λ t. take i xs ++ t) (sym (drop_more xs i d lt)) ∙ take-append-drop i xs
 
@@ -51,7 +51,7 @@ extends_on {a} {b} {c} f g = record {
   octets = g.octets ∙ ap (λ (l : List ℕ). l ++ g.tail) f.octets ∙ append_assoc a.octets f.tail g.tail;
 }
 
--- what is in front is refused, or what is behind
+-- an earlier one fails, or a later one
 pub stopped_first : {e : ProtoError} {w n : Writing} {P Q : Type 0} {s : List ℕ} (t : List ℕ) → (P → Q) → StoppedOctets e w P s n
     → StoppedOctets e w Q (s ++ t) n
 stopped_first {e} {s = s} t f h = record { extends = h.extends; why = because_map e _ _ _ _ (λ r. omega (arith, r, length-append s t)) f h.why }
@@ -101,13 +101,14 @@ unfolding field_octets
 number_emits w n (Ok u) old new h = (h.field.is.0, record { keeps = h.keeps; octets = h.field.is.1 })
 number_emits w n (Err e) old new h = record { extends = h.extends; why = because_map e _ _ _ _ (λ r. r.full) (λ u. u.unfit) h.why }
 
-pub text_emits : (s : List ℕ) (r : Result (Unit {0}) ProtoError) (old new : Writing) → EmitsField Text s r old new
+pub text_emits : (s : List ℕ) (r : Result (Unit {0}) ProtoError) (old new : Writing) → EmitsField CharacterString s r old new
     → EmitsOctets (length s < 256) (nat_le (length s) 255 ≡ false) (string s) r old new
 unfolding field_octets
 text_emits s (Ok u) old new h = (h.field.is.0, record { keeps = h.keeps; octets = h.field.is.1 })
 text_emits s (Err e) old new h = record { extends = h.extends; why = because_map e _ _ _ _ (λ r. r.full) (λ u. u.unfit) h.why }
 
-pub rest_emits : (s : List ℕ) (r : Result (Unit {0}) ProtoError) (old new : Writing) → EmitsField Rest s r old new → EmitsOctets (Unit {0}) (true ≡ false) s r old new
+pub rest_emits : (s : List ℕ) (r : Result (Unit {0}) ProtoError) (old new : Writing) → EmitsField Rest s r old new
+    → EmitsOctets (Unit {0}) (true ≡ false) s r old new
 unfolding field_octets
 rest_emits s (Ok u) old new h = (tt, record { keeps = h.keeps; octets = h.field.is })
 rest_emits s (Err e) old new h = record { extends = h.extends; why = because_map e _ _ _ _ (λ r. r.full) (λ u. u.unfit) h.why }
@@ -133,13 +134,13 @@ pub emits_next : {T : Type 0} (E : T → Result (Unit {0}) ProtoError → Writin
 emits_next E i xs x d w b n is lt h s =
     subst (λ zs. EmitsEach E zs (Ok tt) w n) (sym (one_more i xs x d is lt)) (emits_push E (take i xs) x w b n h s)
 
--- or one that is refused
+-- or one fails
 pub emits_refused : {T : Type 0} (E : T → Result (Unit {0}) ProtoError → Writing → Writing → Type 0) (i : ℕ) (xs : List T) (x d : T) (e : ProtoError)
     (w b n : Writing) → x ≡ get_or xs i d → i < length xs → EmitsEach E (take i xs) (Ok tt) w b → E x (Err e) b n → EmitsEach E xs (Err e) w n
 emits_refused E i xs x d e w b n is lt h s =
     subst (λ zs. EmitsEach E zs (Err e) w n) (list_at i xs x d is lt) (emits_stop E (take i xs) x (drop (i + 1) xs) e w b n h s)
 
--- ---- what was there stands
+-- ---- the earlier octets are unchanged
 
 pub octets_extend : (P U : Type 0) (s : List ℕ) (r : Result (Unit {0}) ProtoError) (old new : Writing) → EmitsOctets P U s r old new → Extends old new
 octets_extend P U s (Ok u) old new h = record { keeps = h.1.keeps; tail = s; octets = h.1.octets }
@@ -148,12 +149,12 @@ octets_extend P U s (Err e) old new h = h.extends
 pub rest_extends : (s : List ℕ) (r : Result (Unit {0}) ProtoError) (old new : Writing) → EmitsField Rest s r old new → Extends old new
 rest_extends s r old new h = octets_extend (Unit {0}) (true ≡ false) s r old new (rest_emits s r old new h)
 
-pub place_refused : (v : ParameterValue) {e : ProtoError} {old new : Writing} → StoppedField e old (Number 2) 0 new
+pub length_refused : (v : ParameterValue) {e : ProtoError} {old new : Writing} → StoppedField e old (Number 2) 0 new
     → StoppedOctets e old (fits_value v ≡ false) (sized v) new
 unfolding field_octets
-place_refused v {e} h = record { extends = h.extends; why = because_map e _ _ _ _ (λ r. omega (arith, r.full)) (λ u. absurd (cc (u.unfit))) h.why }
+length_refused v {e} h = record { extends = h.extends; why = because_map e _ _ _ _ (λ r. omega (arith, r.full)) (λ u. absurd (cc (u.unfit))) h.why }
 
--- a value is refused behind its length
+-- a value fails after its length
 pub sized_refused : (v : ParameterValue) {e : ProtoError} {old b new : Writing} → AppendedField old (Number 2) 0 b
     → StoppedOctets e b (parameter_emittable v ≡ false) (parameter_octets v) new → StoppedOctets e old (fits_value v ≡ false) (sized v) new
 sized_refused v {e} {old} {b} f h =
@@ -169,7 +170,7 @@ abbrev pub EmitsKey : SvcParamKey → Result (Unit {0}) ProtoError → Writing �
 EmitsKey k r w n = EmitsField (Number 2) (key_number k) r w n
 
 abbrev pub EmitsName : List ℕ → Result (Unit {0}) ProtoError → Writing → Writing → Type 0
-EmitsName s r w n = EmitsField Text s r w n
+EmitsName s r w n = EmitsField CharacterString s r w n
 
 pub keys_emit : (keys : List SvcParamKey) (r : Result (Unit {0}) ProtoError) (w n : Writing) → length keys ≢ 0 → EmitsEach EmitsKey keys r w n
     → EmitsValue (Mandatory (map key_number keys)) r w n
@@ -219,7 +220,8 @@ pub texts_more : {T W : Type 0} (took : W → List ℕ → W → Type 0) (text :
     → DisplaysOnOk took g (okay u) (text x ++? Some (codes ",")) h
     → IsPlainFormatter f → (t : List ℕ) → each_text text (take (i + 1) xs) ≡ Some t → HasWritten took f t h
 texts_more took text i xs x f g h u is lt before one plain t e =
-    let whole : each_text text (take i xs) ++? (text x ++? Some (codes ",")) ≡ Some t = sym (each_push text (take i xs) x) ∙ ap (each_text text) (sym (one_more i xs x x is lt))
+    let whole : each_text text (take i xs) ++? (text x ++? Some (codes ",")) ≡ Some t =
+    sym (each_push text (take i xs) x) ∙ ap (each_text text) (sym (one_more i xs x x is lt))
     ∙ e in
     let p = split_texts (each_text text (take i xs)) (text x ++? Some (codes ",")) t whole in
     let first : HasWritten took f p.0 g = before plain p.0 p.2 in
@@ -234,7 +236,7 @@ each_known text (x ∷ xs) = ap (λ (t : Option (List ℕ)). Some (text x) ++? (
 
 -- a parameter's octets
 abbrev pub spelled : Numbered ParameterValue → List ℕ
-spelled x = piece (as_piece parameter_octets x)
+spelled x = tlv (as_tlv parameter_octets x)
 
 abbrev pub EmitsOne : Parameter → Result (Unit {0}) ProtoError → Writing → Writing → Type 0
 EmitsOne p r w n = EmitsParameter (parameter_of p) r w n
@@ -242,8 +244,8 @@ EmitsOne p r w n = EmitsParameter (parameter_of p) r w n
 abbrev fits : Numbered ParameterValue → Bool
 fits x = fits_value x.1
 
-octets_of : (v : List (Numbered ParameterValue)) → flat_map spelled v ≡ pieces (parameter_pieces v)
-octets_of v = sym (flat_map-map piece (as_piece parameter_octets) v)
+octets_of : (v : List (Numbered ParameterValue)) → flat_map spelled v ≡ tlvs (parameter_tlvs v)
+octets_of v = sym (flat_map-map tlv (as_tlv parameter_octets) v)
 
 -- one more key that rises
 pub risen_next : (last : Option ℕ) (i : ℕ) (ps : List Parameter) (p : Parameter) (n : ℕ) → p ≡ get_or ps i p → i < length ps
@@ -264,7 +266,7 @@ all_emitted ps w n h r =
     let all = each_emitted ps (Ok tt) w n h in
     record { keeps = all.1.keeps; field = record { is = (all.0, r, all.1.octets ∙ ap (λ (l : List ℕ). w.octets ++ l) (octets_of (map parameter_of ps))) } }
 
--- one is refused
+-- one fails
 pub one_stopped : (ps : List Parameter) (e : ProtoError) (w n : Writing) → EmitsEach EmitsOne ps (Err e) w n
     → StoppedField e w Parameters (map parameter_of ps) n
 unfolding field_octets

@@ -1,11 +1,11 @@
 pub mod Splits
-pub mod ParameterWords
+pub mod ParameterTokens
 pub mod ValueReads
 pub mod ParameterLists
 pub mod EachEmits
 pub mod ParameterReads
 pub mod SvcbValues
-pub mod PieceSteps
+pub mod ParameterSteps
 pub mod ItemLists
 pub mod OwnValues
 pub mod SvcbFronts

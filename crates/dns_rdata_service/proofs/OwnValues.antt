@@ -1,6 +1,6 @@
 -- The keys that parameters are compared by tell their fields.
 use Rattle.std.proofs.Common.{◌≡◌, List, [], ◌∷◌, map, drop, get_or, refl, sym, ap, ◌∙◌, arith}
-use Rattle.dns_fields.specs.Pieces.{Mandatory}
+use Rattle.dns_fields.specs.Tlvs.{Mandatory}
 use Rattle.dns_rdata_service.specs.{SvcParamKey.key_number, Parameters.Parameter, Parameters.parameter_of, Parameters.own_parameter}
 use Rattle.dns_rdata_service.specs.{declared.svcb.key.SvcParamKey.SvcParamKey, declared.svcb.value.SvcParamValue.SvcParamValue}
 use Rattle.dns_rdata_service.specs.SvcParamValue.{key_numbers, value_key, value_of}

@@ -4,17 +4,17 @@ use Rattle.std.proofs.{lemmas.List.length-append, lemmas.List.length-drop, lemma
 use Rattle.std.specs.Int.{bytes_high_first}
 use Rattle.dns_types.specs.declared.error.DecodeError.{DecodeError}
 use Rattle.dns_fields.specs.Fields.{Number, Octets, Rest, Parameters, Field, Values, Kind, Name, Value, Stands, EndsItself}
-use Rattle.dns_fields.specs.{Pieces.Numbered, Pieces.ParameterValue, Pieces.ParameterHeld, Pieces.piece, Pieces.rising, Octets.At, Octets.AreOctets}
+use Rattle.dns_fields.specs.{Tlvs.Numbered, Tlvs.ParameterValue, Tlvs.ParameterHeld, Tlvs.tlv, Tlvs.rising, Octets.At, Octets.AreOctets}
 use Rattle.dns_fields.specs.Labels.{DomainName}
-use Rattle.dns_fields.proofs.{Pieces.piece_before, Pieces.heads_same, Pieces.first_piece, FieldLaws.field_inside, FieldLaws.field_end}
+use Rattle.dns_fields.proofs.{Tlvs.tlv_before, Tlvs.heads_same, Tlvs.first_tlv, FieldLaws.field_inside, FieldLaws.field_end}
 use Rattle.dns_fields.proofs.Numbers.{length-bytes}
-use Rattle.dns_names_wire.specs.Words.{TookField, StaysBehind, UnlessMemory, TookWindow, RefusedWindow, NoWindow, Window}
+use Rattle.dns_names_wire.specs.Terms.{TookField, StaysBehind, UnlessMemory, TookRegion, RefusedRegion, NoRegion, Region}
 use Rattle.dns_names_wire.specs.State.{Reading}
 use Rattle.dns_names_wire.proofs.FieldReads.{unless_map, unless_all, stays, took_stays, stands_inside, refused_then, refused_past}
-use Rattle.dns_names_wire.proofs.{WindowReads.Given, WindowReads.filled_window, Strings.at_then}
-use Rattle.dns_rdata_base.specs.Refusing.{FirstLack}
-use Rattle.dns_rdata_service.specs.Parameters.{Parameter, parameter_of, parameter_from, AreRead, HaveTexts, IsAbove, CutValue, RefusedValue}
-use Rattle.dns_rdata_service.specs.{Parameters.IsParameterRefusal, Parameters.IsParametersRefusal, SvcParamValue.value_of, SvcParamValue.HasText}
+use Rattle.dns_names_wire.proofs.{RegionReads.Given, RegionReads.filled_region, Strings.at_then}
+use Rattle.dns_rdata_base.specs.FieldErrors.{FirstLack}
+use Rattle.dns_rdata_service.specs.Parameters.{Parameter, parameter_of, parameter_from, AreRead, HaveTexts, IsAbove, TruncatedValue, RefusedValue}
+use Rattle.dns_rdata_service.specs.{Parameters.IsParameterError, Parameters.IsParametersError, SvcParamValue.value_of, SvcParamValue.HasText}
 use Rattle.dns_rdata_service.specs.{SVCB.svcb_shape, SVCB.svcb_fields, SVCB.MeetsSvcbCondition, declared.svcb.SVCB.SVCB, SvcParamKey.key_number}
 use Rattle.dns_rdata_service.specs.Hints.{StandEach}
 use Rattle.dns_rdata_service.proofs.ParameterLists.{Risen, risen_push, risen_not, risen_rises, fails_test, OneOf, one_long, one_once, one_of}
@@ -35,7 +35,7 @@ one_taken {old} {a} {b} {new} {key} {size} {n} {octets} {v} f g h same held =
     subst (λ (k : ℕ). At old.message a.index (bytes_high_first 2 k) b.index) (sym long)
     (subst (λ (m : List ℕ). At m a.index (bytes_high_first 2 size) b.index) f.message g.field.is.1) in
     let third : At old.message b.index octets new.index = subst (λ (m : List ℕ). At m b.index octets new.index) mg h.field.is.1 in
-    let whole : At old.message old.index (piece (key, octets)) new.index = at_then f.field.is.1 (at_then second third) in
+    let whole : At old.message old.index (tlv (key, octets)) new.index = at_then f.field.is.1 (at_then second third) in
     let one : OneOf old.message old.index (key, v) new.index =
     record { octets = octets; at = whole; fits = (f.field.is.0, omega (arith, long, g.field.is.0)); held = held } in
     record { message = h.message ∙ mg; field = each_parameters whole.within (new.index, one, refl) (tt, tt) }
@@ -49,14 +49,14 @@ lacking_none {old} (inr (n, between, took, inl h)) =
     record { none = λ x q o u. omega (arith, h.1, one_long o, o.at.within, took.field.is.1.ends, length-bytes 2 n, ap length took.message) }
 lacking_none {old} (inr (n, between, took, inr h)) = absurd h.3
 
-cut_none : {old new : Reading} {e : DecodeError} → CutValue old e new → NoParameter old
-cut_none {old} {new} c = record {
+truncated_none : {old new : Reading} {e : DecodeError} → TruncatedValue old e new → NoParameter old
+truncated_none {old} {new} c = record {
   none = λ x q o u.
       let a = c.took.stands in
       let heads : drop old.index old.message ≡ bytes_high_first 2 c.key ++ (bytes_high_first 2 c.size ++ drop a.2.0 old.message) = at_split a.1.is.1
       ∙ ap (λ (l : List ℕ). bytes_high_first 2 c.key ++ l) (at_split a.2.1.is.1) in
       let h = heads_same x.0 c.key (length o.octets) c.size (o.octets ++ drop q old.message) (drop a.2.0 old.message) o.fits.0 a.1.is.0 o.fits.1 a.2.1.is.0
-      (sym (at_split o.at ∙ piece_before (x.0, o.octets) (drop q old.message)) ∙ heads) in
+      (sym (at_split o.at ∙ tlv_before (x.0, o.octets) (drop q old.message)) ∙ heads) in
       omega (
         arith,
         h.1,
@@ -65,7 +65,7 @@ cut_none {old} {new} c = record {
         length-drop a.2.0 old.message,
         a.2.2,
         c.all,
-        c.cut,
+        c.truncated,
         ap length c.took.message,
       );
 }
@@ -77,18 +77,18 @@ value_refused {old} {new} {e} c = unless_map e _ _ (λ (n : NoKeyValue c.key c.o
       let heads : drop old.index old.message ≡ bytes_high_first 2 c.key ++ (bytes_high_first 2 (length c.octets) ++ (c.octets ++ drop a.2.2.0 old.message)) =
       at_split a.1.is.1 ∙ ap (λ (l : List ℕ). bytes_high_first 2 c.key ++ l)
       (at_split a.2.1.is.1 ∙ ap (λ (l : List ℕ). bytes_high_first 2 (length c.octets) ++ l) (at_split a.2.2.1.is)) in
-      let h = first_piece (x.0, o.octets) (c.key, c.octets) (drop q old.message) (drop a.2.2.0 old.message) o.fits (a.1.is.0, a.2.1.is.0)
-      (sym (at_split o.at) ∙ (heads ∙ sym (piece_before (c.key, c.octets) (drop a.2.2.0 old.message)))) in
+      let h = first_tlv (x.0, o.octets) (c.key, c.octets) (drop q old.message) (drop a.2.2.0 old.message) o.fits (a.1.is.0, a.2.1.is.0)
+      (sym (at_split o.at) ∙ (heads ∙ sym (tlv_before (c.key, c.octets) (drop a.2.2.0 old.message)))) in
       n.none x.1 (subst (λ (z : Numbered (List ℕ)). ParameterHeld z.0 z.1 x.1) h.0 o.held) (subst (λ (z : Numbered (List ℕ)). HasText z.0 x.1) h.0 u);
 }) (key_none c.key c.octets e c.refused)
 
--- what is refused as a parameter is none
-parameter_none : {old new : Reading} (e : DecodeError) → IsParameterRefusal old e new → UnlessMemory e (NoParameter old)
+-- what fails as a parameter is none
+parameter_none : {old new : Reading} (e : DecodeError) → IsParameterError old e new → UnlessMemory e (NoParameter old)
 parameter_none e (inl h) = unless_all e (lacking_none h)
-parameter_none e (inr (inl h)) = unless_all e (cut_none h)
+parameter_none e (inr (inl h)) = unless_all e (truncated_none h)
 parameter_none e (inr (inr h)) = value_refused h
 
-parameter_behind : {old new : Reading} (e : DecodeError) → IsParameterRefusal old e new → StaysBehind old new
+parameter_behind : {old new : Reading} (e : DecodeError) → IsParameterError old e new → StaysBehind old new
 parameter_behind {old} e (inl (inl h)) = subst (StaysBehind old) (sym h.2) (stays old)
 parameter_behind {old} e (inl (inr (n, between, took, inl h))) = subst (StaysBehind old) (sym h.2) (took_stays took (stays between))
 parameter_behind e (inl (inr (n, between, took, inr h))) = absurd h.3
@@ -135,21 +135,22 @@ pub on_longer : {d b : Reading} {x : Numbered ParameterValue} → TookField d Pa
 on_longer f = one_long (one_of f.field)
 
 pub on_taken : {old d : Reading} {ps : List Parameter} {last : Option ℕ} → ParametersOn old ps last d → TookField old Parameters (map parameter_of ps) d
-on_taken {ps = ps} {last = last} on = record { message = on.each.behind.message; field = each_parameters on.within on.each.stand (risen_rises last (map parameter_of ps) on.risen) }
+on_taken {ps = ps} {last = last} on =
+    record { message = on.each.behind.message; field = each_parameters on.within on.each.stand (risen_rises last (map parameter_of ps) on.risen) }
 
 -- ---- how the loop ends, where n octets are left of the record
 
 abbrev pub HaveParameterTexts : Values (Parameters ∷ []) → Type 0
 HaveParameterTexts vs = HaveTexts vs.0
 
--- all that stand there have one more, where octets are left
+-- all that are encoded there have one more, if octets are left
 pub record NextOf (m : List ℕ) (p end : ℕ) (xs v : List (Numbered ParameterValue)) : Type 0 where
   pub next : Numbered ParameterValue
   pub rest : List (Numbered ParameterValue)
   pub same : v ≡ xs ++ next ∷ rest
-  pub place : ℕ
-  pub one : OneOf m p next place
-  pub before : place ≤ end
+  pub offset : ℕ
+  pub one : OneOf m p next offset
+  pub before : offset ≤ end
 
 next_of : {old d : Reading} {ps : List Parameter} {last : Option ℕ} {end : ℕ} {v : List (Numbered ParameterValue)} → ParametersOn old ps last d
     → d.index < end → Field old.message old.index Parameters v end → NextOf old.message d.index end (map parameter_of ps) v
@@ -159,73 +160,73 @@ next_of {old} {d} {ps} {last} {end} {v} on lt f =
     some : (rest : List (Numbered ParameterValue)) → v ≡ map parameter_of ps ++ rest → StandEach OneOf old.message d.index rest end
         → NextOf old.message d.index end (map parameter_of ps) v
     some [] same s = absurd (omega (arith, lt, s))
-    some (x ∷ rest) same s = record { next = x; rest = rest; same = same; place = s.0; one = s.1; before = each_inside old.message s.0 rest end s.2 }
+    some (x ∷ rest) same s = record { next = x; rest = rest; same = same; offset = s.0; one = s.1; before = each_inside old.message s.0 rest end s.2 }
 
--- no window, where no parameters stand to its end
-no_window : {old : Reading} {n : ℕ} → ((v : List (Numbered ParameterValue)) → Field old.message old.index Parameters v (old.index + n) → HaveTexts v → ⊥)
-    → NoWindow old.message old.index n (Parameters ∷ []) HaveParameterTexts
-no_window {old} {n} none = record
+-- no region, if no parameters are encoded to its end
+no_region : {old : Reading} {n : ℕ} → ((v : List (Numbered ParameterValue)) → Field old.message old.index Parameters v (old.index + n) → HaveTexts v → ⊥)
+    → NoRegion old.message old.index n (Parameters ∷ []) HaveParameterTexts
+no_region {old} {n} none = record
     { none = λ vs w. none vs.0 (subst (λ (q : ℕ). Field old.message old.index Parameters vs.0 q) w.stands.2 w.stands.1) w.holds }
 
--- a parameter is refused
+-- a parameter is rejected
 pub on_refused : {e : DecodeError} {old d b : Reading} {ps : List Parameter} {last : Option ℕ} (n : ℕ) → d.index + 4 ≤ old.index + n
-    → ParametersOn old ps last d → IsParameterRefusal d e b → RefusedWindow e old n (Parameters ∷ []) HaveParameterTexts b
+    → ParametersOn old ps last d → IsParameterError d e b → RefusedRegion e old n (Parameters ∷ []) HaveParameterTexts b
 on_refused {e} {old} {d} {b} {ps} {last} n room on h = record {
   behind = stays_then on.each.behind (parameter_behind e h);
-  none = unless_map e _ _ (λ (l : NoParameter d). no_window (λ v f u.
+  none = unless_map e _ _ (λ (l : NoParameter d). no_region (λ v f u.
       let x = next_of on (omega (arith, room)) f in
       let text = all_behind (λ y. HasText y.0 y.1) (map parameter_of ps) (x.next ∷ x.rest) (subst HaveTexts x.same u) in
-      l.none x.next x.place (subst (λ (m : List ℕ). OneOf m d.index x.next x.place) (sym on.each.behind.message) x.one) text.0)) (parameter_none e h);
+      l.none x.next x.offset (subst (λ (m : List ℕ). OneOf m d.index x.next x.offset) (sym on.each.behind.message) x.one) text.0)) (parameter_none e h);
 }
 
 -- a key is not above the last one
 pub on_order : {old d b : Reading} {ps : List Parameter} {last : Option ℕ} {x : Numbered ParameterValue} (e : DecodeError) (n : ℕ)
     → d.index + 4 ≤ old.index + n → ParametersOn old ps last d → TookField d Parameters (x ∷ []) b → (IsAbove last x.0 → ⊥)
-    → RefusedWindow e old n (Parameters ∷ []) HaveParameterTexts b
+    → RefusedRegion e old n (Parameters ∷ []) HaveParameterTexts b
 on_order {old} {d} {b} {ps} {last} {x} e n room on f fails = record {
   behind = stays_then on.each.behind (took_stays f (stays b));
-  none = unless_all e (no_window (λ v g u.
+  none = unless_all e (no_region (λ v g u.
       let y = next_of on (omega (arith, room)) g in
       let same : y.next ≡ x = (one_once y.one (one_here on f)).0 in
       let whole : v ≡ map parameter_of ps ++ x ∷ y.rest = y.same ∙ ap (λ (z : Numbered ParameterValue). map parameter_of ps ++ z ∷ y.rest) same in
       fails_test v (ap rising whole ∙ risen_not last (map parameter_of ps) x y.rest on.risen fails) g.is.rising));
 }
 
--- a parameter ends behind the record
+-- a parameter ends after the end of RDATA
 pub on_passed : {old d b : Reading} {ps : List Parameter} {last : Option ℕ} {x : Numbered ParameterValue} (e : DecodeError) (n : ℕ)
     → d.index + 4 ≤ old.index + n → ParametersOn old ps last d → TookField d Parameters (x ∷ []) b → old.index + n < b.index
-    → RefusedWindow e old n (Parameters ∷ []) HaveParameterTexts b
+    → RefusedRegion e old n (Parameters ∷ []) HaveParameterTexts b
 on_passed {old} {d} {b} {ps} {last} {x} e n room on f past = record {
   behind = stays_then on.each.behind (took_stays f (stays b));
-  none = unless_all e (no_window (λ v g u.
+  none = unless_all e (no_region (λ v g u.
       let y = next_of on (omega (arith, room)) g in
       omega (arith, (one_once y.one (one_here on f)).1, y.before, past)));
 }
 
 -- or fewer than four octets are left
 pub on_done : {old d : Reading} {ps : List Parameter} {last : Option ℕ} (n : ℕ) → Given old n → d.index ≤ old.index + n
-    → old.index + n < d.index + 4 → ParametersOn old ps last d → TookWindow old n (Parameters ∷ []) HaveParameterTexts (map parameter_of ps, tt) d
+    → old.index + n < d.index + 4 → ParametersOn old ps last d → TookRegion old n (Parameters ∷ []) HaveParameterTexts (map parameter_of ps, tt) d
 on_done {old} {d} {ps} {last} n g le short on = record {
   behind = on.each.behind;
   here = λ same.
       let f : Field old.message old.index Parameters (map parameter_of ps) (old.index + n) =
       subst (λ (q : ℕ). Field old.message old.index Parameters (map parameter_of ps) q) same (on_taken on).field in
       record { octets = g.octets; short = g.short; within = (field_inside f).1; stands = (old.index + n, f, refl); holds = on.texts };
-  elsewhere = λ ne. no_window (λ v f u.
+  elsewhere = λ ne. no_region (λ v f u.
       let x = next_of on (omega (arith, le, ne)) f in
       omega (arith, one_long x.one, x.before, short));
 }
 
--- ---- why it is refused
+-- ---- why it is rejected
 
-pub parameter_refusal : {e : DecodeError} {old d b : Reading} {ps : List Parameter} {last : Option ℕ} (p n : ℕ) → ParametersOn old ps last d → d.index + 4 ≤ p + n
-    → IsParameterRefusal d e b → IsParametersRefusal p n old e b
-parameter_refusal {d = d} {ps = ps} p n on room h =
+pub parameter_error : {e : DecodeError} {old d b : Reading} {ps : List Parameter} {last : Option ℕ} (p n : ℕ) → ParametersOn old ps last d → d.index + 4 ≤ p + n
+    → IsParameterError d e b → IsParametersError p n old e b
+parameter_error {d = d} {ps = ps} p n on room h =
     inr (inl (record { before = map parameter_of ps; between = d; took = on_taken on; room = room; refused = h }))
 
-pub order_refusal : {old d b : Reading} {ps : List Parameter} {last : Option ℕ} {x : Numbered ParameterValue} (p n : ℕ) → ParametersOn old ps last d
-    → TookField d Parameters (x ∷ []) b → (IsAbove last x.0 → ⊥) → IsParametersRefusal p n old decode.SvcParamsOutOfOrder b
-order_refusal {old} {d} {b} {ps} {last} {x} p n on f fails =
+pub order_error : {old d b : Reading} {ps : List Parameter} {last : Option ℕ} {x : Numbered ParameterValue} (p n : ℕ) → ParametersOn old ps last d
+    → TookField d Parameters (x ∷ []) b → (IsAbove last x.0 → ⊥) → IsParametersError p n old decode.SvcParamsOutOfOrder b
+order_error {old} {d} {b} {ps} {last} {x} p n on f fails =
     inr (inr (inl (record {
       before = map parameter_of ps;
       between = d;
@@ -237,17 +238,17 @@ order_refusal {old} {d} {b} {ps} {last} {x} p n on f fails =
           fails_test (map parameter_of ps ++ x ∷ []) (risen_not last (map parameter_of ps) x [] on.risen fails);
     })))
 
-pub passed_refusal : {old d : Reading} {ps : List Parameter} {last : Option ℕ} (p n size : ℕ) → ParametersOn old ps last d → n < size → d.index ≡ p + size
-    → IsParametersRefusal p n old (decode.IncorrectRDataLengthRead size n) d
-passed_refusal {ps = ps} p n size on passed index =
+pub passed_error : {old d : Reading} {ps : List Parameter} {last : Option ℕ} (p n size : ℕ) → ParametersOn old ps last d → n < size → d.index ≡ p + size
+    → IsParametersError p n old (decode.IncorrectRDataLengthRead size n) d
+passed_error {ps = ps} p n size on passed index =
     inr (inr (inr (record { taken = map parameter_of ps; size = size; took = on_taken on; error = refl; passed = passed; index = index })))
 
--- asked of the fields behind the first
+-- the condition on the fields after the first
 abbrev pub BehindOne : (k : Kind) (kinds : List Kind) → (Values kinds → Type 0) → Values (k ∷ kinds) → Type 0
 BehindOne k kinds C vs = C vs.1
 
 none_then : {d b : Reading} {k : Kind} {v : Value k} {kinds : List Kind} {n r : ℕ} (C : Values kinds → Type 0) → EndsItself k → TookField d k v b
-    → b.index + r ≡ d.index + n → NoWindow b.message b.index r kinds C → NoWindow d.message d.index n (k ∷ kinds) (BehindOne k kinds C)
+    → b.index + r ≡ d.index + n → NoRegion b.message b.index r kinds C → NoRegion d.message d.index n (k ∷ kinds) (BehindOne k kinds C)
 none_then {d} {b} {k} {v} {kinds} {n} {r} C ends f all h = record {
   none = λ vs w.
       let s = w.stands in
@@ -266,12 +267,12 @@ none_then {d} {b} {k} {v} {kinds} {n} {r} C ends f all h = record {
 }
 
 took_then : {d b e : Reading} {k : Kind} {v : Value k} {kinds : List Kind} {vs : Values kinds} {n r : ℕ} (C : Values kinds → Type 0) → EndsItself k
-    → TookField d k v b → n < 65536 → b.index + r ≡ d.index + n → TookWindow b r kinds C vs e
-    → TookWindow d n (k ∷ kinds) (BehindOne k kinds C) (v, vs) e
+    → TookField d k v b → n < 65536 → b.index + r ≡ d.index + n → TookRegion b r kinds C vs e
+    → TookRegion d n (k ∷ kinds) (BehindOne k kinds C) (v, vs) e
 took_then {d} {b} {e} {k} {v} {kinds} {vs} {n} {r} C ends f short all h = record {
   behind = took_stays f h.behind;
   here = λ same.
-      let w : Window b.message b.index r kinds C vs = h.here (omega (arith, same, all)) in
+      let w : Region b.message b.index r kinds C vs = h.here (omega (arith, same, all)) in
       let rest : Stands d.message b.index kinds vs (d.index + n) = subst (λ (m : List ℕ). Stands m b.index kinds vs (d.index + n)) f.message
       (subst (λ (q : ℕ). Stands b.message b.index kinds vs q) all w.stands) in
       record {
@@ -286,8 +287,8 @@ took_then {d} {b} {e} {k} {v} {kinds} {vs} {n} {r} C ends f short all h = record
 }
 
 refused_behind : {e : DecodeError} {d b c : Reading} {k : Kind} {v : Value k} {kinds : List Kind} {n r : ℕ} (C : Values kinds → Type 0)
-    → EndsItself k → TookField d k v b → b.index + r ≡ d.index + n → RefusedWindow e b r kinds C c
-    → RefusedWindow e d n (k ∷ kinds) (BehindOne k kinds C) c
+    → EndsItself k → TookField d k v b → b.index + r ≡ d.index + n → RefusedRegion e b r kinds C c
+    → RefusedRegion e d n (k ∷ kinds) (BehindOne k kinds C) c
 refused_behind {e} C ends f all h = record { behind = took_stays f h.behind; none = unless_map e _ _ (none_then C ends f all) h.none }
 
 -- ---- SVCB
@@ -299,20 +300,20 @@ abbrev BehindName : Values (Name ∷ Tail) → Type 0
 BehindName = BehindOne Name Tail HaveParameterTexts
 
 pub svcb_took : {d a b e : Reading} {priority : ℕ} {target : DomainName} {vs : Values Tail} (n r : ℕ) → TookField d (Number 2) priority a
-    → TookField a Name target b → n < 65536 → b.index + r ≡ d.index + n → TookWindow b r Tail HaveParameterTexts vs e
-    → TookWindow d n svcb_shape MeetsSvcbCondition (priority, (target, vs)) e
+    → TookField a Name target b → n < 65536 → b.index + r ≡ d.index + n → TookRegion b r Tail HaveParameterTexts vs e
+    → TookRegion d n svcb_shape MeetsSvcbCondition (priority, (target, vs)) e
 svcb_took {d} {a} {b} {e} {priority} {target} {vs} n r f g short all h =
     let left : a.index + (d.index + n - a.index) ≡ d.index + n = omega (arith, (field_inside g.field).0, all) in
     took_then BehindName tt f short left (took_then HaveParameterTexts tt g (omega (arith, left, (field_inside f.field).0, short)) (omega (arith, left, all)) h)
 
 pub svcb_refused : {e : DecodeError} {d a b c : Reading} {priority : ℕ} {target : DomainName} (n r : ℕ) → TookField d (Number 2) priority a
-    → TookField a Name target b → b.index + r ≡ d.index + n → RefusedWindow e b r Tail HaveParameterTexts c
-    → RefusedWindow e d n svcb_shape MeetsSvcbCondition c
+    → TookField a Name target b → b.index + r ≡ d.index + n → RefusedRegion e b r Tail HaveParameterTexts c
+    → RefusedRegion e d n svcb_shape MeetsSvcbCondition c
 svcb_refused {e} {d} {a} {b} {c} n r f g all h =
     let left : a.index + (d.index + n - a.index) ≡ d.index + n = omega (arith, (field_inside g.field).0, all) in
     refused_behind BehindName tt f left (refused_behind HaveParameterTexts tt g (omega (arith, left, all)) h)
 
 pub svcb_passed : {d a b : Reading} {priority : ℕ} {target : DomainName} (e : DecodeError) (n : ℕ) → Given d n → TookField d (Number 2) priority a
-    → TookField a Name target b → d.index + n < b.index → RefusedWindow e d n svcb_shape MeetsSvcbCondition b
-svcb_passed {d} {a} {b} e n given f g past = filled_window {T = SVCB} svcb_shape MeetsSvcbCondition svcb_fields (Err e) d b n tt given
+    → TookField a Name target b → d.index + n < b.index → RefusedRegion e d n svcb_shape MeetsSvcbCondition b
+svcb_passed {d} {a} {b} e n given f g past = filled_region {T = SVCB} svcb_shape MeetsSvcbCondition svcb_fields (Err e) d b n tt given
     (refused_then f tt (refused_then g tt (refused_past b (λ vs q c. omega (arith, c.0, past)))))

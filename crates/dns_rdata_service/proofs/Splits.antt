@@ -3,9 +3,9 @@ use Rattle.std.proofs.Common.{◌≡◌, ℕ, ◌*◌, ◌%◌, List, [], ◌∷
 use Rattle.std.proofs.lemmas.Result.{err_from_is_err_and}
 use Rattle.std.specs.{Result.IsErrAnd, List.flat_map, List.AllByRecursion, Int.bytes_high_first}
 use Rattle.std.proofs.{lemmas.List.length-append, lemmas.List.drop-drop, lemmas.List.take-append-drop, Math.Nat.mod-eq_of_lt}
-use Rattle.dns_fields.specs.{Octets.At, Fields.Number, Fields.Field, Pieces.string}
-use Rattle.dns_fields.proofs.{Numbers.length-bytes, Pieces.parts}
-use Rattle.dns_names_wire.specs.{State.Reading, Words.StaysBehind}
+use Rattle.dns_fields.specs.{Octets.At, Fields.Number, Fields.Field, Tlvs.string}
+use Rattle.dns_fields.proofs.{Numbers.length-bytes, Tlvs.parts}
+use Rattle.dns_names_wire.specs.{State.Reading, Terms.StaysBehind}
 
 pub at_split : {m : List ℕ} {p : ℕ} {x : List ℕ} {q : ℕ} → At m p x q → drop p m ≡ x ++ drop q m
 at_split {m} {p} {x} {q} a =
@@ -20,13 +20,13 @@ pub length_numbers : (ns : List ℕ) → length (flat_map (bytes_high_first 2) n
 length_numbers [] = refl
 length_numbers (n ∷ ns) = omega (arith, length-append (bytes_high_first 2 n) (flat_map (bytes_high_first 2) ns), length-bytes 2 n, length_numbers ns)
 
--- an octet and what is behind it
+-- an octet and what follows it
 pub octet_split : {m : List ℕ} {p n q : ℕ} → Field m p (Number 1) n q → drop p m ≡ n ∷ drop q m
 octet_split {m} {p} {n} {q} f =
     let e : n % 256 ≡ n = mod-eq_of_lt f.is.0 in
     at_split f.is.1 ∙ ap (λ (k : ℕ). k ∷ drop q m) e
 
--- what a `?` hands on
+-- what a `?` passes on
 pub is_err : {T E : Type 0} (r : Result T E) (e : E) → IsErrAnd r (λ y. y ≡ e) → r ≡ Err e
 is_err r e h = let p = err_from_is_err_and r h in p.1 ∙ ap Err p.2
 

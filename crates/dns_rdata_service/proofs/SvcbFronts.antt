@@ -6,13 +6,13 @@ use Rattle.std.specs.{Ordering.MatchOrdering, Ordering.nat_cmp, Ordering.orderin
 use Rattle.std.specs.{Cmp.Lexicographic.pointwise, Cmp.Lexicographic.slice_cmp, Cmp.Lexicographic.pointwise_decides, declared.cmp.Ordering.Ordering}
 use Rattle.std.specs.{Cmp.Equal-is, Cmp.ranks, Cmp.unsigned_Decides, Cmp.booleans_Decides, Cmp.nat_cmp_is, List.AllByRecursion, List.flat_map}
 use Rattle.std.specs.{FinMap.nat_cmp-IsAntisymmetric, FinMap.slice_cmp-IsAntisymmetric, Int.bytes_high_first, Prelude.nat_eq}
-use Rattle.dns_fields.specs.{Pieces.string, Pieces.Alpn, Pieces.Opaque, Pieces.Port, Equal.key_eq, Equal.parameter_keys, Equal.values_eq}
+use Rattle.dns_fields.specs.{Tlvs.string, Tlvs.Alpn, Tlvs.Opaque, Tlvs.Port, Equal.key_eq, Equal.parameter_keys, Equal.values_eq}
 use Rattle.dns_fields.specs.{Fields.Number, Fields.Name, Fields.field_octets, Labels.AreLabels, Labels.lowname, Comparing.name_eq}
 use Rattle.dns_fields.proofs.Numbers.{number_cmp, length-bytes, same_number}
-use Rattle.dns_pieces.specs.Fronts.{canonical_cmp, field_cmp}
-use Rattle.dns_pieces.proofs.{Comparing.cmp_shared, Comparing.then_kept, Comparing.then_equal, Fronts.by_fields, Fronts.front_then}
+use Rattle.dns_canonical.specs.Fronts.{canonical_cmp, field_cmp}
+use Rattle.dns_canonical.proofs.{Comparing.cmp_shared, Comparing.then_kept, Comparing.then_equal, Fronts.fields_decide, Fronts.front_then}
 use Rattle.dns_rdata_service.proofs.OwnValues.{value_given}
-use Rattle.dns_rdata_service.specs.ParameterOrder.{OrderFirst, joined, behind_length, value_place, Differ}
+use Rattle.dns_rdata_service.specs.ParameterOrder.{OrderFirst, joined, behind_length, value_rank, Differ}
 use Rattle.dns_rdata_service.specs.SvcParamValue.{value_key, value_of, sized, key_numbers}
 use Rattle.dns_rdata_service.specs.{SVCB.svcb_shape, SVCB.svcb_fields, SVCB.svcb_key_shape, SVCB.svcb_keys, declared.svcb.key.SvcParamKey.SvcParamKey}
 use Rattle.dns_rdata_service.specs.{declared.svcb.value.SvcParamValue.SvcParamValue, SvcParamKey.key_number, SvcParamKey.key_variant}
@@ -21,9 +21,9 @@ use Rattle.dns_rdata_service.specs.Steps.{parameters_from}
 use Rattle.dns_rdata_base.specs.Numbered.{numbered_cmp}
 use Rattle.dns_rdata_service.specs.declared.svcb.value.SvcParamValue.TheVariants as variants
 
--- ---- octets in front of others
+-- ---- octets before others
 
--- the same octets leave it to those behind them
+-- after the same octets, those that follow decide
 pub alike_first : (o : Ordering) (s t : List ℕ) → o ≡ Equal → s ≡ t → OrderFirst o s t
 alike_first o s t e f x y = rw e (cmp_shared {n = length s} record {
   shared = s;
@@ -38,7 +38,7 @@ number_first o w a b e p q x y =
     front_then (bytes_high_first w a) (bytes_high_first w b) x y (length-bytes w a ∙ sym (length-bytes w b))
     ∙ ap (λ (u : Ordering). ordering_then u (slice_cmp nat_cmp x y)) (number_cmp w a b p q ∙ sym e)
 
--- octets behind their length in two octets
+-- a length in two octets, and the octets
 sized_first : (s t : List ℕ) → length s ≤ 65535 → length t ≤ 65535
     → OrderFirst (ordering_then (nat_cmp (length s) (length t)) (slice_cmp nat_cmp s t)) (behind_length s) (behind_length t)
 sized_first s t h k x y =
@@ -52,7 +52,8 @@ sized_first s t h k x y =
     by Greater e = refl
 
 -- by two numbers, and then by octets of which these are the lengths
-pub lengths_first : (r c o : Ordering) (n m : ℕ) (s t : List ℕ) → r ≡ ordering_then c o → c ≡ nat_cmp n m → n ≡ length s → m ≡ length t → o ≡ slice_cmp nat_cmp s t
+pub lengths_first : (r c o : Ordering) (n m : ℕ) (s t : List ℕ) → r ≡ ordering_then c o → c ≡ nat_cmp n m → n ≡ length s → m ≡ length t
+    → o ≡ slice_cmp nat_cmp s t
     → n ≤ 65535 → m ≤ 65535 → OrderFirst r (behind_length s) (behind_length t)
 lengths_first r c o n m s t e f p q g h k = rw (e, f, g, p, q) (sized_first s t (omega (arith, p, h)) (omega (arith, q, k)))
 
@@ -112,7 +113,8 @@ pub items_first : {X : Type 0} (octets_of : X → List ℕ) (k : ℕ) (xs ys : L
 items_first octets_of k xs ys r c o n m some h g e f p q i few less = lengths_first r c o n m _ _ e f p q (i ∙ sym (joined_cmp k _ _ some h g)) few less
 
 -- or they are the same
-pub items_alike : {X : Type 0} (octets_of : X → List ℕ) (xs ys : List X) (o : Ordering) → o ≡ slice_cmp (slice_cmp nat_cmp) (map octets_of xs) (map octets_of ys)
+pub items_alike : {X : Type 0} (octets_of : X → List ℕ) (xs ys : List X) (o : Ordering)
+    → o ≡ slice_cmp (slice_cmp nat_cmp) (map octets_of xs) (map octets_of ys)
     → is_eq o ≡ true → OrderFirst o (behind_length (joined (map octets_of xs))) (behind_length (joined (map octets_of ys)))
 items_alike octets_of xs ys o e h =
     let tie = (Equal-is o).0 h in alike_first o _ _ tie (ap (λ l. behind_length (joined l)) (lists_tie o (map octets_of xs) (map octets_of ys) e tie))
@@ -158,19 +160,22 @@ pub parameters_behind : (a b : SVCB) (o : Ordering) → AreLabels a.target_name.
     → canonical_cmp svcb_shape (svcb_fields a) (svcb_fields b) ≡ ordering_then o (rest_cmp a.svc_params b.svc_params 0)
 unfolding field_octets
 parameters_behind a b o l e =
-    sym (by_fields svcb_shape (svcb_fields a) (svcb_fields b) (tt, (l, (tt, tt))))
+    sym (fields_decide svcb_shape (svcb_fields a) (svcb_fields b) (tt, (l, (tt, tt))))
     ∙ ap (λ (t : Ordering). ordering_then t (rest_cmp a.svc_params b.svc_params 0)) (sym e)
 
 -- priorities and targets that tie, with parameters that are compared by the same, are equal
-pub all_alike : (a b : SVCB) (o : Ordering) → o ≡ ordering_then (ordering_then Equal (field_cmp (Number 2) a.svc_priority b.svc_priority)) (field_cmp Name a.target_name b.target_name)
+pub all_alike : (a b : SVCB) (o : Ordering)
+    → o ≡ ordering_then (ordering_then Equal (field_cmp (Number 2) a.svc_priority b.svc_priority)) (field_cmp Name a.target_name b.target_name)
     → o ≡ Equal → a.svc_priority < 256 ^ 2 → b.svc_priority < 256 ^ 2 → a.target_name.fully_qualified ≡ b.target_name.fully_qualified
     → map own_parameter a.svc_params ≡ map own_parameter b.svc_params → values_eq svcb_key_shape (svcb_keys a) (svcb_keys b) ≡ true
 unfolding field_octets
 all_alike a b o e tie p q marks same =
-    let fronts = both_tie (ordering_then Equal (field_cmp (Number 2) a.svc_priority b.svc_priority)) (field_cmp Name a.target_name b.target_name) (sym e ∙ tie) in
+    let fronts =
+    both_tie (ordering_then Equal (field_cmp (Number 2) a.svc_priority b.svc_priority)) (field_cmp Name a.target_name b.target_name) (sym e ∙ tie) in
     let priority : a.svc_priority ≡ b.svc_priority =
     same_number 2 a.svc_priority b.svc_priority p q (octets_tie (field_cmp (Number 2) a.svc_priority b.svc_priority) (bytes_high_first 2 a.svc_priority) (bytes_high_first 2 b.svc_priority) refl (both_tie Equal _ fronts.0).1) in
-    let target : lowname a.target_name ≡ lowname b.target_name = octets_tie (field_cmp Name a.target_name b.target_name) (lowname a.target_name) (lowname b.target_name) refl fronts.1 in
+    let target : lowname a.target_name ≡ lowname b.target_name =
+    octets_tie (field_cmp Name a.target_name b.target_name) (lowname a.target_name) (lowname b.target_name) refl fronts.1 in
     let numbers : nat_eq a.svc_priority b.svc_priority ≡ true = (unsigned_Decides a.svc_priority b.svc_priority).1 priority in
     let names : name_eq a.target_name b.target_name ≡ true =
     (Decides-and _ _ (pointwise_decides unsigned_Decides (lowname a.target_name) (lowname b.target_name)) (booleans_Decides a.target_name.fully_qualified b.target_name.fully_qualified)).1 (target, marks) in
@@ -179,17 +184,18 @@ all_alike a b o e tie p q marks same =
     (ap parameter_keys same) in
     (λ i. numbers i && (names i && (keys i && true)))
 
--- where all are alike, none are behind them
+-- if all are alike, none follow them
 pub none_behind : (i : ℕ) (ps qs : List Parameter) → i ≡ length ps → i ≡ length qs → map own_parameter (drop i ps) ≡ map own_parameter (drop i qs)
 none_behind i ps qs e f = rw (drop_all i ps (omega arith), drop_all i qs (omega arith)) refl
 
 numbers_order : (j k : SvcParamKey) → numbered_cmp key_number key_variant j k ≡ slice_cmp nat_cmp (key_numbers j) (key_numbers k)
 numbers_order j k = ap (ordering_then (nat_cmp (key_number j) (key_number k))) (sym (then_equal (nat_cmp (key_variant j) (key_variant k))))
 
-pub keys_order : (xs ys : List SvcParamKey) → slice_cmp (numbered_cmp key_number key_variant) xs ys ≡ slice_cmp (slice_cmp nat_cmp) (map key_numbers xs) (map key_numbers ys)
+pub keys_order : (xs ys : List SvcParamKey)
+    → slice_cmp (numbered_cmp key_number key_variant) xs ys ≡ slice_cmp (slice_cmp nat_cmp) (map key_numbers xs) (map key_numbers ys)
 keys_order xs ys = ap (λ R. slice_cmp R xs ys) (λ i j k. numbers_order j k i) ∙ sym (lex_map key_numbers (slice_cmp nat_cmp) xs ys)
 
-pub differ_order : (v w : SvcParamValue) → Differ v w → nat_cmp (value_place v) (value_place w) ≡ slice_cmp (slice_cmp nat_cmp) (value_key v) (value_key w)
+pub differ_order : (v w : SvcParamValue) → Differ v w → nat_cmp (value_rank v) (value_rank w) ≡ slice_cmp (slice_cmp nat_cmp) (value_key v) (value_key w)
 differ_order (variants.Mandatory x) (variants.Mandatory y) d = absurd d
 differ_order v w d = grind arith
 

@@ -1,24 +1,24 @@
--- SVCB and HTTPS by their fields: a record that was read is told by them, and fields of a window make one.
+-- SVCB and HTTPS by their fields: a record that was read is told by them, and fields of a region make one.
 use Rattle.std.proofs.Common.{◌≡◌, inl, inr, ℕ, ◌==◌, ◌&&◌, Bool, true, false, if◌then◌else◌, List, [], ◌∷◌, length, map, refl, sym, ap, ◌∙◌, arith}
 use Rattle.std.proofs.{lemmas.Bool.Decides.same_from_decides, lemmas.Bool.Decides.Decides-like, lemmas.Bool.Decides.nat_tests, lemmas.Simd.map-map}
 use Rattle.std.proofs.{Common.◌⊎◌, Common.nat_le, Common.◌≤◌, lemmas.Grind.common_steps}
 use Rattle.std.specs.List.{flat_map, AllByRecursion}
-use Rattle.dns_fields.specs.Pieces.{Numbered, ParameterValue, Mandatory, Alpn, NoDefaultAlpn, Port, Ipv4Hint, Ipv6Hint, Opaque, ParameterHeld}
-use Rattle.dns_fields.specs.Pieces.{AllHeld, piece, pieces, ParameterForm, Keys, Names, AnyOctets, form_for}
+use Rattle.dns_fields.specs.Tlvs.{Numbered, ParameterValue, Mandatory, Alpn, NoDefaultAlpn, Port, Ipv4Hint, Ipv6Hint, Opaque, ParameterHeld}
+use Rattle.dns_fields.specs.Tlvs.{AllHeld, tlv, tlvs, ParameterForm, Keys, Names, AnyOctets, form_for}
 use Rattle.dns_fields.specs.{Fields.Number, Fields.Name, Fields.Values, Fields.Parameters, Equal.kind_eq, Equal.values_eq, Octets.AreOctets}
-use Rattle.dns_fields.proofs.OctetLaws.{AreOctets-at, AreOctets-front, AreOctets-back, AreOctets-same, piece_body}
+use Rattle.dns_fields.proofs.OctetLaws.{AreOctets-at, AreOctets-front, AreOctets-back, AreOctets-same, tlv_body}
 use Rattle.dns_fields.proofs.EqualLaws.{field_decide}
-use Rattle.dns_names_wire.specs.{State.Reading, Words.Window}
+use Rattle.dns_names_wire.specs.{State.Reading, Terms.Region}
 use Rattle.dns_rdata_base.proofs.{Addresses.octets_of-segments, Addresses.segments_of-octets_of, NumberLaws.number-numbered_of}
-use Rattle.dns_rdata_service.specs.Parameters.{Parameter, parameter_of, parameter_from, own_parameter, AreRead, IsParameterRefusal}
-use Rattle.dns_rdata_service.specs.SvcParamValue.{value_of, value_from, a_octets, a_of, aaaa_octets, aaaa_of, IsFormRefusal, IsKeyRefusal, IsValueOf}
+use Rattle.dns_rdata_service.specs.Parameters.{Parameter, parameter_of, parameter_from, own_parameter, AreRead, IsParameterError}
+use Rattle.dns_rdata_service.specs.SvcParamValue.{value_of, value_from, a_octets, a_of, aaaa_octets, aaaa_of, IsFormError, IsKeyError, IsValueOf}
 use Rattle.dns_rdata_service.specs.declared.svcb.key.SvcParamKey.TheVariants.{Key, Key65535, Unknown}
 use Rattle.dns_rdata_service.specs.SvcParamKey.{key_number, key_of, key_variant, named_keys, other_key}
-use Rattle.dns_rdata_service.specs.SVCB.{svcb_shape, svcb_fields, svcb_key_shape, svcb_keys, IsReadSvcb, IsSvcbRefusal}
+use Rattle.dns_rdata_service.specs.SVCB.{svcb_shape, svcb_fields, svcb_key_shape, svcb_keys, IsReadSvcb, IsSvcbError}
 use Rattle.dns_rdata_service.specs.HTTPS.{https_shape, https_fields, https_key_shape, https_keys, IsReadHttps}
 use Rattle.dns_rdata_service.specs.{declared.svcb.value.SvcParamValue.TheVariants.Unknown as OtherValue, declared.svcb.key.SvcParamKey.SvcParamKey}
 use Rattle.dns_rdata_service.specs.{declared.svcb.value.SvcParamValue.SvcParamValue, declared.svcb.unknown.Unknown.Unknown as Other}
-use Rattle.dns_rdata_service.specs.{declared.svcb.ip_hint.IpHint.IpHint, Parameters.IsParametersRefusal, declared.https.HTTPS.HTTPS}
+use Rattle.dns_rdata_service.specs.{declared.svcb.ip_hint.IpHint.IpHint, Parameters.IsParametersError, declared.https.HTTPS.HTTPS}
 use Rattle.dns_rdata_service.specs.declared.svcb.SVCB.{SVCB}
 use Rattle.dns_rdata_service.proofs.OwnValues.{own_fields}
 use Rattle.dns_rdata_base.specs.{declared.aaaa.AAAA.AAAA, declared.a.A.A}
@@ -45,14 +45,14 @@ above_named : (n : ℕ) → 8 ≤ key_variant (key_of n) → 8 ≤ n
 unfolding key_of
 above_named n h = grind (arith, nat_tests, h)
 
-pub plain_of : (k : SvcParamKey) → k ≡ key_of (key_number k) → ((x : ℕ) × (k ≡ Key x)) ⊎ ((k ≡ Key65535) ⊎ ((x : ℕ) × (k ≡ Unknown x))) → 8 ≤ key_number k
-plain_of k g (inl h) = above_named (key_number k) (rw (← g) (rw h.1 (omega arith)))
-plain_of k g (inr (inl h)) = above_named (key_number k) (rw (← g) (rw h (omega arith)))
-plain_of k g (inr (inr h)) = above_named (key_number k) (rw (← g) (rw h.1 (omega arith)))
+pub unnamed_key : (k : SvcParamKey) → k ≡ key_of (key_number k) → ((x : ℕ) × (k ≡ Key x)) ⊎ ((k ≡ Key65535) ⊎ ((x : ℕ) × (k ≡ Unknown x))) → 8 ≤ key_number k
+unnamed_key k g (inl h) = above_named (key_number k) (rw (← g) (rw h.1 (omega arith)))
+unnamed_key k g (inr (inl h)) = above_named (key_number k) (rw (← g) (rw h (omega arith)))
+unnamed_key k g (inr (inr h)) = above_named (key_number k) (rw (← g) (rw h.1 (omega arith)))
 
 -- the value of a key without a form of its own
-pub plain_value : (n : ℕ) (body : List ℕ) (x : Other) → 8 ≤ n → body ≡ x.0 → IsValueOf n body (OtherValue x)
-plain_value n body x h e = record { held = (sym form, tt, e); given = rw (other, no_path) refl; text = λ is. absurd (omega (arith, is, h)) } where
+pub unnamed_value : (n : ℕ) (body : List ℕ) (x : Other) → 8 ≤ n → body ≡ x.0 → IsValueOf n body (OtherValue x)
+unnamed_value n body x h e = record { held = (sym form, tt, e); given = rw (other, no_path) refl; text = λ is. absurd (omega (arith, is, h)) } where
   form : form_for n ≡ AnyOctets
   form = grind (arith, common_steps, nat_tests, h)
 
@@ -115,22 +115,22 @@ held_wide : (k : ℕ) (body : List ℕ) (v : ParameterValue) → ParameterHeld k
 held_wide k body (Ipv6Hint ss) h a = groups_wide ss h.1 (AreOctets-same body (flat_map (λ s. s) ss) h.2 a)
 held_wide k body v h a = tt
 
-all_wide : (read : List (Numbered (List ℕ))) (v : List (Numbered ParameterValue)) → AllHeld ParameterHeld read v → AreOctets (pieces read)
+all_wide : (read : List (Numbered (List ℕ))) (v : List (Numbered ParameterValue)) → AllHeld ParameterHeld read v → AreOctets (tlvs read)
     → AllByRecursion (λ x. IsWide x.1) v
 all_wide [] [] h a = tt
 all_wide [] (y ∷ ys) h a = absurd h
 all_wide (x ∷ xs) [] h a = absurd h
 all_wide (x ∷ xs) (y ∷ ys) h a = (
-  held_wide y.0 x.1 y.1 h.1 (piece_body x (AreOctets-front (piece x) (pieces xs) a)),
+  held_wide y.0 x.1 y.1 h.1 (tlv_body x (AreOctets-front (tlv x) (tlvs xs) a)),
   all_wide xs ys h.2
-      (AreOctets-back (piece x) (pieces xs) a),
+      (AreOctets-back (tlv x) (tlvs xs) a),
 )
 
-pub svcb_fields-from : (m : List ℕ) (p n : ℕ) (condition : Values svcb_shape → Type 0) (vs : Values svcb_shape) → Window m p n svcb_shape condition vs
+pub svcb_fields-from : (m : List ℕ) (p n : ℕ) (condition : Values svcb_shape → Type 0) (vs : Values svcb_shape) → Region m p n svcb_shape condition vs
     → svcb_fields (svcb_from vs) ≡ vs
 svcb_fields-from m p n condition vs w =
     let s = w.stands.2.2.1.is in
-    let wide = all_wide s.read vs.1.1.0 s.held (AreOctets-at m w.stands.2.0 (pieces s.read) w.stands.2.2.0 w.octets s.at) in
+    let wide = all_wide s.read vs.1.1.0 s.held (AreOctets-at m w.stands.2.0 (tlvs s.read) w.stands.2.2.0 w.octets s.at) in
     ap (λ (v : List (Numbered ParameterValue)). (vs.0, (vs.1.0, (v, tt)))) (parameters_back vs.1.1.0 wide)
 
 -- ---- and is read
@@ -166,27 +166,27 @@ pub svcb_equal : (a b : SVCB) → IsReadSvcb a → IsReadSvcb b
 svcb_equal a b x y = ap (λ (t : Bool). kind_eq (Number 2) a.svc_priority b.svc_priority && (kind_eq Name a.target_name b.target_name && (t && true)))
     (parameters_equal a.svc_params b.svc_params x y)
 
--- ---- the refusal by a type's number is none of SVCB's
+-- ---- the error with a type number is none of SVCB's
 
-form_never : (f : ParameterForm) (body : List ℕ) (k : ℕ) → IsFormRefusal f body (decode.UnknownRecordTypeValue k) → ⊥
+form_never : (f : ParameterForm) (body : List ℕ) (k : ℕ) → IsFormError f body (decode.UnknownRecordTypeValue k) → ⊥
 form_never Keys body k h = grind arith
 form_never Names body k h = grind arith
 form_never AnyOctets body k h = h
 form_never f body k h = let e = h.0 in cc e
 
-key_never : (key : ℕ) (body : List ℕ) (k : ℕ) → IsKeyRefusal key body (decode.UnknownRecordTypeValue k) → ⊥
+key_never : (key : ℕ) (body : List ℕ) (k : ℕ) → IsKeyError key body (decode.UnknownRecordTypeValue k) → ⊥
 key_never key body k h = grind (arith, form_never (form_for key) body k)
 
-parameters_never : (p n : ℕ) (old new : Reading) (k : ℕ) → IsParametersRefusal p n old (decode.UnknownRecordTypeValue k) new → ⊥
+parameters_never : (p n : ℕ) (old new : Reading) (k : ℕ) → IsParametersError p n old (decode.UnknownRecordTypeValue k) new → ⊥
 parameters_never p n old new k (inl e) = cc e
 parameters_never p n old new k (inr (inl h)) = parameter_never h.between new k h.refused where
-  parameter_never : (old new : Reading) (k : ℕ) → IsParameterRefusal old (decode.UnknownRecordTypeValue k) new → ⊥
+  parameter_never : (old new : Reading) (k : ℕ) → IsParameterError old (decode.UnknownRecordTypeValue k) new → ⊥
   parameter_never old new k (inl h) = grind arith
   parameter_never old new k (inr (inl h)) = let e = h.error in cc e
   parameter_never old new k (inr (inr h)) = key_never h.key h.octets k h.refused
 parameters_never p n old new k (inr (inr h)) = grind arith
 
-pub svcb_never : (n : ℕ) (old new : Reading) (k : ℕ) → IsSvcbRefusal n old (decode.UnknownRecordTypeValue k) new → ⊥
+pub svcb_never : (n : ℕ) (old new : Reading) (k : ℕ) → IsSvcbError n old (decode.UnknownRecordTypeValue k) new → ⊥
 svcb_never n old new k (inl h) = grind arith
 svcb_never n old new k (inr (inl h)) = let e = h.error in cc e
 svcb_never n old new k (inr (inr h)) = parameters_never old.index n h.between new k h.refused
@@ -199,7 +199,7 @@ https_from vs = record { 0 = svcb_from vs }
 pub https_from-fields : (x : HTTPS) → IsReadHttps x → x ≡ https_from (https_fields x)
 https_from-fields x r = ap (λ (y : SVCB). record { 0 = y }) (svcb_from-fields x.0 r)
 
-pub https_fields-from : (m : List ℕ) (p n : ℕ) (condition : Values https_shape → Type 0) (vs : Values https_shape) → Window m p n https_shape condition vs
+pub https_fields-from : (m : List ℕ) (p n : ℕ) (condition : Values https_shape → Type 0) (vs : Values https_shape) → Region m p n https_shape condition vs
     → https_fields (https_from vs) ≡ vs
 https_fields-from = svcb_fields-from
 

@@ -4,15 +4,15 @@ use Rattle.std.proofs.lemmas.List.{drop_all, length-append, length-drop, map-id,
 use Rattle.std.proofs.Common.{sym, append_assoc, true, false, ◌+◌, take, Result, Err}
 use Rattle.std.specs.{Prelude.IsUtf8, Prelude.IfOk, Prelude.IfErr, List.flat_map, List.AllByRecursion, Int.bytes_high_first}
 use Rattle.dns_types.specs.{declared.error.DecodeError.DecodeError, declared.error.ProtoError.ProtoError}
-use Rattle.dns_fields.specs.Pieces.{string, ParameterValue, ParameterForm, Keys, Names, form_of, Mandatory, Alpn, NoDefaultAlpn, Port, Ipv4Hint, Ipv6Hint}
-use Rattle.dns_fields.specs.Pieces.{Opaque, Nothing, PortNumber, Addresses4, Addresses16, AnyOctets, IsEmittable, IsBody, form_for, ParameterHeld}
-use Rattle.dns_fields.specs.{Fields.Text, Fields.Field, Fields.Octets, Fields.Stands, Fields.field_octets, Octets.At, Octets.AreOctets}
-use Rattle.dns_names_wire.specs.Words.{TookField, StaysBehind, UnlessMemory, LacksOctets, LacksText, Emits, EmitsOctets}
+use Rattle.dns_fields.specs.Tlvs.{string, ParameterValue, ParameterForm, Keys, Names, form_of, Mandatory, Alpn, NoDefaultAlpn, Port, Ipv4Hint, Ipv6Hint}
+use Rattle.dns_fields.specs.Tlvs.{Opaque, Nothing, PortNumber, Addresses4, Addresses16, AnyOctets, IsEmittable, IsBody, form_for, ParameterHeld}
+use Rattle.dns_fields.specs.{Fields.CharacterString, Fields.Field, Fields.Octets, Fields.Stands, Fields.field_octets, Octets.At, Octets.AreOctets}
+use Rattle.dns_names_wire.specs.Terms.{TookField, StaysBehind, UnlessMemory, LacksOctets, LacksText, Emits, EmitsOctets}
 use Rattle.dns_names_wire.specs.State.{Reading, Writing}
 use Rattle.dns_names_wire.proofs.{FieldReads.stays, FieldReads.unless_map, FieldReads.unless_all, FieldWrites.because_map}
 use Rattle.dns_rdata_base.specs.{declared.aaaa.AAAA.AAAA, Numbered.NumberedAt, declared.a.A.A}
-use Rattle.dns_rdata_service.specs.SvcParamValue.{mandatory_value, alpn_value, AreGiven, ToEnd, MandatoryAt, AlpnAt, CutName, WrongName, HasText}
-use Rattle.dns_rdata_service.specs.SvcParamValue.{IsValueRefusal, IsFormRefusal, IsKeyRefusal, a_octets, aaaa_octets, a_of, aaaa_of}
+use Rattle.dns_rdata_service.specs.SvcParamValue.{mandatory_value, alpn_value, AreGiven, ToEnd, MandatoryAt, AlpnAt, TruncatedName, WrongName, HasText}
+use Rattle.dns_rdata_service.specs.SvcParamValue.{IsValueError, IsFormError, IsKeyError, a_octets, aaaa_octets, a_of, aaaa_of}
 use Rattle.dns_rdata_service.specs.{Hints.StandEach, Hints.StopsBefore, Hints.StandToEnd, Hints.ReadsEach, Hints.EmitsEach}
 use Rattle.dns_rdata_service.specs.{declared.svcb.mandatory.Mandatory.Mandatory as MandatoryKeys, SvcParamKey.key_number, SvcParamKey.key_of}
 use Rattle.dns_rdata_service.specs.{declared.svcb.key.SvcParamKey.SvcParamKey, declared.svcb.alpn.Alpn.Alpn as Protocols}
@@ -41,7 +41,7 @@ each_more S {old} {d} {b} {items} {x} on f s =
           (subst (λ (m : List ℕ). S m d.index x b.index) on.behind.message s);
     }
 
--- the octets of what stands, under a view, and a fact of each
+-- the octets of what is encoded, under a view, and a fact of each
 pub record AreSplit {X Y : Type 0} (view : X → Y) (octets : Y → List ℕ) (P : Y → Type 0) (m : List ℕ) (p : ℕ) (items : List X) (q : ℕ) : Type 0 where
   pub split : drop p m ≡ flat_map octets (map view items) ++ drop q m
   pub all : AllByRecursion P (map view items)
@@ -59,7 +59,7 @@ each_split view octets P S m one p (x ∷ xs) q s =
       all = (here.0, rest.all);
     }
 
--- what stands to the end is all octets
+-- what is encoded to the end is all octets
 pub to_end : (m : List ℕ) (p q : ℕ) (s : List ℕ) → length m ≤ q → drop p m ≡ s ++ drop q m → drop p m ≡ s
 to_end m p q s le e = e ∙ ap (λ (l : List ℕ). s ++ l) (drop_all q m le) ∙ append-nil s
 
@@ -75,9 +75,9 @@ no_name : (names : List (List ℕ)) → names ≢ [] → [] ≡ flat_map string 
 no_name [] some e = some refl
 no_name (s ∷ ss) some e = let f : [] ≡ length s ∷ (s ++ flat_map string ss) = e in absurd cc
 
-cut_name : (size : ℕ) (octets : List ℕ) (rest : List (List ℕ)) → length octets < size → flat_map string rest ≡ size ∷ octets → ⊥
-cut_name size octets [] cut e = absurd cc
-cut_name size octets (s ∷ ss) cut e =
+truncated_name : (size : ℕ) (octets : List ℕ) (rest : List (List ℕ)) → length octets < size → flat_map string rest ≡ size ∷ octets → ⊥
+truncated_name size octets [] truncated e = absurd cc
+truncated_name size octets (s ∷ ss) truncated e =
     let f : length s ∷ (s ++ flat_map string ss) ≡ size ∷ octets = e in
     let n : length s ≡ size = cc in
     let t : s ++ flat_map string ss ≡ octets = cc in
@@ -87,24 +87,24 @@ wrong_name : (name rest : List ℕ) (names : List (List ℕ)) → (IsUtf8 name �
 wrong_name name rest [] wrong h e = let f : [] ≡ length name ∷ (name ++ rest) = e in absurd cc
 wrong_name name rest (s ∷ ss) wrong h e = wrong (subst IsUtf8 (string_first s name (flat_map string ss) rest e).0 h.0)
 
-names_none : (body : List ℕ) (e : DecodeError) (names : List (List ℕ)) → IsFormRefusal Names body e → names ≢ [] → AllByRecursion IsUtf8 names
+names_none : (body : List ℕ) (e : DecodeError) (names : List (List ℕ)) → IsFormError Names body e → names ≢ [] → AllByRecursion IsUtf8 names
     → body ≡ flat_map string names → ⊥
 names_none body e names (inl h) some texts b = no_name names some (sym h.1 ∙ b)
 names_none body e names (inr (inl h)) some texts b =
     let c = h.1 in
     let p = strings_prefix c.names names (c.size ∷ c.octets) (sym b ∙ c.split) in
-    cut_name c.size c.octets p.0 c.cut p.2
+    truncated_name c.size c.octets p.0 c.truncated p.2
 names_none body e names (inr (inr h)) some texts b =
     let c = h.1 in
     let p = strings_prefix c.names names (string c.name ++ c.rest) (sym b ∙ c.split) in
     wrong_name c.name c.rest p.0 c.wrong (all_behind IsUtf8 c.names p.0 (subst (AllByRecursion IsUtf8) p.1 texts)) p.2
 
-keys_none : (body : List ℕ) (e : DecodeError) (keys : List ℕ) → IsFormRefusal Keys body e → keys ≢ [] → body ≡ flat_map (bytes_high_first 2) keys → ⊥
+keys_none : (body : List ℕ) (e : DecodeError) (keys : List ℕ) → IsFormError Keys body e → keys ≢ [] → body ≡ flat_map (bytes_high_first 2) keys → ⊥
 keys_none body e [] (inl h) some b = some refl
 keys_none body e (k ∷ ks) (inl h) some b = omega (arith, length_numbers (k ∷ ks), ap length b, ap length h.1)
 keys_none body e keys (inr h) some b = omega (arith, h.1, length_numbers keys, ap length b)
 
-refused_none : (form : ParameterForm) (body : List ℕ) (e : DecodeError) → IsFormRefusal form body e → (v : ParameterValue) → form_of v ≡ form → IsEmittable v
+refused_none : (form : ParameterForm) (body : List ℕ) (e : DecodeError) → IsFormError form body e → (v : ParameterValue) → form_of v ≡ form → IsEmittable v
     → IsBody body v → ⊥
 refused_none Keys body e h (Mandatory keys) f s b = keys_none body e keys h s.0 b
 refused_none Names body e h (Alpn names) f s b = names_none body e names h s.0 b.0 b.1
@@ -115,7 +115,7 @@ refused_none Addresses16 body e h (Ipv6Hint as') f s b = h.1 (omega (arith, ap l
 refused_none AnyOctets body e h v f s b = elim h [ ]
 refused_none form body e h v f s b = absurd (cc f)
 
-pub value_none : (form : ParameterForm) (body : List ℕ) (e : DecodeError) → IsValueRefusal form body e → UnlessMemory e (HoldsNone form body)
+pub value_none : (form : ParameterForm) (body : List ℕ) (e : DecodeError) → IsValueError form body e → UnlessMemory e (HoldsNone form body)
 value_none form body e (inl m) = subst (λ (x : DecodeError). UnlessMemory x (HoldsNone form body)) (sym m) tt
 value_none form body e (inr h) = unless_all e (record { none = refused_none form body e h })
 
@@ -127,16 +127,16 @@ no_path : (key : ℕ) (body : List ℕ) → key ≡ 7 → (IsUtf8 body → ⊥) 
 no_path key body is wrong (Opaque s) h text = wrong (subst IsUtf8 (sym h.2) (text is))
 no_path key body is wrong v h text = let e : form_of v ≡ form_for 7 = h.0 ∙ ap form_for is in absurd (cc e)
 
-pub key_none : (key : ℕ) (body : List ℕ) (e : DecodeError) → IsKeyRefusal key body e → UnlessMemory e (NoKeyValue key body)
+pub key_none : (key : ℕ) (body : List ℕ) (e : DecodeError) → IsKeyError key body e → UnlessMemory e (NoKeyValue key body)
 key_none key body e (inl h) = unless_map e _ _ (λ (n : HoldsNone (form_for key) body). record { none = λ v held text. n.none v held.0 held.1 held.2 })
     (value_none (form_for key) body e h)
 key_none key body e (inr (is, inl m)) = subst (λ (x : DecodeError). UnlessMemory x (NoKeyValue key body)) (sym m) tt
 key_none key body e (inr (is, inr h)) = unless_all e (record { none = no_path key body is h.1 })
 
--- what is refused is none of the values that a type holds
+-- what is rejected is none of the values of a type
 pub refused_by : {T : Type 0} (form : ParameterForm) (view : T → ParameterValue) (S : List ℕ → ℕ → T → ℕ → Type 0) (old new : Reading) (e : DecodeError)
     → ((x : T) → form_of (view x) ≡ form) → ((m : List ℕ) (p : ℕ) (x : T) (q : ℕ) → S m p x q → ToEnd m p (view x) q) → StaysBehind old new
-    → IsValueRefusal form (drop old.index old.message) e → StaysBehind old new × UnlessMemory e ((x : T) (q : ℕ) → S old.message old.index x q → ⊥)
+    → IsValueError form (drop old.index old.message) e → StaysBehind old new × UnlessMemory e ((x : T) (q : ℕ) → S old.message old.index x q → ⊥)
 refused_by form view S old new e is to behind h = (
   behind,
   unless_map e (HoldsNone form (drop old.index old.message)) _
@@ -151,7 +151,8 @@ KeyAt = NumberedAt 2 key_number key_of
 
 keys_split : {old d : Reading} {keys : List SvcParamKey} → EachOn KeyAt old keys d
     → AreSplit key_number (bytes_high_first 2) (λ n. n < 256 ^ 2) old.message old.index keys d.index
-keys_split {old} {d} {keys} on = each_split key_number (bytes_high_first 2) (λ n. n < 256 ^ 2) KeyAt old.message (λ p k q s. s.field.is) old.index keys d.index on.stand
+keys_split {old} {d} {keys} on =
+    each_split key_number (bytes_high_first 2) (λ n. n < 256 ^ 2) KeyAt old.message (λ p k q s. s.field.is) old.index keys d.index on.stand
 
 keys_given : (m : List ℕ) (p : ℕ) (keys : List SvcParamKey) (q : ℕ) → StandEach KeyAt m p keys q → AreGiven keys
 keys_given m p [] q s = refl
@@ -183,7 +184,7 @@ keys_odd {old} {d} {keys} on some lacks =
       l,
     )
 
-pub keys_refused : {old new : Reading} (e : DecodeError) → StaysBehind old new → IsValueRefusal Keys (drop old.index old.message) e
+pub keys_refused : {old new : Reading} (e : DecodeError) → StaysBehind old new → IsValueError Keys (drop old.index old.message) e
     → StaysBehind old new × UnlessMemory e ((x : MandatoryKeys) (q : ℕ) → MandatoryAt old.message old.index x q → ⊥)
 keys_refused {old} {new} e = refused_by Keys mandatory_value MandatoryAt old new e (λ x. refl) (λ m p x q s. s.0)
 
@@ -194,7 +195,7 @@ keys_missing d none = keys_refused decode.SvcParamMissingValue (stays d) (inr (i
 -- ---- names of protocols
 
 abbrev pub NameAt : List ℕ → ℕ → List ℕ → ℕ → Type 0
-NameAt m p s q = Field m p Text s q × IsUtf8 s
+NameAt m p s q = Field m p CharacterString s q × IsUtf8 s
 
 names_split : {old d : Reading} {names : List (List ℕ)} (P : List ℕ → Type 0) → ((p : ℕ) (s : List ℕ) (q : ℕ) → NameAt old.message p s q → P s)
     → EachOn NameAt old names d → (drop old.index old.message ≡ flat_map string names ++ drop d.index old.message) × AllByRecursion P names
@@ -219,17 +220,17 @@ names_read {old} {d} {names} on some done within =
       body = ((names_split IsUtf8 (λ p s q f. f.1) on).1, body);
     }
 
-text_left : {old d b : Reading} {s : List ℕ} {names : List (List ℕ)} → EachOn NameAt old names d → TookField d Text s b
+text_left : {old d b : Reading} {s : List ℕ} {names : List (List ℕ)} → EachOn NameAt old names d → TookField d CharacterString s b
     → drop d.index old.message ≡ string s ++ drop b.index old.message
 text_left {old} {d} {b} {s} on f = subst (λ (m : List ℕ). drop d.index m ≡ string s ++ drop b.index m) on.behind.message (at_split f.field.is.1)
 
-pub text_behind : {d b : Reading} {s : List ℕ} → TookField d Text s b → StaysBehind d b
+pub text_behind : {d b : Reading} {s : List ℕ} → TookField d CharacterString s b → StaysBehind d b
 text_behind f = record { message = f.message; index = omega (arith, f.field.is.1.ends) }
 
-pub names_cut : {old d b : Reading} {names : List (List ℕ)} → EachOn NameAt old names d → d.index < length d.message → LacksText d b
-    → CutName (drop old.index old.message)
-names_cut {old} {d} {b} {names} on some (inl l) = absurd (omega (arith, some, l.1))
-names_cut {old} {d} {b} {names} on some (inr l) =
+pub names_truncated : {old d b : Reading} {names : List (List ℕ)} → EachOn NameAt old names d → d.index < length d.message → LacksText d b
+    → TruncatedName (drop old.index old.message)
+names_truncated {old} {d} {b} {names} on some (inl l) = absurd (omega (arith, some, l.1))
+names_truncated {old} {d} {b} {names} on some (inr l) =
     let left : drop d.index old.message ≡ l.0 ∷ drop b.index old.message = subst (λ (m : List ℕ). drop d.index m ≡ l.0 ∷ drop b.index m) on.behind.message
     (octet_split l.1.field) in
     record {
@@ -237,10 +238,10 @@ names_cut {old} {d} {b} {names} on some (inr l) =
       size = l.0;
       octets = drop b.index old.message;
       split = (names_front on) ∙ ap (λ (x : List ℕ). flat_map string names ++ x) left;
-      cut = omega (arith, length-drop b.index old.message, l.2, ap length l.1.message, ap length on.behind.message, l.1.field.is.1.within);
+      truncated = omega (arith, length-drop b.index old.message, l.2, ap length l.1.message, ap length on.behind.message, l.1.field.is.1.within);
     }
 
-pub names_wrong : {old d b : Reading} {names : List (List ℕ)} {s : List ℕ} → EachOn NameAt old names d → TookField d Text s b → (IsUtf8 s → ⊥)
+pub names_wrong : {old d b : Reading} {names : List (List ℕ)} {s : List ℕ} → EachOn NameAt old names d → TookField d CharacterString s b → (IsUtf8 s → ⊥)
     → WrongName (drop old.index old.message)
 names_wrong {old} {d} {b} {names} {s} on f wrong =
     record {
@@ -252,7 +253,7 @@ names_wrong {old} {d} {b} {names} {s} on f wrong =
       wrong = wrong;
     }
 
-pub names_refused : {old new : Reading} (e : DecodeError) → StaysBehind old new → IsValueRefusal Names (drop old.index old.message) e
+pub names_refused : {old new : Reading} (e : DecodeError) → StaysBehind old new → IsValueError Names (drop old.index old.message) e
     → StaysBehind old new × UnlessMemory e ((x : Protocols) (q : ℕ) → AlpnAt old.message old.index x q → ⊥)
 names_refused {old} {new} e = refused_by Names alpn_value AlpnAt old new e (λ x. refl) (λ m p x q s. s)
 
@@ -270,7 +271,7 @@ are_groups : {T : Type 0} (w : ℕ) (octets : T → List ℕ) (m : List ℕ) (p 
 are_groups w octets m = each_split octets (λ s. s) (λ s. length s ≡ w) (GroupAt w octets) m
     (λ p x q s. (s.1.is.0, subst (λ (e : ℕ). At m p (octets x) e) s.2 s.1.is.1))
 
--- w octets stand wherever so many are left
+-- w octets are there if so many are left
 group_here : (w : ℕ) (m : List ℕ) (p : ℕ) → p + w ≤ length m → (length (take w (drop p m)) ≡ w) × At m p (take w (drop p m)) (p + w)
 group_here w m p inside =
     let n : length (take w (drop p m)) ≡ w = omega (arith, length-take w (drop p m), length-drop p m) in
@@ -280,21 +281,21 @@ group_here w m p inside =
 no_stop : {T : Type 0} (w : ℕ) (octets : T → List ℕ) (m : List ℕ) → ((k : ℕ) → w * k < length m → w * k + w ≤ length m)
     → ((s : List ℕ) → length s ≡ w → AreOctets s → (x : T) × (octets x ≡ s)) → AreOctets m → StopsBefore (GroupAt w octets) m 0 → ⊥
 no_stop w octets m room of all h =
-    let g = are_groups w octets m 0 h.items h.place h.stand in
+    let g = are_groups w octets m 0 h.items h.offset h.stand in
     let count = length (map octets h.items) in
-    let place : h.place ≡ w * count = omega (
+    let offset : h.offset ≡ w * count = omega (
       arith,
       h.before,
       ap length g.split,
-      length-append (flat_map (λ s. s) (map octets h.items)) (drop h.place m),
+      length-append (flat_map (λ s. s) (map octets h.items)) (drop h.offset m),
       length_groups w (map octets h.items) g.all,
-      length-drop h.place m,
+      length-drop h.offset m,
     ) in
-    let inside : h.place + w ≤ length m = omega (arith, place, room count (omega (arith, place, h.before))) in
-    let here = group_here w m h.place inside in
-    let x = of (take w (drop h.place m)) here.0 (AreOctets-at m h.place (take w (drop h.place m)) (h.place + w) all here.1) in
-    h.none x.0 (h.place + w) (subst (λ (s : List ℕ). Stands m h.place (Octets w ∷ []) (s, tt) (h.place + w)) (sym x.1)
-    (h.place + w, record { is = here }, refl))
+    let inside : h.offset + w ≤ length m = omega (arith, offset, room count (omega (arith, offset, h.before))) in
+    let here = group_here w m h.offset inside in
+    let x = of (take w (drop h.offset m)) here.0 (AreOctets-at m h.offset (take w (drop h.offset m)) (h.offset + w) all here.1) in
+    h.none x.0 (h.offset + w) (subst (λ (s : List ℕ). Stands m h.offset (Octets w ∷ []) (s, tt) (h.offset + w)) (sym x.1)
+    (h.offset + w, record { is = here }, refl))
 
 unless_none : (e : DecodeError) (P : Type 0) → UnlessMemory e P → (P → ⊥) → e ≡ decode.Memory
 unless_none decode.Memory P h n = refl
@@ -316,7 +317,7 @@ aaaa_octets_of s n all = (aaaa_of s, octets_of-segments 8 s (omega arith) all)
 
 pub hint_refused : {T : Type 0} (form : ParameterForm) (w : ℕ) (octets : T → List ℕ) (body : List ℕ) (new : Reading) (r : Result (IpHint T) DecodeError)
     → ((k : ℕ) → w * k < length body → w * k + w ≤ length body) → ((s : List ℕ) → length s ≡ w → AreOctets s → (x : T) × (octets x ≡ s)) → AreOctets body
-    → ReadsEach (GroupAt w octets) (λ x. x.0) r (record { message = body; index = 0 }) new → IfErr r (IsValueRefusal form body)
+    → ReadsEach (GroupAt w octets) (λ x. x.0) r (record { message = body; index = 0 }) new → IfErr r (IsValueError form body)
 hint_refused form w octets body new (Ok x) room of all h = tt
 hint_refused form w octets body new (Err e) room of all h = inl (unless_none e _ h.1 (no_stop w octets body room of all))
 

@@ -3,7 +3,7 @@ use Rattle.std.specs.{Ordering.on, Prelude.ℕ, Prelude.List}
 use Rattle.dns_types.specs.declared.error.DecodeError.{DecodeError}
 use Rattle.dns_fields.specs.{Fields.Kind, Fields.Values, Order.values_cmp}
 use Rattle.dns_names_wire.specs.{State.Reading, Facts.Facts}
-use Rattle.dns_rdata_service.specs.SVCB.{svcb_shape, svcb_fields, MeetsSvcbCondition, svcb_key_shape, svcb_keys, IsReadSvcb, svcb_text, IsSvcbRefusal, TookService}
+use Rattle.dns_rdata_service.specs.SVCB.{svcb_shape, svcb_fields, MeetsSvcbCondition, svcb_key_shape, svcb_keys, IsReadSvcb, svcb_text, IsSvcbError, TookService}
 use Rattle.dns_rdata_service.specs.declared.https.HTTPS.{HTTPS}
 
 abbrev pub https_shape : List Kind
@@ -27,15 +27,15 @@ IsReadHttps x = IsReadSvcb x.0
 abbrev pub https_text : HTTPS → List ℕ
 https_text x = svcb_text x.0
 
-abbrev pub IsHttpsRefusal : ℕ → Reading → DecodeError → Reading → Type 0
-IsHttpsRefusal n old e new = IsSvcbRefusal n old e new
+abbrev pub IsHttpsError : ℕ → Reading → DecodeError → Reading → Type 0
+IsHttpsError n old e new = IsSvcbError n old e new
 
 abbrev pub https_facts : Facts HTTPS
 https_facts = record {
   kinds = https_shape;
   condition = MeetsHttpsCondition;
   fields = https_fields;
-  refusal = IsHttpsRefusal;
-  made = λ n x old new. TookService n x.0 old new;
+  rejects = IsHttpsError;
+  after_read = λ n x old new. TookService n x.0 old new;
   order = on https_keys (values_cmp https_key_shape);
 }

@@ -1,4 +1,4 @@
--- What a record of a service feeds a hasher: equal records the same.
+-- What a service binding feeds a hasher: equal records feed the same.
 use Rattle.std.specs.Prelude.{◌≡◌, Bool, true, ◌&&◌, ◌++◌, map, nat_eq}
 use Rattle.std.specs.{Cmp.first_so, Cmp.second_so, Cmp.unsigned_Decides, Cmp.Lexicographic.pointwise, Hash.HashWrites, Hash.items_Alike}
 use Rattle.std.specs.Hash as fed
@@ -22,18 +22,27 @@ svcb_fed x = fed.u16 x.svc_priority ++ name_fed x.target_name ++ fed.slice param
 
 parameter_fed_same : (p q : Parameter) → parameter_eq p q ≡ true → parameter_fed p ≡ parameter_fed q
 parameter_fed_same p q h =
-    let keys = key_hash_laws.respects_eq-law p.0 q.0 (first_so (numbered_eq key_number key_variant p.0 q.0) (value_eq p.1 q.1) h) in
-    let values = value_hash_laws.respects_eq-law p.1 q.1 (second_so (numbered_eq key_number key_variant p.0 q.0) (value_eq p.1 q.1) h) in
-    ap (λ (f : HashWrites). f ++ value_hash.ghosts.hash_input p.1) keys ∙ ap (λ (f : HashWrites). key_hash.ghosts.hash_input q.0 ++ f) values
+    let keys =
+    key_hash_laws.respects_eq-law p.0 q.0
+    (first_so (numbered_eq key_number key_variant p.0 q.0) (value_eq p.1 q.1) h) in
+    let values =
+    value_hash_laws.respects_eq-law p.1 q.1
+    (second_so (numbered_eq key_number key_variant p.0 q.0) (value_eq p.1 q.1) h) in
+    ap (λ (f : HashWrites). f ++ value_hash.ghosts.hash_input p.1) keys
+    ∙ ap (λ (f : HashWrites). key_hash.ghosts.hash_input q.0 ++ f) values
 
 pub svcb_fed_same : (x y : SVCB) → values_eq svcb_key_shape (svcb_keys x) (svcb_keys y) ≡ true → svcb_fed x ≡ svcb_fed y
 svcb_fed_same x y h =
-    let P : Bool = pointwise key_eq (parameter_keys (map own_parameter x.svc_params)) (parameter_keys (map own_parameter y.svc_params)) in
+    let P : Bool =
+    pointwise key_eq (parameter_keys (map own_parameter x.svc_params))
+    (parameter_keys (map own_parameter y.svc_params)) in
     let N : Bool = name_eq x.target_name y.target_name in
     let rest : N && (P && true) ≡ true = second_so (nat_eq x.svc_priority y.svc_priority) (N && (P && true)) h in
     let priorities : x.svc_priority ≡ y.svc_priority =
-    (unsigned_Decides x.svc_priority y.svc_priority).0 (first_so (nat_eq x.svc_priority y.svc_priority) (N && (P && true)) h) in
-    let names : name_fed x.target_name ≡ name_fed y.target_name = name_hash_laws.respects_eq-law x.target_name y.target_name (first_so N (P && true) rest) in
+    (unsigned_Decides x.svc_priority y.svc_priority).0
+    (first_so (nat_eq x.svc_priority y.svc_priority) (N && (P && true)) h) in
+    let names : name_fed x.target_name ≡ name_fed y.target_name =
+    name_hash_laws.respects_eq-law x.target_name y.target_name (first_so N (P && true) rest) in
     let same : pointwise parameter_eq x.svc_params y.svc_params ≡ true = parameters_same x.svc_params y.svc_params
     ∙ first_so P true (second_so N (P && true) rest) in
     let params : fed.slice parameter_fed x.svc_params ≡ fed.slice parameter_fed y.svc_params =

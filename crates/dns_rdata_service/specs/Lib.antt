@@ -2,12 +2,12 @@ pub mod SvcParamKey
 pub mod Hints
 pub mod SvcParamValue
 pub mod Parameters
-pub mod ParameterWords
+pub mod ParameterTokens
 pub mod SVCB
 pub mod Changing
 pub mod OwnKeys
 pub mod Hashing
 pub mod HTTPS
 pub mod Steps
-pub mod WordRows
+pub mod TokenRows
 pub mod ParameterOrder

@@ -1,15 +1,15 @@
--- The parameters of a service as fields, and why they are refused (RFC 9460, 2.2).
+-- The parameters of a service as fields, and why they are rejected (RFC 9460, 2.2).
 use Rattle.std.specs.Prelude.{◌≡◌, ◌⊎◌, ℕ, ◌+◌, ◌<◌, ◌≤◌, false, List, [], ◌∷◌, ◌++◌, length, map, Option, Some, None, Result}
 use Rattle.std.specs.List.{AllByRecursion}
 use Rattle.dns_types.specs.{declared.error.DecodeError.DecodeError, declared.error.ProtoError.ProtoError}
 use Rattle.dns_types.specs.declared.error.DecodeError.TheVariants as decode
 use Rattle.dns_fields.specs.Fields.{Number, Rest, Parameters}
-use Rattle.dns_fields.specs.Pieces.{Numbered, ParameterValue, Alpn, ParameterFits, piece, as_piece, parameter_octets, Rising}
-use Rattle.dns_names_wire.specs.{State.Reading, State.Writing, Words.Took, Words.TookField, Words.EmitsOctets}
-use Rattle.dns_rdata_base.specs.Refusing.{FirstLack}
+use Rattle.dns_fields.specs.Tlvs.{Numbered, ParameterValue, Alpn, ParameterFits, tlv, as_tlv, parameter_octets, Rising}
+use Rattle.dns_names_wire.specs.{State.Reading, State.Writing, Terms.Took, Terms.TookField, Terms.EmitsOctets}
+use Rattle.dns_rdata_base.specs.FieldErrors.{FirstLack}
 use Rattle.dns_rdata_service.specs.{declared.svcb.key.SvcParamKey.SvcParamKey, declared.svcb.value.SvcParamValue.SvcParamValue}
 use Rattle.dns_rdata_service.specs.SvcParamKey.{key_number, key_variant, key_of}
-use Rattle.dns_rdata_service.specs.SvcParamValue.{value_of, value_from, value_key, HasText, IsKeyRefusal, fits_value}
+use Rattle.dns_rdata_service.specs.SvcParamValue.{value_of, value_from, value_key, HasText, IsKeyError, fits_value}
 
 -- a key and its value
 abbrev pub Parameter : Type 0
@@ -22,8 +22,8 @@ parameter_of p = (key_number p.0, value_of p.1)
 abbrev pub parameter_from : Numbered ParameterValue → Parameter
 parameter_from x = (key_of x.0, value_from x.0 x.1)
 
--- What is compared: the key's number, and then its variant, the value's variant, and what the value holds, as lists. They
--- stand in the place of names of protocols, whose lists are compared as they are.
+-- What is compared: the key's number, then its variant, the value's variant, and what the value holds, as lists. They
+-- are used like names of protocols, whose lists are compared as they are.
 abbrev pub own_parameter : Parameter → Numbered ParameterValue
 own_parameter p = (key_number p.0, Alpn ((key_variant p.0 ∷ []) ∷ value_key p.1))
 
@@ -31,58 +31,60 @@ own_parameter p = (key_number p.0, Alpn ((key_variant p.0 ∷ []) ∷ value_key 
 abbrev pub AreRead : List Parameter → Type 0
 AreRead ps = ps ≡ map parameter_from (map parameter_of ps)
 
--- a path of DNS queries is UTF-8 wherever one is
+-- a path of DNS queries is UTF-8, if there is one
 abbrev pub HaveTexts : List (Numbered ParameterValue) → Type 0
 HaveTexts v = AllByRecursion (λ x. HasText x.0 x.1) v
 
--- of the n octets from p, parameters are taken up to the last three octets or further, and none past the end
+-- of the n octets from p, parameters are read up to the last three octets or further, and none past the end
 pub record TookParameters (p n : ℕ) (old : Reading) (ps : List Parameter) (new : Reading) : Type 0 where
   pub took : TookField old Parameters (map parameter_of ps) new
   pub texts : HaveTexts (map parameter_of ps)
   pub within : new.index ≤ p + n
   pub left : p + n < new.index + 4
 
--- a key's number is above the last one
+-- a key's number is greater than the last one
 abbrev pub IsAbove : Option ℕ → ℕ → Type 0
 IsAbove None key = Unit {0}
 IsAbove (Some last) key = last < key
 
--- appends a key's number, and a value behind its length
+-- appends a key's number, the length of a value and the value
 abbrev pub EmitsParameter : Numbered ParameterValue → Result (Unit {0}) ProtoError → Writing → Writing → Type 0
-EmitsParameter x r old new = EmitsOctets (ParameterFits x) (fits_value x.1 ≡ false) (piece (as_piece parameter_octets x)) r old new
+EmitsParameter x r old new =
+    EmitsOctets (ParameterFits x) (fits_value x.1 ≡ false) (tlv (as_tlv parameter_octets x)) r old new
 
--- ---- refusals
+-- ---- errors
 
--- key and length are taken, and fewer octets are left
-pub record CutValue (old : Reading) (e : DecodeError) (new : Reading) : Type 0 where
+-- key and length are read, and fewer octets are left
+pub record TruncatedValue (old : Reading) (e : DecodeError) (new : Reading) : Type 0 where
   pub key : ℕ
   pub size : ℕ
   pub left : ℕ
   pub took : Took old (Number 2 ∷ Number 2 ∷ []) (key, (size, tt)) new
   pub error : e ≡ decode.IncorrectRDataLengthRead left size
   pub all : new.index + left ≡ length new.message
-  pub cut : left < size
+  pub truncated : left < size
 
--- key, length and the value's octets are taken, and they are no value of the key
+-- key, length and the octets of the value are read, and they are no value of the key
 pub record RefusedValue (old : Reading) (e : DecodeError) (new : Reading) : Type 0 where
   pub key : ℕ
   pub octets : List ℕ
   pub took : Took old (Number 2 ∷ Number 2 ∷ Rest ∷ []) (key, (length octets, (octets, tt))) new
-  pub refused : IsKeyRefusal key octets e
+  pub refused : IsKeyError key octets e
 
--- one parameter: octets of key or length are missing, or the value is refused
-abbrev pub IsParameterRefusal : Reading → DecodeError → Reading → Type 0
-IsParameterRefusal old e new = FirstLack (Number 2 ∷ Number 2 ∷ []) old e new ⊎ (CutValue old e new ⊎ RefusedValue old e new)
+-- one parameter: octets of key or length are missing, or the value is truncated or rejected
+abbrev pub IsParameterError : Reading → DecodeError → Reading → Type 0
+IsParameterError old e new =
+    FirstLack (Number 2 ∷ Number 2 ∷ []) old e new ⊎ (TruncatedValue old e new ⊎ RefusedValue old e new)
 
--- behind parameters that are taken, one is refused
+-- after parameters that are read, one is rejected
 pub record RefusedParameter (end : ℕ) (old : Reading) (e : DecodeError) (new : Reading) : Type 0 where
   pub before : List (Numbered ParameterValue)
   pub between : Reading
   pub took : TookField old Parameters before between
   pub room : between.index + 4 ≤ end
-  pub refused : IsParameterRefusal between e new
+  pub refused : IsParameterError between e new
 
--- behind parameters that are taken, one is taken whose key is not above theirs
+-- after parameters that are read, one is read whose key is not greater than theirs
 pub record WrongOrder (old : Reading) (e : DecodeError) (new : Reading) : Type 0 where
   pub before : List (Numbered ParameterValue)
   pub between : Reading
@@ -92,7 +94,7 @@ pub record WrongOrder (old : Reading) (e : DecodeError) (new : Reading) : Type 0
   pub error : e ≡ decode.SvcParamsOutOfOrder
   pub order : Rising (before ++ last ∷ []) → ⊥
 
--- parameters are taken, which pass the record's n octets from the place p
+-- parameters are read beyond the n octets of RDATA from the offset p
 pub record PassedParameters (p n : ℕ) (old : Reading) (e : DecodeError) (new : Reading) : Type 0 where
   pub taken : List (Numbered ParameterValue)
   pub size : ℕ
@@ -101,6 +103,7 @@ pub record PassedParameters (p n : ℕ) (old : Reading) (e : DecodeError) (new :
   pub passed : n < size
   pub index : new.index ≡ p + size
 
--- parameters to the end of a record of n octets from p
-abbrev pub IsParametersRefusal : ℕ → ℕ → Reading → DecodeError → Reading → Type 0
-IsParametersRefusal p n old e new = (e ≡ decode.Memory) ⊎ (RefusedParameter (p + n) old e new ⊎ (WrongOrder old e new ⊎ PassedParameters p n old e new))
+-- parameters to the end of n octets of RDATA from p
+abbrev pub IsParametersError : ℕ → ℕ → Reading → DecodeError → Reading → Type 0
+IsParametersError p n old e new =
+    (e ≡ decode.Memory) ⊎ (RefusedParameter (p + n) old e new ⊎ (WrongOrder old e new ⊎ PassedParameters p n old e new))

@@ -5,10 +5,10 @@ use Rattle.dns_types.specs.declared.error.DecodeError.{DecodeError}
 use Rattle.dns_types.specs.declared.error.DecodeError.TheVariants as decode
 use Rattle.dns_fields.specs.{Labels.DomainName, Fields.Kind, Fields.Number, Fields.Name, Fields.Parameters, Fields.Values, Order.values_cmp}
 use Rattle.dns_labels.specs.Text.{name_text}
-use Rattle.dns_names_wire.specs.{State.Reading, Words.Took, Facts.Facts}
-use Rattle.dns_rdata_base.specs.Refusing.{IsLack}
+use Rattle.dns_names_wire.specs.{State.Reading, Terms.Took, Facts.Facts}
+use Rattle.dns_rdata_base.specs.FieldErrors.{IsLack}
 use Rattle.dns_rdata_service.specs.{SvcParamKey.key_number, SvcParamKey.key_text, SvcParamValue.value_text, declared.svcb.SVCB.SVCB}
-use Rattle.dns_rdata_service.specs.Parameters.{Parameter, parameter_of, own_parameter, AreRead, HaveTexts, IsParametersRefusal}
+use Rattle.dns_rdata_service.specs.Parameters.{Parameter, parameter_of, own_parameter, AreRead, HaveTexts, IsParametersError}
 use Rattle.dns_rdata_service.specs.declared.svcb.value.SvcParamValue.{SvcParamValue}
 
 -- priority, target name, parameters
@@ -53,9 +53,9 @@ parameter_text p = codes " " ++ (key_text p.0 ++ (codes "=" ++ value_text p.1))
 abbrev pub svcb_text : SVCB → List ℕ
 svcb_text x = (decimal x.svc_priority ++ (codes " " ++ name_text x.target_name)) ++ flat_map parameter_text x.svc_params
 
--- ---- refusals
+-- ---- errors
 
--- priority and target name are taken, more than the record's n octets
+-- priority and target name are read, and they have more than n octets
 pub record PassedHead (n : ℕ) (old : Reading) (e : DecodeError) (new : Reading) : Type 0 where
   pub priority : ℕ
   pub target : DomainName
@@ -65,22 +65,23 @@ pub record PassedHead (n : ℕ) (old : Reading) (e : DecodeError) (new : Reading
   pub passed : n < size
   pub index : new.index ≡ old.index + size
 
--- priority and target name are taken, and the parameters are refused
+-- priority and target name are read, and the parameters are rejected
 pub record RefusedParameters (n : ℕ) (old : Reading) (e : DecodeError) (new : Reading) : Type 0 where
   pub priority : ℕ
   pub target : DomainName
   pub between : Reading
   pub took : Took old (Number 2 ∷ Name ∷ []) (priority, (target, tt)) between
   pub fits : between.index ≤ old.index + n
-  pub refused : IsParametersRefusal old.index n between e new
+  pub refused : IsParametersError old.index n between e new
 
--- a record of n octets
-abbrev pub IsSvcbRefusal : ℕ → Reading → DecodeError → Reading → Type 0
-IsSvcbRefusal n old e new = IsLack (Number 2 ∷ Name ∷ []) old e new ⊎ (PassedHead n old e new ⊎ RefusedParameters n old e new)
+-- RDATA of n octets
+abbrev pub IsSvcbError : ℕ → Reading → DecodeError → Reading → Type 0
+IsSvcbError n old e new =
+    IsLack (Number 2 ∷ Name ∷ []) old e new ⊎ (PassedHead n old e new ⊎ RefusedParameters n old e new)
 
 -- ---- a value that was read
 
--- Priority, target name and parameters are taken, and of the record's n octets at most three are left.
+-- Priority, target name and parameters are read, and of the n octets of RDATA at most three are left.
 pub record TookService (n : ℕ) (x : SVCB) (old new : Reading) : Type 0 where
   pub read : IsReadSvcb x
   pub took : Took old svcb_shape (svcb_fields x) new
@@ -93,7 +94,7 @@ svcb_facts = record {
   kinds = svcb_shape;
   condition = MeetsSvcbCondition;
   fields = svcb_fields;
-  refusal = IsSvcbRefusal;
-  made = TookService;
+  rejects = IsSvcbError;
+  after_read = TookService;
   order = on svcb_keys (values_cmp svcb_key_shape);
 }

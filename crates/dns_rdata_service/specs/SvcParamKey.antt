@@ -1,5 +1,5 @@
--- The keys of service parameters: the numbers of their variants (RFC 9460, 14.3.2; RFC 9461, 5). One with a number of
--- its own inside has that number.
+-- The keys of service parameters: the numbers of their variants (RFC 9460, 14.3.2; RFC 9461, 5). A variant with a
+-- number inside has that number.
 use Rattle.std.specs.Prelude.{ℕ, nat_le, if◌then◌else◌, List, [], ◌∷◌, ◌++◌, codes, decimal}
 use Rattle.dns_rdata_base.specs.Numbered.{numbered_of}
 use Rattle.dns_rdata_service.specs.declared.svcb.key.SvcParamKey.{SvcParamKey}
@@ -19,7 +19,7 @@ key_number (Key n) = n
 key_number Key65535 = 65535
 key_number (Unknown n) = n
 
--- the place in the declaration
+-- the rank of the variant
 abbrev pub key_variant : SvcParamKey → ℕ
 key_variant Mandatory = 0
 key_variant Alpn = 1
@@ -36,15 +36,15 @@ key_variant (Unknown n) = 10
 abbrev pub named_keys : List SvcParamKey
 named_keys = Mandatory ∷ Alpn ∷ NoDefaultAlpn ∷ Port ∷ Ipv4Hint ∷ EchConfigList ∷ Ipv6Hint ∷ DohPath ∷ Key65535 ∷ []
 
--- what has no number above: from 65280 on numbers are for private use
+-- for the other numbers: from 65280 on they are for private use
 abbrev pub other_key : ℕ → SvcParamKey
 other_key n = if nat_le 65280 n then Key n else Unknown n
 
--- the variant that a number gives
+-- the variant of a number
 unfoldable pub key_of : ℕ → SvcParamKey
 key_of = numbered_of key_number named_keys other_key
 
--- its name (RFC 9460, 2.1 and 14.3.2; RFC 9461, 5), and for another number `key` or `unknown` and the number
+-- its name (RFC 9460, 2.1 and 14.3.2; RFC 9461, 5); without a name `key` or `unknown`, and the number
 unfoldable pub key_text : SvcParamKey → List ℕ
 key_text Mandatory = codes "mandatory"
 key_text Alpn = codes "alpn"

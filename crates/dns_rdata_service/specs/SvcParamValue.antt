@@ -1,14 +1,14 @@
--- The values of service parameters: what each holds, in the octets of which it is read, and its text (RFC 9460, 7 and 8;
+-- The values of service parameters: what each holds, the octets that it is read from, and its text (RFC 9460, 7 and 8;
 -- RFC 9461, 5).
 use Rattle.std.specs.Prelude.{◌≡◌, ◌≢◌, ◌⊎◌, ℕ, ◌%◌, ◌^◌, ◌<◌, ◌==◌, ◌&&◌, nat_le, Bool, false, if◌then◌else◌, List, [], ◌∷◌, ◌++◌, length, drop, map, codes}
 use Rattle.std.specs.{Net.Addr.ipv4_octets, Net.Addr.ipv6_octets, Net.Addr.segments_of, Prelude.decimal, Prelude.IsUtf8, Prelude.Result}
 use Rattle.std.specs.{Int.bytes_high_first, List.flat_map}
 use Rattle.base64.specs.{GeneralPurpose.encode_of, Engines.standard}
 use Rattle.dns_types.specs.{declared.error.DecodeError.DecodeError, declared.error.ProtoError.ProtoError}
-use Rattle.dns_fields.specs.Pieces.{string, ParameterValue, Mandatory, Alpn, NoDefaultAlpn, Port, Ipv4Hint, Ipv6Hint, Opaque, ParameterForm, Keys, Names}
-use Rattle.dns_fields.specs.Pieces.{Nothing, PortNumber, Addresses4, Addresses16, AnyOctets, IsEmittable, IsBody, ParameterHeld, form_for}
-use Rattle.dns_fields.specs.Pieces.{parameter_octets, parameter_emittable}
-use Rattle.dns_names_wire.specs.{State.Writing, Words.EmitsOctets}
+use Rattle.dns_fields.specs.Tlvs.{string, ParameterValue, Mandatory, Alpn, NoDefaultAlpn, Port, Ipv4Hint, Ipv6Hint, Opaque, ParameterForm, Keys, Names}
+use Rattle.dns_fields.specs.Tlvs.{Nothing, PortNumber, Addresses4, Addresses16, AnyOctets, IsEmittable, IsBody, ParameterHeld, form_for}
+use Rattle.dns_fields.specs.Tlvs.{parameter_octets, parameter_emittable}
+use Rattle.dns_names_wire.specs.{State.Writing, Terms.EmitsOctets}
 use Rattle.dns_rdata_base.specs.{declared.aaaa.AAAA.AAAA, AAAA.aaaa_text, declared.a.A.A, Lossy.lossy, A.a_text}
 use Rattle.dns_rdata_service.specs.{SvcParamKey.key_number, SvcParamKey.key_variant, SvcParamKey.key_of, SvcParamKey.key_text}
 use Rattle.dns_rdata_service.specs.{declared.svcb.ech_config_list.EchConfigList.EchConfigList as Config, declared.svcb.key.SvcParamKey.SvcParamKey}
@@ -79,11 +79,11 @@ value_from key (Opaque s) =
 
 -- ---- as keys of their own, for comparing
 
--- a key's number, and then its place in the declaration
+-- a key's number, and then the rank of its variant
 abbrev pub key_numbers : SvcParamKey → List ℕ
 key_numbers k = key_number k ∷ key_variant k ∷ []
 
--- a value's place in the declaration, and then what it holds
+-- the rank of a value's variant, and then what it holds
 abbrev pub value_key : SvcParamValue → List (List ℕ)
 value_key (variants.Mandatory x) = (0 ∷ []) ∷ map key_numbers x.0
 value_key (variants.Alpn x) = (1 ∷ []) ∷ x.0
@@ -101,7 +101,7 @@ value_key (variants.Unknown x) = (8 ∷ []) ∷ x.0 ∷ []
 abbrev pub HasText : ℕ → ParameterValue → Type 0
 HasText key value = key ≡ 7 → IsUtf8 (parameter_octets value)
 
--- the octets hold the value as that of the key with this number
+-- the octets are the value of the key with this number
 pub record IsValueOf (key : ℕ) (body : List ℕ) (v : SvcParamValue) : Type 0 where
   pub held : ParameterHeld key body (value_of v)
   pub given : v ≡ value_from key (value_of v)
@@ -111,7 +111,7 @@ pub record IsValueOf (key : ℕ) (body : List ℕ) (v : SvcParamValue) : Type 0 
 abbrev pub AreGiven : List SvcParamKey → Type 0
 AreGiven keys = keys ≡ map key_of (map key_number keys)
 
--- the octets from p to the message's end are the value's
+-- the octets from p to the end of the message are the value's
 pub record ToEnd (m : List ℕ) (p : ℕ) (value : ParameterValue) (q : ℕ) : Type 0 where
   pub ends : q ≡ length m
   pub emittable : IsEmittable value
@@ -132,15 +132,15 @@ DohPathAt m p x q = ToEnd m p (doh_path_value x) q × IsUtf8 x.0
 abbrev pub UnknownAt : List ℕ → ℕ → Other → ℕ → Type 0
 UnknownAt m p x q = ToEnd m p (unknown_value x) q
 
--- names of protocols, and behind them an octet of length and fewer octets
-pub record CutName (body : List ℕ) : Type 0 where
+-- names of protocols, and after them an octet of length and fewer octets than it says
+pub record TruncatedName (body : List ℕ) : Type 0 where
   pub names : List (List ℕ)
   pub size : ℕ
   pub octets : List ℕ
   pub split : body ≡ flat_map string names ++ size ∷ octets
-  pub cut : length octets < size
+  pub truncated : length octets < size
 
--- names of protocols, and behind them one that is not UTF-8
+-- names of protocols, and after them one that is not UTF-8
 pub record WrongName (body : List ℕ) : Type 0 where
   pub names : List (List ℕ)
   pub name : List ℕ
@@ -148,40 +148,41 @@ pub record WrongName (body : List ℕ) : Type 0 where
   pub split : body ≡ flat_map string names ++ (string name ++ rest)
   pub wrong : IsUtf8 name → ⊥
 
--- why octets are no value of a form
-abbrev pub IsFormRefusal : ParameterForm → List ℕ → DecodeError → Type 0
-IsFormRefusal Keys body e = ((e ≡ decode.SvcParamMissingValue) × (body ≡ [])) ⊎ ((e ≡ decode.InsufficientBytes) × (length body % 2 ≡ 1))
-IsFormRefusal Names body e = ((e ≡ decode.SvcParamMissingValue) × (body ≡ []))
-    ⊎ (((e ≡ decode.InsufficientBytes) × CutName body) ⊎ ((e ≡ decode.Utf8) × WrongName body))
-IsFormRefusal Nothing body e = (e ≡ decode.IncorrectRDataLengthRead (length body) 0) × (body ≢ [])
-IsFormRefusal PortNumber body e = (e ≡ decode.InsufficientBytes) × (length body < 2)
-IsFormRefusal Addresses4 body e = (e ≡ decode.InsufficientBytes) × (length body % 4 ≢ 0)
-IsFormRefusal Addresses16 body e = (e ≡ decode.InsufficientBytes) × (length body % 16 ≢ 0)
-IsFormRefusal AnyOctets body e = ⊥
+-- why octets are no value of a format
+abbrev pub IsFormError : ParameterForm → List ℕ → DecodeError → Type 0
+IsFormError Keys body e =
+    ((e ≡ decode.SvcParamMissingValue) × (body ≡ [])) ⊎ ((e ≡ decode.InsufficientBytes) × (length body % 2 ≡ 1))
+IsFormError Names body e = ((e ≡ decode.SvcParamMissingValue) × (body ≡ []))
+    ⊎ (((e ≡ decode.InsufficientBytes) × TruncatedName body) ⊎ ((e ≡ decode.Utf8) × WrongName body))
+IsFormError Nothing body e = (e ≡ decode.IncorrectRDataLengthRead (length body) 0) × (body ≢ [])
+IsFormError PortNumber body e = (e ≡ decode.InsufficientBytes) × (length body < 2)
+IsFormError Addresses4 body e = (e ≡ decode.InsufficientBytes) × (length body % 4 ≢ 0)
+IsFormError Addresses16 body e = (e ≡ decode.InsufficientBytes) × (length body % 16 ≢ 0)
+IsFormError AnyOctets body e = ⊥
 
 -- or memory runs out
-abbrev pub IsValueRefusal : ParameterForm → List ℕ → DecodeError → Type 0
-IsValueRefusal form body e = (e ≡ decode.Memory) ⊎ IsFormRefusal form body e
+abbrev pub IsValueError : ParameterForm → List ℕ → DecodeError → Type 0
+IsValueError form body e = (e ≡ decode.Memory) ⊎ IsFormError form body e
 
 -- why octets are no path of DNS queries, or memory runs out
-abbrev pub IsPathRefusal : List ℕ → DecodeError → Type 0
-IsPathRefusal body e = (e ≡ decode.Memory) ⊎ ((e ≡ decode.Utf8) × (IsUtf8 body → ⊥))
+abbrev pub IsPathError : List ℕ → DecodeError → Type 0
+IsPathError body e = (e ≡ decode.Memory) ⊎ ((e ≡ decode.Utf8) × (IsUtf8 body → ⊥))
 
 -- why octets are no value of a key
-abbrev pub IsKeyRefusal : ℕ → List ℕ → DecodeError → Type 0
-IsKeyRefusal key body e = IsValueRefusal (form_for key) body e ⊎ ((key ≡ 7) × IsPathRefusal body e)
+abbrev pub IsKeyError : ℕ → List ℕ → DecodeError → Type 0
+IsKeyError key body e = IsValueError (form_for key) body e ⊎ ((key ≡ 7) × IsPathError body e)
 
 -- ---- emitting
 
--- its octets, behind their length in two octets
+-- a length in two octets, and its octets
 abbrev pub sized : ParameterValue → List ℕ
 sized v = bytes_high_first 2 (length (parameter_octets v)) ++ parameter_octets v
 
--- it has octets, at most 65535
+-- it can be emitted, in at most 65535 octets
 abbrev pub FitsValue : ParameterValue → Type 0
 FitsValue v = (length (parameter_octets v) < 256 ^ 2) × IsEmittable v
 
--- whether it has octets, at most 65535
+-- whether it can be emitted, in at most 65535 octets
 abbrev pub fits_value : ParameterValue → Bool
 fits_value v = nat_le (length (parameter_octets v)) 65535 && parameter_emittable v
 
@@ -189,7 +190,7 @@ fits_value v = nat_le (length (parameter_octets v)) 65535 && parameter_emittable
 abbrev pub EmitsValue : ParameterValue → Result (Unit {0}) ProtoError → Writing → Writing → Type 0
 EmitsValue v r old new = EmitsOctets (IsEmittable v) (parameter_emittable v ≡ false) (parameter_octets v) r old new
 
--- appends them behind their length
+-- appends their length and then the octets
 abbrev pub EmitsSized : ParameterValue → Result (Unit {0}) ProtoError → Writing → Writing → Type 0
 EmitsSized v r old new = EmitsOctets (FitsValue v) (fits_value v ≡ false) (sized v) r old new
 

@@ -2,7 +2,7 @@
 
 ghost use Rattle.std.specs.{Cmp.Lexicographic.slice_cmp, Prelude.◌≡◌, Prelude.map, Ordering.nat_cmp};
 ghost use Rattle.dns_fields.specs.{Equal.key_cmp, Equal.parameter_keys, Order.values_cmp};
-ghost use Rattle.dns_rdata_service.specs.{ParameterOrder.parameter_order, ParameterOrder.value_place, ParameterOrder.Differ, SVCB.svcb_key_shape, SVCB.svcb_keys};
+ghost use Rattle.dns_rdata_service.specs.{ParameterOrder.parameter_order, ParameterOrder.value_rank, ParameterOrder.Differ, SVCB.svcb_key_shape, SVCB.svcb_keys};
 ghost use Rattle.dns_rdata_service.specs.{SvcParamValue.key_numbers, SvcParamValue.value_key, Parameters.own_parameter};
 
 use crate::hints::hints_cmp;
@@ -17,10 +17,10 @@ fn keys_cmp(a: &[SvcParamKey], b: &[SvcParamKey]) -> Ordering
     a.cmp(b)
 }
 
-// The place in the declaration.
+// The rank of the variant.
 #[inline]
-fn place(value: &SvcParamValue) -> u8
-    ensures { result ≡ value_place value.now }
+fn rank(value: &SvcParamValue) -> u8
+    ensures { result ≡ value_rank value.now }
 {
     match value {
         SvcParamValue::Mandatory(_) => 0,
@@ -35,14 +35,14 @@ fn place(value: &SvcParamValue) -> u8
     }
 }
 
-// The order of two values of different variants: by the place in the declaration.
+// The order of two values of different variants: by rank.
 #[inline]
 #[tactic(auto, using(crate::proofs::SvcbFronts::differ_order))]
 fn places_cmp(a: &SvcParamValue, b: &SvcParamValue) -> Ordering
     requires { Differ a.now b.now }
     ensures { result ≡ slice_cmp (slice_cmp nat_cmp) (value_key a.now) (value_key b.now) }
 {
-    place(a).cmp(&place(b))
+    rank(a).cmp(&rank(b))
 }
 
 // The order of two values: by variant, and then by what both hold.
@@ -69,7 +69,8 @@ fn parameter_cmp(a: &Parameter, b: &Parameter) -> Ordering
     a.0.cmp(&b.0).then(value_cmp(&a.1, &b.1))
 }
 
-// The order of two lists of parameters: parameter by parameter, and a list that ends first comes first.
+// The order of two lists of parameters: parameter by parameter. If one list is the beginning of the other, it comes
+// first.
 fn parameters_cmp(a: &[Parameter], b: &[Parameter]) -> Ordering
     ensures { result ≡ slice_cmp key_cmp (parameter_keys (map own_parameter a.now)) (parameter_keys (map own_parameter b.now)) }
 {
@@ -84,7 +85,7 @@ fn parameters_cmp(a: &[Parameter], b: &[Parameter]) -> Ordering
 }
 
 /// By priority, target and parameters: each by its key's number and variant, its value's variant, and its data.
-#[tactic(auto, using(dns_pieces::proofs::Comparing::then_equal))]
+#[tactic(auto, using(dns_canonical::proofs::Comparing::then_equal))]
 pub fn svcb_cmp(a: &SVCB, b: &SVCB) -> Ordering
     ensures { result ≡ values_cmp svcb_key_shape (svcb_keys a.now) (svcb_keys b.now) }
 {

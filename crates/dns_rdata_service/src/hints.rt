@@ -2,11 +2,11 @@
 
 ghost use Rattle.std.specs.Prelude.{◌≡◌, ◌<◌, ◌≤◌, ℕ, List, IfSome, length, map};
 ghost use Rattle.std.specs.{Cmp.Lexicographic.slice_cmp, Ordering.nat_cmp, List.AllByRecursion, declared.cmp.Ordering.TheVariants.Equal};
-ghost use Rattle.dns_fields.specs.Pieces.{Opaque};
+ghost use Rattle.dns_fields.specs.Tlvs.{Opaque};
 ghost use Rattle.dns_rdata_service.specs.{SvcParamValue.a_octets, SvcParamValue.aaaa_octets, Steps.IsSizeOf};
 ghost use Rattle.dns_rdata_service.specs.ParameterOrder.{OrderFirst, behind_length, joined};
 
-use dns_pieces::order::octets_cmp;
+use dns_canonical::order::octets_cmp;
 use dns_rdata_base::{A, AAAA};
 use std::cmp::Ordering;
 
@@ -77,7 +77,7 @@ pub(crate) fn hints_size<const N: usize, T: Address<N>>(addresses: &[T]) -> Opti
     ensures size { IsSizeOf (Opaque (joined (map T.octets addresses.now))) result }
     ensures width { AllByRecursion (λ s. length s ≡ N) (map T.octets addresses.now) }
 {
-    //     Nothing is done here: reading the addresses shows for the proof how many octets each has.
+    // For the proof: shows how many octets each address has.
     for address in addresses {
         let _octets = address.to_octets();
     }

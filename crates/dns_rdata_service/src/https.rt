@@ -1,4 +1,4 @@
-//! HTTPS: how a web service is reached (RFC 9460, 9).
+//! HTTPS: how a web service is reached (RFC 9460, section 9).
 
 ghost use Rattle.std.specs.Prelude.{◌≡◌, ◌≤◌, length, IfOk};
 ghost use Rattle.std.specs.{List.Sorted.IsPermutation, List.Sorted.IsNonDecreasingBy, List.Sorted.IsStableByKey, Ordering.nat_cmp};

@@ -8,7 +8,7 @@ pub mod items;
 pub mod order;
 pub mod steps;
 pub mod svcb;
-mod words;
+mod tokens;
 
 pub use https::HTTPS;
 pub use items::Items;

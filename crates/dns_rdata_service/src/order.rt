@@ -1,9 +1,9 @@
-//! Service bindings ordered by their canonical octets, up to the first parameters whose order is not easily told.
+//! The order of service bindings by canonical octets, up to the first parameters whose order only a cursor tells.
 
 ghost use Rattle.std.specs.Prelude.{◌≡◌, ◌≤◌, drop, length, map, true, IfSome, IsTrue};
 ghost use Rattle.std.specs.{Ordering.nat_cmp, Ordering.ordering_then, declared.cmp.Ordering.TheVariants.Equal, Cmp.Lexicographic.slice_cmp};
-ghost use Rattle.dns_fields.specs.{Pieces.Alpn as Names, Pieces.Opaque, Pieces.Port, Equal.values_eq};
-ghost use Rattle.dns_pieces.specs.Fronts.{canonical_cmp};
+ghost use Rattle.dns_fields.specs.{Tlvs.Alpn as Names, Tlvs.Opaque, Tlvs.Port, Equal.values_eq};
+ghost use Rattle.dns_canonical.specs.Fronts.{canonical_cmp};
 ghost use Rattle.dns_rdata_service.specs.{SVCB.svcb_shape, SVCB.svcb_fields, SVCB.svcb_key_shape, SVCB.svcb_keys, Parameters.own_parameter};
 ghost use Rattle.dns_rdata_service.specs.{SvcParamValue.sized, SvcParamValue.value_key, SvcParamValue.value_of, Steps.parameters_from};
 ghost use Rattle.dns_rdata_service.specs.ParameterOrder.{OrderFirst, parameter_octets_of};
@@ -14,27 +14,27 @@ use crate::https::HTTPS;
 use crate::items::Items;
 use crate::steps::{names_size, octets_size, svcb_is_emittable};
 use crate::svcb::{Parameter, SVCB, SvcParamValue};
+use dns_canonical::order::slices_behind;
+use dns_canonical::{name_behind, two_behind};
 use dns_names_wire::SmallOctets;
-use dns_pieces::order::slices_behind;
-use dns_pieces::{name_behind, two_behind};
 use dns_rdata_base::OrderedRecord;
 use std::cmp::Ordering;
 
 impl OrderedRecord for HTTPS {
     #[inline]
-    fn quick_cmp(&self, other: &HTTPS) -> Option<Ordering> {
-        self.0.quick_cmp(&other.0)
+    fn cmp_canonical_fields(&self, other: &HTTPS) -> Option<Ordering> {
+        self.0.cmp_canonical_fields(&other.0)
     }
 
-    fn cmp_fields(&self, other: &HTTPS) -> Ordering {
-        self.0.cmp_fields(&other.0)
+    fn cmp_values(&self, other: &HTTPS) -> Ordering {
+        self.0.cmp_values(&other.0)
     }
 }
 
 impl OrderedRecord for SVCB {
     /// The order is known if the first parameters that differ decide it, or if none differ.
     #[inline]
-    fn quick_cmp(&self, other: &SVCB) -> Option<Ordering> {
+    fn cmp_canonical_fields(&self, other: &SVCB) -> Option<Ordering> {
         let (order, alike) = svcb_front(self, other);
         if order.is_eq() {
             return if is_all(self, other, alike) {
@@ -49,12 +49,12 @@ impl OrderedRecord for SVCB {
         Some(order)
     }
 
-    fn cmp_fields(&self, other: &SVCB) -> Ordering {
+    fn cmp_values(&self, other: &SVCB) -> Ordering {
         svcb_cmp(self, other)
     }
 }
 
-// Whether both have just this many parameters, and both targets are relative or neither is.
+// Whether both have exactly this many parameters, and both targets are relative or neither is.
 #[inline]
 fn is_all(a: &SVCB, b: &SVCB, count: usize) -> bool
     ensures { IsTrue result → (count ≡ length a.now.svc_params) × (count ≡ length b.now.svc_params) × (a.now.target_name.fully_qualified ≡ b.now.target_name.fully_qualified) }
@@ -71,7 +71,7 @@ pub fn svcb_front(a: &SVCB, b: &SVCB) -> (Ordering, usize)
     ensures order { canonical_cmp svcb_shape (svcb_fields a.now) (svcb_fields b.now) ≡ ordering_then result.0 (slice_cmp nat_cmp (parameters_from a.now.svc_params result.1) (parameters_from b.now.svc_params result.1)) }
     ensures first { result.1 ≤ length a.now.svc_params }
     ensures second { result.1 ≤ length b.now.svc_params }
-    //     Where no parameters differ, the records are equal if both targets are relative or neither is.
+    // If no parameters differ, the records are equal if both targets are relative or neither is.
     ensures equal { result.0 ≡ Equal → result.1 ≡ length a.now.svc_params → result.1 ≡ length b.now.svc_params → a.now.target_name.fully_qualified ≡ b.now.target_name.fully_qualified → values_eq svcb_key_shape (svcb_keys a.now) (svcb_keys b.now) ≡ true }
 {
     let priority = two_behind(Ordering::Equal, a.svc_priority, b.svc_priority);
@@ -82,8 +82,8 @@ pub fn svcb_front(a: &SVCB, b: &SVCB) -> (Ordering, usize)
     parameters_front(a.svc_params.as_slice(), b.svc_params.as_slice())
 }
 
-// The order of two lists of parameters by those in front of a place, and that place. It is `Equal` where those in front of the
-// place are the same; then the parameters from the place on decide.
+// The order of two lists by the parameters before an index, and that index. The order is `Equal` if all before the
+// index are the same; then the parameters from the index on decide.
 fn parameters_front(a: &[Parameter], b: &[Parameter]) -> (Ordering, usize)
     ensures order { slice_cmp nat_cmp (parameters_from a.now 0) (parameters_from b.now 0) ≡ ordering_then result.0 (slice_cmp nat_cmp (parameters_from a.now result.1) (parameters_from b.now result.1)) }
     ensures first { result.1 ≤ length a.now }
@@ -102,7 +102,7 @@ fn parameters_front(a: &[Parameter], b: &[Parameter]) -> (Ordering, usize)
     (Ordering::Equal, shorter)
 }
 
-// The order of two parameters by key, length and value, in front of others. `Equal` only where both are the same.
+// The order of two parameters by key, length and value, if others follow. `Equal` only if both are the same.
 #[inline]
 fn pair_order(a: &Parameter, b: &Parameter) -> Option<Ordering>
     ensures order { IfSome result (λ o. OrderFirst o (parameter_octets_of a.now) (parameter_octets_of b.now)) }
@@ -115,7 +115,7 @@ fn pair_order(a: &Parameter, b: &Parameter) -> Option<Ordering>
     if keys.is_ne() { Some(keys) } else { None }
 }
 
-// The order of two values behind their lengths, in front of others. `Equal` only where both are the same.
+// The order of two values after their lengths, if others follow. `Equal` only if both are the same.
 #[inline]
 #[tactic(auto, using(crate::proofs::SvcbFronts::equal_values, crate::proofs::SvcbFronts::equal_first))]
 fn value_order(a: &SvcParamValue, b: &SvcParamValue) -> Option<Ordering>
@@ -136,7 +136,7 @@ fn value_order(a: &SvcParamValue, b: &SvcParamValue) -> Option<Ordering>
     }
 }
 
-// The order of two ports behind their length.
+// The order of two ports after their length.
 #[inline]
 #[tactic(auto, using(crate::proofs::SvcbFronts::port_first))]
 fn port_order(a: u16, b: u16) -> Ordering
@@ -146,7 +146,7 @@ fn port_order(a: u16, b: u16) -> Ordering
     a.cmp(&b)
 }
 
-// The order of octets behind their length.
+// The order of octets after their length.
 #[inline]
 #[tactic(auto, using(crate::proofs::SvcbFronts::octets_first, crate::proofs::SvcbFronts::octets_tie, crate::proofs::SvcbFronts::then_ties))]
 fn octets_order(a: &[u8], b: &[u8]) -> Option<Ordering>
@@ -157,7 +157,7 @@ fn octets_order(a: &[u8], b: &[u8]) -> Option<Ordering>
     Some(slices_behind(sizes, a, b))
 }
 
-// The order of names of protocols behind their length, where both lists are the same or their lengths differ. Else `None`.
+// The order of protocol names after their length, if both lists are the same or their lengths differ. Otherwise `None`.
 #[tactic(auto, using(crate::proofs::SvcbFronts::names_same, crate::proofs::SvcbFronts::names_alike, crate::proofs::SvcbFronts::names_differ))]
 fn names_order(a: &Items<SmallOctets<16>>, b: &Items<SmallOctets<16>>) -> Option<Ordering>
     ensures order { IfSome result (λ o. OrderFirst o (sized (Names a.now)) (sized (Names b.now))) }

@@ -2,19 +2,19 @@
 
 ghost use Rattle.std.specs.Prelude.{◌≡◌, ◌+◌, ◌<◌, ◌≤◌, ◌^◌, ◌++◌, [], true, IfSome, length, map, nat_le};
 ghost use Rattle.std.specs.{List.list_all, Int.bytes_high_first};
-ghost use Rattle.dns_fields.specs.Pieces.{string, parameter_emittable, parameters_emittable, rising, Mandatory as MandatoryKeys, Alpn as Names, Opaque};
+ghost use Rattle.dns_fields.specs.Tlvs.{string, parameter_emittable, parameters_emittable, rising, Mandatory as MandatoryKeys, Alpn as Names, Opaque};
 ghost use Rattle.dns_rdata_service.specs.{Parameters.parameter_of, SvcParamKey.key_number, SvcParamValue.value_of, Steps.IsSizeOf};
-ghost use Rattle.dns_rdata_service.specs.Steps.{value_front, value_items, svcb_left, AreEmittable, each_fits, GivesItem, GivesPiece};
-ghost use Rattle.dns_pieces.specs.Steps.{GivesStep};
+ghost use Rattle.dns_rdata_service.specs.Steps.{value_front, value_items, svcb_left, AreEmittable, each_fits, GivesItem, GivesParameter};
+ghost use Rattle.dns_canonical.specs.Steps.{GivesStep};
 
 use crate::hints::{Address, hints_size};
 use crate::https::HTTPS;
 use crate::svcb::{Parameter, SVCB, SvcParamKey, SvcParamValue, is_above};
+use dns_canonical::{Head, Step, Tail};
 use dns_names_wire::SmallOctets;
-use dns_pieces::{Head, Step, Tail};
 
-// How many octets the keys have, if there are any, and at most 65535 octets.
-#[tactic(auto, using(crate::proofs::PieceSteps::keys_then, crate::proofs::PieceSteps::keys_size))]
+// How many octets the keys have. `None` if there are no keys, or more than 65535 octets.
+#[tactic(auto, using(crate::proofs::ParameterSteps::keys_then, crate::proofs::ParameterSteps::keys_size))]
 fn keys_size(keys: &[SvcParamKey]) -> Option<u16>
     ensures { IsSizeOf (MandatoryKeys (map key_number keys.now)) result }
 {
@@ -68,8 +68,8 @@ fn value_size(value: &SvcParamValue) -> Option<u16>
     }
 }
 
-// The key of this number.
-#[tactic(auto, using(crate::proofs::PieceSteps::key_gives), unfolding(dns_fields::specs::Fields::field_octets))]
+// The key with this index.
+#[tactic(auto, using(crate::proofs::ParameterSteps::key_gives), unfolding(dns_fields::specs::Fields::field_octets))]
 fn key_item<'a>(keys: &'a [SvcParamKey], item: usize, head: &mut Head) -> Option<Tail<'a>>
     requires empty { head.old ≡ [] }
     ensures item { GivesItem (map (bytes_high_first 2) (map key_number keys.now)) item head.new result }
@@ -82,8 +82,8 @@ fn key_item<'a>(keys: &'a [SvcParamKey], item: usize, head: &mut Head) -> Option
     Some(Tail::none())
 }
 
-// The name of this number.
-#[tactic(auto, using(crate::proofs::PieceSteps::item_gives), unfolding(dns_fields::specs::Fields::field_octets))]
+// The name with this index.
+#[tactic(auto, using(crate::proofs::ParameterSteps::item_gives), unfolding(dns_fields::specs::Fields::field_octets))]
 fn name_item<'a>(names: &'a [SmallOctets<16>], item: usize, head: &mut Head) -> Option<Tail<'a>>
     requires empty { head.old ≡ [] }
     requires short { list_all (λ s. nat_le (length s) 255) names.now ≡ true }
@@ -97,8 +97,8 @@ fn name_item<'a>(names: &'a [SmallOctets<16>], item: usize, head: &mut Head) -> 
     }
 }
 
-// The address of this number.
-#[tactic(auto, using(crate::proofs::PieceSteps::item_gives))]
+// The address with this index.
+#[tactic(auto, using(crate::proofs::ParameterSteps::item_gives))]
 fn hint_item<'a, const N: usize, T: Address<N>>(
     addresses: &'a [T],
     item: usize,
@@ -116,7 +116,7 @@ fn hint_item<'a, const N: usize, T: Address<N>>(
     Some(Tail::none())
 }
 
-// The item of this number in a value.
+// The item of a value with this index.
 fn put_item<'a>(value: &'a SvcParamValue, item: usize, head: &mut Head) -> Option<Tail<'a>>
     requires empty { head.old ≡ [] }
     requires emittable { parameter_emittable (value_of value.now) ≡ true }
@@ -132,7 +132,7 @@ fn put_item<'a>(value: &'a SvcParamValue, item: usize, head: &mut Head) -> Optio
     }
 }
 
-// Adds what stands of a value in one piece, or answers it as a tail.
+// Adds the value to the head if it is a number, or returns it as a tail if it is one run of octets.
 #[tactic(auto, unfolding(dns_fields::specs::Fields::field_octets))]
 fn put_front<'a>(value: &'a SvcParamValue, head: &mut Head) -> Tail<'a>
     requires { length head.old ≤ 4 }
@@ -150,12 +150,13 @@ fn put_front<'a>(value: &'a SvcParamValue, head: &mut Head) -> Tail<'a>
     }
 }
 
-// The head of the parameter of this number: its key, the length of its value and what stands of that in one piece.
-#[tactic(auto, using(crate::proofs::PieceSteps::fits_at, crate::proofs::PieceSteps::head_given), unfolding(dns_fields::specs::Fields::field_octets))]
+// The head of the parameter with this index: its key, the length of its value, and the value if it is one run of
+// octets.
+#[tactic(auto, using(crate::proofs::ParameterSteps::fits_at, crate::proofs::ParameterSteps::head_given), unfolding(dns_fields::specs::Fields::field_octets))]
 fn head_step<'a>(parameters: &'a [Parameter], part: usize, head: &mut Head) -> Option<Step<'a>>
     requires empty { head.old ≡ [] }
     requires emittable { AreEmittable parameters.now }
-    ensures { GivesPiece parameters.now part 0 head.new result }
+    ensures { GivesParameter parameters.now part 0 head.new result }
 {
     if part >= parameters.len() {
         return None;
@@ -172,9 +173,9 @@ fn head_step<'a>(parameters: &'a [Parameter], part: usize, head: &mut Head) -> O
     })
 }
 
-// What comes next of the parameters: the head of the one of this number, an item of it, or behind its last item the head of
-// the next one.
-#[tactic(auto, using(crate::proofs::PieceSteps::emittable_at, crate::proofs::PieceSteps::past_items))]
+// The next step of the parameters: the head of the one with this index, an item of it, or after its last item the head
+// of the next one.
+#[tactic(auto, using(crate::proofs::ParameterSteps::emittable_at, crate::proofs::ParameterSteps::past_items))]
 fn parameter_step<'a>(
     parameters: &'a [Parameter],
     part: usize,
@@ -183,7 +184,7 @@ fn parameter_step<'a>(
 ) -> Option<Step<'a>>
     requires empty { head.old ≡ [] }
     requires emittable { AreEmittable parameters.now }
-    ensures { GivesPiece parameters.now part item head.new result }
+    ensures { GivesParameter parameters.now part item head.new result }
 {
     if item == 0 {
         return head_step(parameters, part, head);

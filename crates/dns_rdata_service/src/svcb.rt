@@ -13,7 +13,7 @@ mod ech_config_list;
 mod ip_hint;
 mod key;
 mod mandatory;
-mod parameter_word;
+mod parameter_token;
 mod parameters;
 mod unknown;
 mod value;
@@ -29,7 +29,7 @@ pub use ech_config_list::EchConfigList;
 pub use ip_hint::IpHint;
 pub use key::SvcParamKey;
 pub use mandatory::Mandatory;
-pub(crate) use parameter_word::parameter_of;
+pub(crate) use parameter_token::parameter_of;
 pub(crate) use parameters::is_above;
 use std::alloc::AllocError;
 use std::hash::{Hash, Hasher};
@@ -180,7 +180,7 @@ impl EncodesFields for SVCB {
     }
 }
 
-// Whether both values are of one kind, and equal there. Inlined, so that a list is compared without a call for each value.
+// Whether both values are of one variant, and equal. Inlined, so that a list is compared without a call for each value.
 #[inline(always)]
 fn same_value(a: &SvcParamValue, b: &SvcParamValue) -> bool
     ensures { result ≡ value_eq a.now b.now }

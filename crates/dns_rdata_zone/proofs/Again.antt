@@ -1,13 +1,13 @@
--- A value that was read is that of its octets alone, names whole.
+-- A value that was read is also the value of its own octets with names uncompressed.
 use Rattle.std.proofs.Common.{◌≡◌, ℕ, List, [], ◌∷◌, ◌++◌, map, length, inl, refl, sym, ◌∙◌, ap, subst, append_assoc, length-append, arith}
 use Rattle.std.specs.{Int.bytes_high_first, List.flat_map}
 use Rattle.std.proofs.lemmas.List.{append-nil, drop_at}
 use Rattle.dns_fields.specs.{Labels.wire, Names.LabelsStand.whole}
-use Rattle.dns_fields.specs.Fields.{Kind, Value, Values, Number, Octets, Name, Text, Texts, Rest, Options, Parameters, Bitmap, Field, Stands, Fits}
-use Rattle.dns_fields.specs.Fields.{Lawful, IsFull, field_octets, option_pieces, parameter_pieces, canonical}
-use Rattle.dns_fields.specs.Pieces.{string, piece, pieces, OptionHeld, OptionFits, option_octets, ParameterHeld, ParameterFits, parameter_octets}
+use Rattle.dns_fields.specs.Fields.{Kind, Value, Values, Number, Octets, Name, CharacterString, CharacterStrings, Rest, Options, Parameters, Bitmap, Field, Stands, Fits}
+use Rattle.dns_fields.specs.Fields.{Lawful, IsFull, field_octets, option_tlvs, parameter_tlvs, canonical}
+use Rattle.dns_fields.specs.Tlvs.{string, tlv, tlvs, OptionHeld, OptionFits, option_octets, ParameterHeld, ParameterFits, parameter_octets}
 use Rattle.dns_fields.proofs.{Bitmaps.minimal_stands, FieldLaws.field_append, FieldLaws.field_fits, FieldLaws.field_lawful, FieldLaws.field_full}
-use Rattle.dns_fields.proofs.{Pieces.lawful_held, Pieces.fit_pieces, Places.At-appended, Sorted.octets_cmp, Sorted.flat_map_all, Sorted.length_sorted}
+use Rattle.dns_fields.proofs.{Tlvs.lawful_held, Tlvs.fit_tlvs, NameOffsets.At-appended, Sorted.octets_cmp, Sorted.flat_map_all, Sorted.length_sorted}
 use Rattle.dns_rdata.specs.WholeOctets.{whole_octets, all_whole}
 use Rattle.dns_rdata_zone.proofs.Digits.{length_low}
 
@@ -27,29 +27,29 @@ own_field front Name v h l q =
         qualified = q;
       };
     }
-own_field front Text v h l q = record { is = (h, At-appended front (string v)) }
-own_field front Texts v h l q = record { is = (h, At-appended front (flat_map string v)) }
+own_field front CharacterString v h l q = record { is = (h, At-appended front (string v)) }
+own_field front CharacterStrings v h l q = record { is = (h, At-appended front (flat_map string v)) }
 own_field front Rest v h l q = record { is = At-appended front v }
 own_field front Options v h l q = record {
   is = inl (record {
-    read = option_pieces v;
-    at = At-appended front (pieces (option_pieces v));
-    fit = fit_pieces OptionHeld option_octets OptionFits (λ x fits. fits.0) v h;
+    read = option_tlvs v;
+    at = At-appended front (tlvs (option_tlvs v));
+    fit = fit_tlvs OptionHeld option_octets OptionFits (λ x fits. fits.0) v h;
     held = lawful_held OptionHeld option_octets v l;
   });
 }
 own_field front Parameters v h l q = record {
   is = record {
-    read = parameter_pieces v;
-    at = At-appended front (pieces (parameter_pieces v));
-    fit = fit_pieces ParameterHeld parameter_octets ParameterFits (λ x fits. fits.0) v h.0;
+    read = parameter_tlvs v;
+    at = At-appended front (tlvs (parameter_tlvs v));
+    fit = fit_tlvs ParameterHeld parameter_octets ParameterFits (λ x fits. fits.0) v h.0;
     held = lawful_held ParameterHeld parameter_octets v l;
     rising = h.1;
   };
 }
 own_field front Bitmap v h l q = record { is = minimal_stands front v h }
 
--- fields that stand somewhere stand in their own octets
+-- fields that are encoded somewhere are encoded in their own octets
 pub own_fields : (m : List ℕ) (p : ℕ) (front : List ℕ) (kinds : List Kind) (vs : Values kinds) (e : ℕ) → Stands m p kinds vs e
     → Stands (front ++ all_whole kinds vs) (length front) kinds vs (length (front ++ all_whole kinds vs))
 own_fields m p front [] vs e h = ap length (sym (append-nil front))
@@ -68,12 +68,12 @@ own_fields m p front (k ∷ kinds) vs e h =
 
 field_length : (k : Kind) (v : Value k) → length (field_octets k v) ≡ length (whole_octets k v)
 unfolding field_octets
-field_length Name v = length_low v.labels
-field_length Options v = length_sorted octets_cmp (map piece (option_pieces v)) ∙ ap length (flat_map_all piece (option_pieces v))
+field_length Name v = length_low v
+field_length Options v = length_sorted octets_cmp (map tlv (option_tlvs v)) ∙ ap length (flat_map_all tlv (option_tlvs v))
 field_length (Number w) v = refl
 field_length (Octets n) v = refl
-field_length Text v = refl
-field_length Texts v = refl
+field_length CharacterString v = refl
+field_length CharacterStrings v = refl
 field_length Rest v = refl
 field_length Parameters v = refl
 field_length Bitmap v = refl

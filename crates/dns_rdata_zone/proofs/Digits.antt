@@ -1,11 +1,11 @@
--- Hexadecimal digits, and the form of unknown data.
+-- Hexadecimal digits, and the unknown-data form.
 use Rattle.std.proofs.Common.{◌≡◌, ℕ, ◌/◌, ◌%◌, ◌≤◌, List, [], ◌∷◌, ◌++◌, map, length, codes, decimal, refl, sym, ◌∙◌, ap, append_assoc, arith}
 use Rattle.std.proofs.Common.{length-append}
 use Rattle.std.specs.Prelude.{flat_map, slice_index}
-use Rattle.std.proofs.lemmas.List.{append-nil, length-map}
-use Rattle.std.specs.Char.{to_ascii_lowercase}
+use Rattle.std.proofs.lemmas.List.{append-nil}
 use Rattle.hex.specs.Hex.{encode_with, encode_lower, lower_digits}
-use Rattle.dns_fields.specs.Labels.{wire, lowered}
+use Rattle.dns_fields.specs.Labels.{DomainName, wire, lowname}
+use Rattle.dns_fields.proofs.NameLaws.{lowname_length}
 use Rattle.dns_rdata_zone.specs.{Generic.generic, Names.zone_label, Tokens.in_tokens}
 
 -- ---- lists that a loop writes
@@ -34,43 +34,19 @@ pub hex_zero : encode_lower (0 ∷ []) ≡ codes "00"
 unfolding encode_with
 hex_zero = refl
 
-hex_label : (label : List ℕ) (rest : List (List ℕ))
-    → encode_lower (wire (label ∷ rest)) ≡ encode_lower (length label ∷ []) ++ (encode_lower label ++ encode_lower (wire rest))
-hex_label label rest = hex_append (length label ∷ []) (label ++ wire rest)
-    ∙ ap (λ (t : List ℕ). encode_lower (length label ∷ []) ++ t) (hex_append label (wire rest))
-
-pub digits_more : (text label : List ℕ) (old rest : List (List ℕ)) (whole : List ℕ) → old ≡ label ∷ rest
-    → text ++ encode_lower (wire old) ≡ whole
-    → ((text ++ encode_lower (length label ∷ [])) ++ encode_lower label) ++ encode_lower (wire rest) ≡ whole
-digits_more text label old rest whole e w =
-    append_assoc (text ++ encode_lower (length label ∷ [])) (encode_lower label) (encode_lower (wire rest))
-    ∙ append_assoc text (encode_lower (length label ∷ [])) (encode_lower label ++ encode_lower (wire rest))
-    ∙ ap (λ (t : List ℕ). text ++ t) (sym (hex_label label rest))
-    ∙ ap (λ (l : List (List ℕ)). text ++ encode_lower (wire l)) (sym e) ∙ w
-
-pub digits_all : (text : List ℕ) (old labels : List (List ℕ)) → old ≡ [] → text ++ encode_lower (wire old) ≡ encode_lower (wire labels)
-    → text ++ codes "00" ≡ encode_lower (wire labels ++ 0 ∷ [])
-digits_all text old labels e w =
-    let same : text ≡ encode_lower (wire labels) = sym (append-nil text) ∙ ap (λ (t : List ℕ). text ++ t) (sym hex_none)
-    ∙ ap (λ (l : List (List ℕ)). text ++ encode_lower (wire l)) (sym e) ∙ w in
-    ap (λ (t : List ℕ). t ++ codes "00") same
+-- the digits of a name's labels, and of the 0 after them
+pub name_digits : (octets : List ℕ) (labels : List (List ℕ)) → octets ≡ wire labels → encode_lower octets ++ codes "00" ≡ encode_lower (wire labels ++ 0 ∷ [])
+name_digits octets labels e =
+    ap (λ (o : List ℕ). encode_lower o ++ codes "00") e
     ∙ ap (λ (t : List ℕ). encode_lower (wire labels) ++ t) (sym hex_zero)
     ∙ sym (hex_append (wire labels) (0 ∷ []))
 
--- ---- the form of unknown data
+-- ---- the unknown-data form
 
 pub generic_is : (s : List ℕ) (n : ℕ) → n ≡ length s → 1 ≤ n → 92 ∷ 35 ∷ 32 ∷ (decimal n ++ 32 ∷ in_tokens (encode_lower s)) ≡ generic s
 generic_is [] n e h = absurd (omega arith)
-generic_is (c ∷ s) n e h = rw e (ap (λ (t : List ℕ). 92 ∷ 35 ∷ 32 ∷ t) (sym (append_assoc (decimal (length (c ∷ s))) (32 ∷ []) (in_tokens (encode_lower (c ∷ s))))))
+generic_is (c ∷ s) n e h =
+    rw e (ap (λ (t : List ℕ). 92 ∷ 35 ∷ 32 ∷ t) (sym (append_assoc (decimal (length (c ∷ s))) (32 ∷ []) (in_tokens (encode_lower (c ∷ s))))))
 
-pub length_low : (ls : List (List ℕ)) → length (lowered ls) ≡ length (wire ls ++ 0 ∷ [])
-length_low [] = refl
-length_low (l ∷ ls) = omega (
-  arith,
-  length_low ls,
-  length-append (map to_ascii_lowercase l) (lowered ls),
-  length-map l to_ascii_lowercase,
-  length-append l (wire ls),
-  length-append (l ++ wire ls) (0 ∷ []),
-  length-append (wire ls) (0 ∷ []),
-)
+pub length_low : (x : DomainName) → length (lowname x) ≡ length (wire x.labels ++ 0 ∷ [])
+length_low x = omega (arith, lowname_length x, length-append (wire x.labels) (0 ∷ []))

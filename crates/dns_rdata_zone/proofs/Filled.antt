@@ -4,12 +4,12 @@ use Rattle.std.proofs.Common.{refl, sym, ◌∙◌, ap, subst, arith}
 use Rattle.std.specs.Prelude.{flat_map, slice_index}
 use Rattle.std.specs.{List.AllByRecursion, Net.Addr.IsIpv4Addr, Net.Addr.IsIpv6Addr, Net.Addr.ipv6_segments, Net.Addr.octets_of}
 use Rattle.dns_fields.specs.{Labels.DomainName, Labels.AreLabels, Labels.wire, Octets.AreOctets, Octets.At}
-use Rattle.dns_fields.specs.Fields.{Kind, Value, Values, Name, Options, Field, Stands, WholeOptions, CutOptions, option_pieces, all_emittable}
+use Rattle.dns_fields.specs.Fields.{Kind, Value, Values, Name, Options, Field, Stands, CompleteOptions, TruncatedOptions, option_tlvs, all_emittable}
 use Rattle.dns_fields.specs.Fields.{canonical}
-use Rattle.dns_fields.specs.Pieces.{Numbered, piece, pieces, string, as_piece, AllHeld, IsPiece, OptionValue, Subnet, Plain, option_octets}
-use Rattle.dns_fields.specs.Pieces.{OptionHeld, ParameterHeld, IsEmittable, IsBody}
+use Rattle.dns_fields.specs.Tlvs.{Numbered, tlv, tlvs, string, as_tlv, AllHeld, IsTlv, OptionValue, Subnet, OpaqueOption, option_octets}
+use Rattle.dns_fields.specs.Tlvs.{OptionHeld, ParameterHeld, IsEmittable, IsBody}
 use Rattle.dns_fields.proofs.OctetLaws.{AreOctets-nil, AreOctets-cons, AreOctets-head, AreOctets-tail, AreOctets-same, AreOctets-append}
-use Rattle.dns_fields.proofs.OctetLaws.{AreOctets-front, AreOctets-back, AreOctets-at, labels_octets, piece_octets, piece_body, field_octets_are}
+use Rattle.dns_fields.proofs.OctetLaws.{AreOctets-front, AreOctets-back, AreOctets-at, labels_octets, tlv_octets, tlv_body, field_octets_are}
 use Rattle.dns_fields.proofs.Stays.{labels_stand}
 use Rattle.dns_types.specs.declared.record_type.RecordType.{RecordType}
 use Rattle.dns_rdata.specs.{declared.record_data.RData.RData, WholeOctets.whole_octets, WholeOctets.all_whole}
@@ -30,7 +30,7 @@ use Rattle.dns_rdata_zone.specs.ZoneTexts.{zone_text, zone_octets}
 use Rattle.dns_rdata_zone.proofs.{RowForms.bytes_of, Again.own_fields, Again.same_length, TextsGive.texts_give, TextsGive.texts_print, TextsGive.texts_tell}
 use Rattle.dns_rdata_zone.proofs.FilledLengths.{all_short, few_fields, body_short}
 
--- ---- the octets of fields, names whole
+-- ---- the octets of fields, names uncompressed
 
 wire_are : (labels : List (List ℕ)) → AreLabels labels → AllByRecursion AreOctets labels → AreOctets (wire labels)
 wire_are [] h a = AreOctets-nil
@@ -41,22 +41,22 @@ wire_are (l ∷ ls) h a =
 option_are : (body : List ℕ) (code : ℕ) (v : OptionValue) → OptionHeld code body v → AreOctets body → AreOctets (option_octets v)
 option_are body code (Subnet f s c a) h o =
     AreOctets-front (option_octets (Subnet f s c a)) h.2 (AreOctets-same body (option_octets (Subnet f s c a) ++ h.2) h.3 o)
-option_are body code (Plain s) h o = AreOctets-same body s h.1 o
+option_are body code (OpaqueOption s) h o = AreOctets-same body s h.1 o
 
-options_are : (xs : List (Numbered (List ℕ))) (v : List (Numbered OptionValue)) → AllHeld OptionHeld xs v → AreOctets (pieces xs)
-    → AreOctets (pieces (option_pieces v))
+options_are : (xs : List (Numbered (List ℕ))) (v : List (Numbered OptionValue)) → AllHeld OptionHeld xs v → AreOctets (tlvs xs)
+    → AreOctets (tlvs (option_tlvs v))
 options_are [] [] h o = AreOctets-nil
 options_are [] (y ∷ v) h o = absurd h
 options_are (x ∷ xs) [] h o = AreOctets-nil
 options_are (x ∷ xs) (y ∷ v) h o =
-    let body = piece_body x (AreOctets-front (piece x) (pieces xs) o) in
-    AreOctets-append (piece (as_piece option_octets y)) (pieces (option_pieces v)) (piece_octets (as_piece option_octets y) (option_are x.1 y.0 y.1 h.1 body))
-    (options_are xs v h.2 (AreOctets-back (piece x) (pieces xs) o))
+    let body = tlv_body x (AreOctets-front (tlv x) (tlvs xs) o) in
+    AreOctets-append (tlv (as_tlv option_octets y)) (tlvs (option_tlvs v)) (tlv_octets (as_tlv option_octets y) (option_are x.1 y.0 y.1 h.1 body))
+    (options_are xs v h.2 (AreOctets-back (tlv x) (tlvs xs) o))
 
-options_whole : (m : List ℕ) (p n q : ℕ) (v : List (Numbered OptionValue)) → AreOctets m → WholeOptions m p v q ⊎ ((v ≡ []) × CutOptions m n p q)
-    → AreOctets (pieces (option_pieces v))
-options_whole m p n q v a (inl w) = options_are w.read v w.held (AreOctets-at m p (pieces w.read) q a w.at)
-options_whole m p n q v a (inr c) = subst (λ (l : List (Numbered OptionValue)). AreOctets (pieces (option_pieces l))) (sym c.0) AreOctets-nil
+options_whole : (m : List ℕ) (p n q : ℕ) (v : List (Numbered OptionValue)) → AreOctets m → CompleteOptions m p v q ⊎ ((v ≡ []) × TruncatedOptions m n p q)
+    → AreOctets (tlvs (option_tlvs v))
+options_whole m p n q v a (inl w) = options_are w.read v w.held (AreOctets-at m p (tlvs w.read) q a w.at)
+options_whole m p n q v a (inr c) = subst (λ (l : List (Numbered OptionValue)). AreOctets (tlvs (option_tlvs l))) (sym c.0) AreOctets-nil
 
 whole_are : (m : List ℕ) (p : ℕ) (k : Kind) (v : Value k) (q : ℕ) → AreOctets m → Field m p k v q → AreOctets (whole_octets k v)
 whole_are m p Name v q a f =
@@ -126,8 +126,8 @@ value_fits (Ipv6Hint x) body e b o = hints6 x.0 e (AreOctets-same body (flat_map
 value_fits (DohPath x) body e b o = AreOctets-same body x.0 b o
 value_fits (Unknown x) body e b o = AreOctets-same body x.0 b o
 
-parameters_fit : (read : List (Numbered (List ℕ))) (ps : List Parameter) → AllByRecursion IsPiece read → AllHeld ParameterHeld read (map parameter_of ps)
-    → AreOctets (pieces read) → AllByRecursion IsWritableParameter ps
+parameters_fit : (read : List (Numbered (List ℕ))) (ps : List Parameter) → AllByRecursion IsTlv read → AllHeld ParameterHeld read (map parameter_of ps)
+    → AreOctets (tlvs read) → AllByRecursion IsWritableParameter ps
 parameters_fit [] [] fit h o = tt
 parameters_fit [] (p ∷ ps) fit h o = absurd h
 parameters_fit (x ∷ xs) [] fit h o = tt
@@ -135,10 +135,10 @@ parameters_fit (x ∷ xs) (p ∷ ps) fit h o =
     let number = fit.0.0 in
     let same = h.0 in
     let held = h.1 in
-    let body = piece_body x (AreOctets-front (piece x) (pieces xs) o) in
+    let body = tlv_body x (AreOctets-front (tlv x) (tlvs xs) o) in
     let few = body_short x.1 (value_of p.1) held.2 in
     let size = fit.0.1 in
-    ((omega (arith, number, same), value_fits p.1 x.1 held.1 held.2 body, omega (arith, few, size)), parameters_fit xs ps fit.1 h.2 (AreOctets-back (piece x) (pieces xs) o))
+    ((omega (arith, number, same), value_fits p.1 x.1 held.1 held.2 body, omega (arith, few, size)), parameters_fit xs ps fit.1 h.2 (AreOctets-back (tlv x) (tlvs xs) o))
 
 service_fits : (m : List ℕ) (p : ℕ) (x : SVCB) (e : ℕ) → AreOctets m → Stands m p svcb_shape (svcb_fields x) e → IsWritableService x
 service_fits m p x e a h =
@@ -147,7 +147,7 @@ service_fits m p x e a h =
       priority = h.1.is.0;
       target = name_fits a h.2.1;
       parameters = parameters_fit parameters.read x.svc_params parameters.fit parameters.held
-          (AreOctets-at m h.2.0 (pieces parameters.read) h.2.2.0 a parameters.at);
+          (AreOctets-at m h.2.0 (tlvs parameters.read) h.2.2.0 a parameters.at);
       rising = parameters.rising;
     }
 
@@ -201,42 +201,42 @@ fields_fit m p (rdata.TXT x) e a h = texts_are x.txt_data (AreOctets-at m p (fla
 fields_fit m p v e a h = tt
 
 own_stands : {m : List ℕ} {p n : ℕ} {t : RecordType} {v : RData} → Fills m p n t v → Stands m p (fields_of v).kinds (fields_of v).values (p + n)
-own_stands {m} {p} {n} f = subst (λ (x : FieldsOf). Stands m p x.kinds x.values (p + n)) (sym f.value.fields) f.window.stands
+own_stands {m} {p} {n} f = subst (λ (x : FieldsOf). Stands m p x.kinds x.values (p + n)) (sym f.value.fields) f.region.stands
 
 short : {m : List ℕ} {p n : ℕ} {t : RecordType} {v : RData} → Fills m p n t v → length (zone_octets v) < 2 ^ 64
 short {m} {p} {n} {t} {v} f =
-    let size = f.window.short in
+    let size = f.region.short in
     omega (arith, size, few_fields v, all_short m p (fields_of v).kinds (fields_of v).values (p + n) (own_stands f))
 
 readable : {m : List ℕ} {p n : ℕ} {t : RecordType} {v : RData} → Fills m p n t v → IsReadable v
 readable {m} {p} {n} {t} {v} f = record {
-  octets = record { octets = all_are m p (fields_of v).kinds (fields_of v).values (p + n) f.window.octets (own_stands f); short = short f };
-  fields = fields_fit m p v (p + n) f.window.octets (own_stands f);
+  octets = record { octets = all_are m p (fields_of v).kinds (fields_of v).values (p + n) f.region.octets (own_stands f); short = short f };
+  fields = fields_fit m p v (p + n) f.region.octets (own_stands f);
 }
 
 -- ---- the value is that of its octets alone
 
-by_fields : (t : RecordType) (v : RData) (values : Values (shape t)) → IsValue t values v → zone_octets v ≡ all_whole (shape t) values
-by_fields t v values h = ap (λ (x : FieldsOf). all_whole x.kinds x.values) h.fields
+octets_of_fields : (t : RecordType) (v : RData) (values : Values (shape t)) → IsValue t values v → zone_octets v ≡ all_whole (shape t) values
+octets_of_fields t v values h = ap (λ (x : FieldsOf). all_whole x.kinds x.values) h.fields
 
 ends_at : (m : List ℕ) (kinds : List Kind) (vs : Values kinds) → Stands m 0 kinds vs (length m) → Stands m 0 kinds vs (0 + length m)
 ends_at m kinds vs h = let e : length m ≡ 0 + length m = omega arith in subst (λ (k : ℕ). Stands m 0 kinds vs k) e h
 
 data_of : (m : List ℕ) (p n : ℕ) (t : RecordType) (v : RData) (f : Fills m p n t v) → length (zone_octets v) < 65536 → AreDataOf (zone_octets v) t v
 data_of m p n t v f small =
-    let e = by_fields t v f.values f.value in
+    let e = octets_of_fields t v f.values f.value in
     let own = all_whole (shape t) f.values in
     let few : length own < 65536 = subst (λ (o : List ℕ). length o < 65536) e small in
     subst (λ (o : List ℕ). AreDataOf o t v) (sym e) (record {
       short = few;
       fills = record {
         values = f.values;
-        window = record {
-          octets = all_are m p (shape t) f.values (p + n) f.window.octets f.window.stands;
+        region = record {
+          octets = all_are m p (shape t) f.values (p + n) f.region.octets f.region.stands;
           short = few;
           within = omega arith;
-          stands = ends_at own (shape t) f.values (own_fields m p [] (shape t) f.values (p + n) f.window.stands);
-          holds = f.window.holds;
+          stands = ends_at own (shape t) f.values (own_fields m p [] (shape t) f.values (p + n) f.region.stands);
+          holds = f.region.holds;
         };
         value = f.value;
       };

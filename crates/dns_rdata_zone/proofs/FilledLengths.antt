@@ -2,22 +2,22 @@
 use Rattle.std.proofs.Common.{◌≡◌, ℕ, suc, ◌+◌, ◌*◌, ◌≤◌, List, [], ◌∷◌, ◌++◌, map, length, inl, inr, ◌⊎◌, refl, ap, arith, length-append}
 use Rattle.std.specs.{List.flat_map, List.AllByRecursion, List.range_with_len, Int.bytes_high_first}
 use Rattle.dns_fields.specs.Bitmaps.{Block, block, IsBlock, minimal, window, windows, with_block}
-use Rattle.dns_fields.specs.Fields.{Kind, Value, Values, Number, Octets, Name, Text, Texts, Rest, Options, Parameters, Bitmap, field_octets, Field}
-use Rattle.dns_fields.specs.Fields.{Stands, WholeOptions, CutOptions, option_pieces}
+use Rattle.dns_fields.specs.Fields.{Kind, Value, Values, Number, Octets, Name, CharacterString, CharacterStrings, Rest, Options, Parameters, Bitmap, field_octets, Field}
+use Rattle.dns_fields.specs.Fields.{Stands, CompleteOptions, TruncatedOptions, option_tlvs}
 use Rattle.dns_fields.specs.Labels.{wire}
-use Rattle.dns_fields.specs.Pieces.{Numbered, piece, pieces, as_piece, AllHeld, OptionValue, Subnet, Plain, option_octets, OptionHeld, ParameterValue}
-use Rattle.dns_fields.specs.Pieces.{Mandatory, Alpn, NoDefaultAlpn, Port, Ipv4Hint, Ipv6Hint, Opaque, parameter_octets, ParameterHeld, IsBody}
+use Rattle.dns_fields.specs.Tlvs.{Numbered, tlv, tlvs, as_tlv, AllHeld, OptionValue, Subnet, OpaqueOption, option_octets, OptionHeld, ParameterValue}
+use Rattle.dns_fields.specs.Tlvs.{Mandatory, Alpn, NoDefaultAlpn, Port, Ipv4Hint, Ipv6Hint, Opaque, parameter_octets, ParameterHeld, IsBody}
 use Rattle.dns_fields.proofs.{Bitmaps.minimal_fit, FieldLaws.field_inside}
 use Rattle.dns_rdata.specs.{Data.fields_of, declared.record_data.RData.RData, WholeOctets.whole_octets, WholeOctets.all_whole}
 use Rattle.dns_rdata.specs.declared.record_data.RData.TheVariants as rdata
 
--- ---- pieces: a value has no more octets than those that hold it
+-- ---- tlvs: a value has no more octets than those that hold it
 
 two_octets : (n : ℕ) → length (bytes_high_first 2 n) ≡ 2
 two_octets n = refl
 
-piece_length : (x : Numbered (List ℕ)) → length (piece x) ≡ 4 + length x.1
-piece_length x =
+tlv_length : (x : Numbered (List ℕ)) → length (tlv x) ≡ 4 + length x.1
+tlv_length x =
     let size = length x.1 in
     omega (
       arith,
@@ -29,7 +29,7 @@ piece_length x =
 
 held_short : {V : Type 0} (Held : ℕ → List ℕ → V → Type 0) (octets : V → List ℕ)
     → ((k : ℕ) (d : List ℕ) (v : V) → Held k d v → length (octets v) ≤ length d)
-    → (xs : List (Numbered (List ℕ))) (vs : List (Numbered V)) → AllHeld Held xs vs → length (pieces (map (as_piece octets) vs)) ≤ length (pieces xs)
+    → (xs : List (Numbered (List ℕ))) (vs : List (Numbered V)) → AllHeld Held xs vs → length (tlvs (map (as_tlv octets) vs)) ≤ length (tlvs xs)
 held_short Held octets own [] [] h = omega arith
 held_short Held octets own [] (y ∷ vs) h = absurd h
 held_short Held octets own (x ∷ xs) [] h = omega arith
@@ -37,15 +37,15 @@ held_short Held octets own (x ∷ xs) (y ∷ vs) h = omega (
   arith,
   own y.0 x.1 y.1 h.1,
   held_short Held octets own xs vs h.2,
-  piece_length x,
-  piece_length (as_piece octets y),
-  length-append (piece x) (pieces xs),
-  length-append (piece (as_piece octets y)) (pieces (map (as_piece octets) vs)),
+  tlv_length x,
+  tlv_length (as_tlv octets y),
+  length-append (tlv x) (tlvs xs),
+  length-append (tlv (as_tlv octets y)) (tlvs (map (as_tlv octets) vs)),
 )
 
 option_short : (k : ℕ) (d : List ℕ) (v : OptionValue) → OptionHeld k d v → length (option_octets v) ≤ length d
 option_short k d (Subnet f s c a) h = omega (arith, ap length h.3, length-append (option_octets (Subnet f s c a)) h.2)
-option_short k d (Plain s) h = omega (arith, ap length h.1)
+option_short k d (OpaqueOption s) h = omega (arith, ap length h.1)
 
 pub body_short : (d : List ℕ) (v : ParameterValue) → IsBody d v → length (parameter_octets v) ≤ length d
 body_short d (Mandatory keys) h = omega (arith, ap length h)
@@ -56,10 +56,10 @@ body_short d (Ipv4Hint a) h = omega (arith, ap length h)
 body_short d (Ipv6Hint a) h = omega (arith, ap length h)
 body_short d (Opaque s) h = omega (arith, ap length h)
 
-options_short : (m : List ℕ) (p n q : ℕ) (v : List (Numbered OptionValue)) → p ≤ q → WholeOptions m p v q ⊎ ((v ≡ []) × CutOptions m n p q)
-    → p + length (pieces (option_pieces v)) ≤ q
+options_short : (m : List ℕ) (p n q : ℕ) (v : List (Numbered OptionValue)) → p ≤ q → CompleteOptions m p v q ⊎ ((v ≡ []) × TruncatedOptions m n p q)
+    → p + length (tlvs (option_tlvs v)) ≤ q
 options_short m p n q v inside (inl w) = let ends = w.at.ends in omega (arith, ends, held_short OptionHeld option_octets option_short w.read v w.held)
-options_short m p n q v inside (inr c) = let none = ap (λ (l : List (Numbered OptionValue)). length (pieces (option_pieces l))) c.0 in omega (arith, inside, none)
+options_short m p n q v inside (inr c) = let none = ap (λ (l : List (Numbered OptionValue)). length (tlvs (option_tlvs l))) c.0 in omega (arith, inside, none)
 
 -- ---- bitmaps: at most 256 windows, of at most 34 octets each
 
@@ -95,8 +95,8 @@ field_short m p Name v q f =
     let fits = f.is.fits in
     let inside = (field_inside f).0 in
     omega (arith, fits, inside, length-append (wire v.labels) (0 ∷ []))
-field_short m p Text v q f = let ends = f.is.1.ends in omega (arith, ends)
-field_short m p Texts v q f = let ends = f.is.1.ends in omega (arith, ends)
+field_short m p CharacterString v q f = let ends = f.is.1.ends in omega (arith, ends)
+field_short m p CharacterStrings v q f = let ends = f.is.1.ends in omega (arith, ends)
 field_short m p Rest v q f = let ends = f.is.ends in omega (arith, ends)
 field_short m p Options v q f = let inside = (field_inside f).0 in omega (arith, options_short m p _ q v inside f.is)
 field_short m p Parameters v q f =

@@ -1,10 +1,10 @@
--- The letters of what was written: strings in quotes, labels and words.
+-- The letters of what was written: strings in quotes, labels and tokens.
 use Rattle.std.proofs.Common.{◌≡◌, ℕ, ◌+◌, ◌-◌, ◌*◌, ◌/◌, ◌%◌, ◌<◌, Bool, true, false, cond, eqb, ◌||◌, ◌&&◌, nat_le, List, [], ◌∷◌, ◌++◌, map, refl}
 use Rattle.std.proofs.Common.{◌∙◌, ap, append_assoc, arith}
 use Rattle.std.specs.Prelude.{flat_map}
 use Rattle.std.proofs.{lemmas.Bool.Decides.nat_tests, lemmas.List.Elements.All-head, lemmas.List.Elements.All-tail}
 use Rattle.dns_fields.specs.Octets.{AreOctets}
-use Rattle.dns_zone_words.specs.Letters.{Letter, plain, kept, is_digit, letters, octet_of, stands_for}
+use Rattle.dns_zone_tokens.specs.Letters.{Letter, plain, kept, is_digit, letters, octet_of, stands_for}
 use Rattle.dns_rdata_zone.specs.{Names.zone_label, Spellings.escaped, Spellings.three_digits, Spellings.needs_backslash, Spellings.name_octet}
 
 -- ---- letters
@@ -19,7 +19,7 @@ by_test false x y rest p q h k = k refl
 pub itself : (c : ℕ) (rest : List ℕ) → eqb c 92 ≡ false → letters (c ∷ rest) ≡ plain c ∷ letters rest
 itself c rest h = rw h
 
--- an octet behind a `\`
+-- an octet after a `\`
 behind : (c : ℕ) (rest : List ℕ) → is_digit c ≡ false → letters (92 ∷ c ∷ rest) ≡ kept c ∷ letters rest
 behind c rest h = rw h
 
@@ -59,7 +59,8 @@ pub quoted_octet : (c : ℕ) → octet_of (quoted_letter c) ≡ c
 quoted_octet c = elim (eqb c 34 || eqb c 92) as (λ b. octet_of (cond b (kept c) (cond (nat_le 32 c && nat_le c 126) (plain c) (kept c))) ≡ c)
     [ true ↦ refl | false ↦ elim (nat_le 32 c && nat_le c 126) as (λ b. octet_of (cond b (plain c) (kept c)) ≡ c) [ true ↦ refl | false ↦ refl ] ]
 
-test_letter : (b : Bool) (p q : Letter) (stop : ℕ) → (b ≡ true → stands_for stop p ≡ false) → (b ≡ false → stands_for stop q ≡ false) → stands_for stop (cond b p q) ≡ false
+test_letter : (b : Bool) (p q : Letter) (stop : ℕ) → (b ≡ true → stands_for stop p ≡ false) → (b ≡ false → stands_for stop q ≡ false)
+    → stands_for stop (cond b p q) ≡ false
 test_letter true p q stop h k = h refl
 test_letter false p q stop h k = k refl
 

@@ -1,6 +1,6 @@
 pub mod Again
 pub mod Caa
-pub mod Cuts
+pub mod Dividing
 pub mod Digits
 pub mod Filled
 pub mod FirstOctet
@@ -18,7 +18,7 @@ pub mod OwnTexts
 pub mod ServiceDigits
 pub mod TextsGive
 pub mod TokenSteps
-pub mod TokenWords
-pub mod WordForms
+pub mod TokenTokens
+pub mod TokenForms
 pub mod ZoneOnce
 pub mod ZoneSteps

@@ -9,13 +9,13 @@ use Rattle.dns_fields.proofs.NameLaws.{name_same}
 use Rattle.dns_names_wire.specs.State.{Reading}
 use Rattle.dns_types.specs.declared.error.ParseError.{ParseError}
 use Rattle.dns_types.specs.declared.error.ParseError.TheVariants as parse
-use Rattle.dns_words.specs.Reads.{UnlessParseMemory}
-use Rattle.dns_words.proofs.Steps.{unless_map}
-use Rattle.dns_zone_rows.specs.{RowFaults.row_value, RowFaults.RowFault, RowTexts.row_texts, RowTexts.no_more, declared.row.ZoneRow.ZoneRow}
+use Rattle.dns_tokens.specs.Reads.{UnlessParseMemory}
+use Rattle.dns_tokens.proofs.Steps.{unless_map}
+use Rattle.dns_zone_rows.specs.{RowFaults.row_value, RowFaults.RowFault, RowTexts.row_texts, RowTexts.no_more, declared.zone_row.ZoneRow.ZoneRow}
 use Rattle.dns_zone_rows.specs.Rows.{RowGives}
-use Rattle.dns_zone_words.specs.{FieldTexts.name_called, NameWords.IsNameWord, NameWords.name_octets, Words.Word, Words.Cursor, Words.words_at, Words.zone_words}
-use Rattle.dns_zone_words.specs.Remaining.{TookAll, NoneOfAll}
-use Rattle.dns_zone_words.proofs.FirstSteps.{exit_with}
+use Rattle.dns_zone_tokens.specs.{FieldTexts.name_called, NameTokens.IsNameToken, NameTokens.name_octets, Tokens.Token, Tokens.Cursor, Tokens.tokens_at, Tokens.zone_tokens}
+use Rattle.dns_zone_tokens.specs.Remaining.{TookAll, NoneOfAll}
+use Rattle.dns_zone_tokens.proofs.FirstSteps.{exit_with}
 use Rattle.dns_rdata_zone.specs.NameTexts.{IsZoneName, IsNoZoneName, ZoneNameFault, name_row}
 
 -- ---- uncompressed octets
@@ -31,66 +31,71 @@ read_whole octets old x end start is y same name =
     let there : IsNameIn (name_octets y) 0 x end = subst (λ (s : List ℕ). IsNameIn s 0 x end) same at in
     (name_same there (whole_name y name)).0
 
--- ---- the words of a name
+-- ---- the tokens of a name
 
--- the words are one, which is the name with these octets
-pub record OneName (origin : Option DomainName) (octets : List ℕ) (words : List Word) : Type 0 where
-  pub word : Word
-  pub alone : words ≡ word ∷ []
+-- there is one token, which is the name with these octets
+pub record OneName (origin : Option DomainName) (octets : List ℕ) (tokens : List Token) : Type 0 where
+  pub token : Token
+  pub alone : tokens ≡ token ∷ []
   pub value : DomainName
-  pub is : IsNameWord origin value word
+  pub is : IsNameToken origin value token
   pub same : octets ≡ name_octets value
 
-one_name : (origin : Option DomainName) (octets : List ℕ) (words : List Word) → RowGives origin name_row octets words → OneName origin octets words
+one_name : (origin : Option DomainName) (octets : List ℕ) (tokens : List Token) → RowGives origin name_row octets tokens → OneName origin octets tokens
 one_name origin octets [] g = absurd g.fields
-one_name origin octets (word ∷ words) g =
+one_name origin octets (token ∷ tokens) g =
     let f = g.fields in
     record {
-      word = word;
-      alone = ap (λ (ws : List Word). word ∷ ws) f.others.0;
+      token = token;
+      alone = ap (λ (ws : List Token). token ∷ ws) f.others.0;
       value = f.first.value;
       is = f.first.is;
       same = f.same ∙ ap (λ (s : List ℕ). f.front ++ s) f.others.1 ∙ append-nil f.front ∙ f.first.same;
     }
 
-name_given : (origin : Option DomainName) (word : Word) (value : DomainName) → IsNameWord origin value word → RowGives origin name_row (name_octets value) (word ∷ [])
-name_given origin word value is = record {
+name_given : (origin : Option DomainName) (token : Token) (value : DomainName) → IsNameToken origin value token
+    → RowGives origin name_row (name_octets value) (token ∷ [])
+name_given origin token value is = record {
   fields = record { front = name_octets value; behind = []; same = sym (append-nil (name_octets value)); first = record { value = value; is = is; same = refl }; others = (refl, refl) };
 }
 
 -- ---- what is returned
 
-pub name_found : (r : Result DomainName ParseError) (origin : Option DomainName) (text octets s : List ℕ) (cursor : Cursor) → words_at cursor ≡ zone_words text → s ≡ octets
+pub name_found : (r : Result DomainName ParseError) (origin : Option DomainName) (text octets s : List ℕ) (cursor : Cursor)
+    → tokens_at cursor ≡ zone_tokens text → s ≡ octets
     → TookAll (RowGives origin name_row) octets cursor → IfOk r (λ x. (y : DomainName) → s ≡ name_octets y → IsName y → x ≡ full_name y)
     → IfOk r (IsZoneName origin text)
 name_found (Err e) origin text octets s cursor starts same took h = tt
 name_found (Ok x) origin text octets s cursor starts same took h =
-    let one = one_name origin octets took.words took.value in
+    let one = one_name origin octets took.tokens took.value in
     record {
-      word = one.word;
-      cut = sym starts ∙ took.cut ∙ ap Ok one.alone;
+      token = one.token;
+      divided = sym starts ∙ took.divided ∙ ap Ok one.alone;
       value = one.value;
       is = one.is;
       same = h one.value (same ∙ one.same) one.is.is_name;
     }
 
-pub name_refused : {T : Type 0} (r : Result T ParseError) (e : ParseError) (origin : Option DomainName) (text : List ℕ) (cursor : Cursor) → IsErrAnd r (λ y. y ≡ e)
-    → words_at cursor ≡ zone_words text → UnlessParseMemory e (NoneOfAll (RowGives origin name_row) cursor)
+pub name_refused : {T : Type 0} (r : Result T ParseError) (e : ParseError) (origin : Option DomainName) (text : List ℕ) (cursor : Cursor)
+    → IsErrAnd r (λ y. y ≡ e)
+    → tokens_at cursor ≡ zone_tokens text → UnlessParseMemory e (NoneOfAll (RowGives origin name_row) cursor)
     → IfErr r (λ e. UnlessParseMemory e (IsNoZoneName origin text))
 name_refused r e origin text cursor h starts none = exit_with (λ r. IfErr r (λ e. UnlessParseMemory e (IsNoZoneName origin text))) e r h
     (unless_map e (NoneOfAll (RowGives origin name_row) cursor) (IsNoZoneName origin text)
-    (λ no. record { none = λ x is. no.none (name_octets is.value) (is.word ∷ []) (starts ∙ is.cut) (name_given origin is.word is.value is.is) }) none)
+    (λ no. record { none = λ x is. no.none (name_octets is.value) (is.token ∷ []) (starts ∙ is.divided) (name_given origin is.token is.value is.is) }) none)
 
-told : (e : ParseError) (origin : Option DomainName) (text : List ℕ) (row : ZoneRow) (cursor : Cursor) → words_at cursor ≡ zone_words text → row_value row ≡ name_row
-    → row_texts row ≡ name_called (codes "name") ∷ no_more ∷ [] → (e ≡ parse.Memory) ⊎ RowFault origin row cursor e
+told : (e : ParseError) (origin : Option DomainName) (text : List ℕ) (zone_row : ZoneRow) (cursor : Cursor) → tokens_at cursor ≡ zone_tokens text
+    → row_value zone_row ≡ name_row
+    → row_texts zone_row ≡ name_called (codes "name") ∷ no_more ∷ [] → (e ≡ parse.Memory) ⊎ RowFault origin zone_row cursor e
     → (e ≡ parse.Memory) ⊎ ZoneNameFault origin text e
-told e origin text row cursor starts shape texts (inl memory) = inl memory
-told e origin text row cursor starts shape texts (inr fault) =
-    inr (record { row = row; shape = shape; texts = texts; cursor = cursor; starts = starts; has = fault })
+told e origin text zone_row cursor starts shape texts (inl memory) = inl memory
+told e origin text zone_row cursor starts shape texts (inr fault) =
+    inr (record { zone_row = zone_row; shape = shape; texts = texts; cursor = cursor; starts = starts; has = fault })
 
-pub name_fault : {T : Type 0} (r : Result T ParseError) (e : ParseError) (origin : Option DomainName) (text : List ℕ) (row : ZoneRow) (cursor : Cursor) → IsErrAnd r (λ y. y ≡ e)
-    → words_at cursor ≡ zone_words text → (e ≡ parse.Memory) ⊎ RowFault origin row cursor e → row_value row ≡ name_row
-    → row_texts row ≡ name_called (codes "name") ∷ no_more ∷ []
+pub name_fault : {T : Type 0} (r : Result T ParseError) (e : ParseError) (origin : Option DomainName) (text : List ℕ) (zone_row : ZoneRow) (cursor : Cursor)
+    → IsErrAnd r (λ y. y ≡ e)
+    → tokens_at cursor ≡ zone_tokens text → (e ≡ parse.Memory) ⊎ RowFault origin zone_row cursor e → row_value zone_row ≡ name_row
+    → row_texts zone_row ≡ name_called (codes "name") ∷ no_more ∷ []
     → IfErr r (λ e. (e ≡ parse.Memory) ⊎ ZoneNameFault origin text e)
-name_fault r e origin text row cursor h starts why shape texts =
-    exit_with (λ r. IfErr r (λ e. (e ≡ parse.Memory) ⊎ ZoneNameFault origin text e)) e r h (told e origin text row cursor starts shape texts why)
+name_fault r e origin text zone_row cursor h starts why shape texts =
+    exit_with (λ r. IfErr r (λ e. (e ≡ parse.Memory) ⊎ ZoneNameFault origin text e)) e r h (told e origin text zone_row cursor starts shape texts why)

@@ -4,8 +4,8 @@ use Rattle.std.proofs.Common.{add-one, length-append}
 use Rattle.std.specs.Int.{bytes_high_first}
 use Rattle.hex.specs.Hex.{encode_lower}
 use Rattle.std.proofs.{Math.Seq.take-suc, lemmas.Grind.flat_map-append, lemmas.List.append-nil}
-use Rattle.dns_fields.specs.{Fields.Number, Fields.field_octets, Fields.option_pieces, Pieces.as_piece, Pieces.option_octets, Pieces.piece, Pieces.pieces}
-use Rattle.dns_fields.proofs.Pieces.{length-piece}
+use Rattle.dns_fields.specs.{Fields.Number, Fields.field_octets, Fields.option_tlvs, Tlvs.as_tlv, Tlvs.option_octets, Tlvs.tlv, Tlvs.tlvs}
+use Rattle.dns_fields.proofs.Tlvs.{length-tlv}
 use Rattle.dns_rdata_options.specs.OPT.{Pair, pair_value}
 use Rattle.dns_rdata_zone.specs.{Options.pair_octets, Options.options_octets, Options.zone_options, Tokens.tokens_from, Tokens.in_tokens, Tokens.left_after}
 use Rattle.dns_rdata_zone.proofs.{Digits.generic_is, TokenSteps.hex_tokens, TokenSteps.after_more}
@@ -23,7 +23,7 @@ subnet_head family source scope address h k =
 -- code, length and value
 pub pair_digits : (code len left next : ℕ) (value : List ℕ) → len ≡ length value → 2 * next ≡ left_after (2 * left) (2 * 4)
     → tokens_from (2 * left) (encode_lower (([] ++ field_octets (Number 2) code) ++ field_octets (Number 2) len)) ++ tokens_from (2 * next) (encode_lower value)
-    ≡ tokens_from (2 * left) (encode_lower (piece (code, value)))
+    ≡ tokens_from (2 * left) (encode_lower (tlv (code, value)))
 unfolding field_octets
 pair_digits code len left next value e f =
     let a = bytes_high_first 2 code in
@@ -45,7 +45,8 @@ options_more pairs i p h e =
     rw add-one (ap options_octets (take-suc pairs i p h) ∙ flat_map-append pair_octets (take i pairs) (get_or pairs i p ∷ [])
     ∙ ap (λ (t : List ℕ). options_octets (take i pairs) ++ t) (append-nil (pair_octets (get_or pairs i p)) ∙ ap pair_octets (sym e)))
 
-pub option_written : (pairs : List Pair) (i left : ℕ) (p : Pair) → i < length pairs → p ≡ get_or pairs i p → 2 * left ≡ left_after 1020 (2 * length (options_octets (take i pairs)))
+pub option_written : (pairs : List Pair) (i left : ℕ) (p : Pair) → i < length pairs → p ≡ get_or pairs i p
+    → 2 * left ≡ left_after 1020 (2 * length (options_octets (take i pairs)))
     → in_tokens (encode_lower (options_octets (take i pairs))) ++ tokens_from (2 * left) (encode_lower (pair_octets p))
     ≡ in_tokens (encode_lower (options_octets (take (i + 1) pairs)))
 option_written pairs i left p h e f =
@@ -60,9 +61,9 @@ pub option_left : (pairs : List Pair) (i left next len : ℕ) (p : Pair) → i <
 option_left pairs i left next len p h e f g size =
     let before = options_octets (take i pairs) in
     after_more 1020 left next (length before) (4 + len) (length (options_octets (take (i + 1) pairs))) f g
-    (omega (arith, ap length (options_more pairs i p h e), length-append before (pair_octets p), length-piece (as_piece option_octets (pair_value p)), size))
+    (omega (arith, ap length (options_more pairs i p h e), length-append before (pair_octets p), length-tlv (as_tlv option_octets (pair_value p)), size))
 
 -- the octets of options as those of a field
-pub options_pieces : (pairs : List Pair) → options_octets pairs ≡ pieces (option_pieces (map pair_value pairs))
-options_pieces [] = refl
-options_pieces (p ∷ pairs) = ap (λ (t : List ℕ). pair_octets p ++ t) (options_pieces pairs)
+pub options_tlvs : (pairs : List Pair) → options_octets pairs ≡ tlvs (option_tlvs (map pair_value pairs))
+options_tlvs [] = refl
+options_tlvs (p ∷ pairs) = ap (λ (t : List ℕ). pair_octets p ++ t) (options_tlvs pairs)

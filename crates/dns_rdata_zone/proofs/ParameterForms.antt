@@ -6,53 +6,53 @@ use Rattle.std.specs.List.{AllByRecursion, list_all, position_or_len}
 use Rattle.std.proofs.{lemmas.Bool.Decides.nat_tests, lemmas.Fmt.decimal_is_IsNumeral, lemmas.Str.Parse.digit_at}
 use Rattle.std.proofs.lemmas.List.{take_at, take_all, drop_at, drop_all}
 use Rattle.dns_rdata_zone.proofs.Letters.{first_true, second_true}
-use Rattle.dns_rdata_zone.proofs.Cuts.{AreCut, bare_word, quoted_word, AreRunOctets, run_both, run_printable, begins_plain, plain_cut, InQuotes, joined_cut}
+use Rattle.dns_rdata_zone.proofs.Dividing.{AreDivided, bare_token, quoted_token, AreRunOctets, run_both, run_printable, begins_plain, plain_divided, InQuotes, joined_divided}
 use Rattle.dns_rdata_zone.proofs.RowForms.{bare_unmarked, run_first, decimal_run}
 use Rattle.dns_rdata_zone.proofs.RestForms.{run_tested}
-use Rattle.dns_zone_words.specs.Words.{Word}
+use Rattle.dns_zone_tokens.specs.Tokens.{Token}
 use Rattle.dns_zone_parameters.specs.{Keys.key_number, Keys.IsNumberedName, Keys.IsKeyName, Values.IsValue, declared.key.ParameterKey.ParameterKey}
 use Rattle.dns_zone_parameters.specs.Parameters.{Parameter, is_equals, name_in, value_in, IsParameter}
 use Rattle.dns_rdata_zone.specs.{Parameters.key_name, ZoneGives.AreUnmarked}
 use Rattle.dns_zone_parameters.specs.declared.key.ParameterKey.TheVariants as keys
 
--- ---- names and values in words
+-- ---- names and values in tokens
 
--- no `=` stands in the name
+-- the name has no `=`
 abbrev pub HasNoEquals : List ℕ → Type 0
 HasNoEquals s = AllByRecursion (λ c. eqb c 61 ≡ false) s
 
-place_front : (name value : List ℕ) → HasNoEquals name → position_or_len is_equals (name ++ 61 ∷ value) ≡ length name
-place_front [] value h = refl
-place_front (c ∷ name) value h = rw h.0 (omega (arith, place_front name value h.1))
+equals_front : (name value : List ℕ) → HasNoEquals name → position_or_len is_equals (name ++ 61 ∷ value) ≡ length name
+equals_front [] value h = refl
+equals_front (c ∷ name) value h = rw h.0 (omega (arith, equals_front name value h.1))
 
-place_alone : (name : List ℕ) → HasNoEquals name → position_or_len is_equals name ≡ length name
-place_alone [] h = refl
-place_alone (c ∷ name) h = rw h.0 (omega (arith, place_alone name h.1))
+equals_alone : (name : List ℕ) → HasNoEquals name → position_or_len is_equals name ≡ length name
+equals_alone [] h = refl
+equals_alone (c ∷ name) h = rw h.0 (omega (arith, equals_alone name h.1))
 
 name_front : (name value : List ℕ) → HasNoEquals name → name ≡ name_in (name ++ 61 ∷ value)
-name_front name value h = sym (ap (λ (n : ℕ). take n (name ++ 61 ∷ value)) (place_front name value h) ∙ take_at name (61 ∷ value) (length name) refl)
+name_front name value h = sym (ap (λ (n : ℕ). take n (name ++ 61 ∷ value)) (equals_front name value h) ∙ take_at name (61 ∷ value) (length name) refl)
 
 name_alone : (name : List ℕ) → HasNoEquals name → name ≡ name_in name
-name_alone name h = sym (ap (λ (n : ℕ). take n name) (place_alone name h) ∙ take_all (length name) name (omega arith))
+name_alone name h = sym (ap (λ (n : ℕ). take n name) (equals_alone name h) ∙ take_all (length name) name (omega arith))
 
 value_behind : (name value : List ℕ) → HasNoEquals name → value ≡ value_in (name ++ 61 ∷ value)
 value_behind name value h = sym (
-    ap (λ (n : ℕ). drop (n + 1) (name ++ 61 ∷ value)) (place_front name value h)
+    ap (λ (n : ℕ). drop (n + 1) (name ++ 61 ∷ value)) (equals_front name value h)
     ∙ ap (drop (length name + 1)) (sym (append_assoc name (61 ∷ []) value))
     ∙ drop_at (name ++ 61 ∷ []) value (length name + 1) (length-append name (61 ∷ []))
     )
 
 value_none : (name : List ℕ) → HasNoEquals name → [] ≡ value_in name
-value_none name h = sym (ap (λ (n : ℕ). drop (n + 1) name) (place_alone name h) ∙ drop_all (length name + 1) name (omega arith))
+value_none name h = sym (ap (λ (n : ℕ). drop (n + 1) name) (equals_alone name h) ∙ drop_all (length name + 1) name (omega arith))
 
 -- ---- parameters by their shapes
 
--- the text is words that are this parameter
+-- the text is tokens that are this parameter
 pub record ParameterText (text : List ℕ) (p : Parameter) : Type 0 where
-  pub words : List Word
-  pub cut : AreCut text words
-  pub is : IsParameter p words
-  pub unmarked : AreUnmarked words
+  pub tokens : List Token
+  pub divided : AreDivided text tokens
+  pub is : IsParameter p tokens
+  pub unmarked : AreUnmarked tokens
 
 -- a name of a key, as it is written
 pub record IsSpelled (key : ParameterKey) (name : List ℕ) : Type 0 where
@@ -71,8 +71,8 @@ equals_run name s h k = run_both name (61 ∷ s) h (refl, k)
 -- a key alone
 pub alone_text : (key : ParameterKey) (name octets : List ℕ) → IsSpelled key name → IsValue key [] octets → ParameterText name (key_number key, octets)
 alone_text key name octets h v = record {
-  words = bare_word name ∷ [];
-  cut = plain_cut name h.some h.run;
+  tokens = bare_token name ∷ [];
+  divided = plain_divided name h.some h.run;
   is = record {
     name = name;
     value = [];
@@ -86,8 +86,8 @@ alone_text key name octets h v = record {
 pub bare_text : (key : ParameterKey) (name s octets : List ℕ) → IsSpelled key name → AreRunOctets s → IsValue key s octets
     → ParameterText (name ++ 61 ∷ s) (key_number key, octets)
 bare_text key name s octets h k v = record {
-  words = bare_word (name ++ 61 ∷ s) ∷ [];
-  cut = plain_cut (name ++ 61 ∷ s) (equals_some name s) (equals_run name s h.run k);
+  tokens = bare_token (name ++ 61 ∷ s) ∷ [];
+  divided = plain_divided (name ++ 61 ∷ s) (equals_some name s) (equals_run name s h.run k);
   is = record {
     name = name;
     value = s;
@@ -104,9 +104,9 @@ enclosed_text key name s octets h k v =
     let front = name ++ 61 ∷ [] in
     let run = equals_run name [] h.run tt in
     record {
-      words = bare_word front ∷ quoted_word true s ∷ [];
-      cut = subst (λ (t : List ℕ). AreCut t (bare_word front ∷ quoted_word true s ∷ [])) (append_assoc name (61 ∷ []) (34 ∷ (s ++ 34 ∷ [])))
-          (joined_cut front s (begins_plain front (equals_some name []) run) (run_printable front run) k);
+      tokens = bare_token front ∷ quoted_token true s ∷ [];
+      divided = subst (λ (t : List ℕ). AreDivided t (bare_token front ∷ quoted_token true s ∷ [])) (append_assoc name (61 ∷ []) (34 ∷ (s ++ 34 ∷ [])))
+          (joined_divided front s (begins_plain front (equals_some name []) run) (run_printable front run) k);
       is = record {
         name = name;
         value = s;
@@ -129,7 +129,7 @@ key_of n =
     (cond (eqb n 5) keys.Ech
     (cond (eqb n 6) keys.Ipv6Hint (keys.Numbered n)))))))
 
--- what holds of each key and its name
+-- what is true of each key and its name
 pub by_key : (P : List ℕ → ParameterKey → ℕ → Type 0) (n : ℕ) → P (codes "mandatory") keys.Mandatory 0 → P (codes "alpn") keys.Alpn 1
     → P (codes "no-default-alpn") keys.NoDefaultAlpn 2 → P (codes "port") keys.Port 3 → P (codes "ipv4hint") keys.Ipv4Hint 4 → P (codes "ech") keys.Ech 5
     → P (codes "ipv6hint") keys.Ipv6Hint 6 → P (codes "key" ++ decimal n) (keys.Numbered n) n → P (key_name n) (key_of n) n
@@ -150,7 +150,8 @@ pub record IsKeyOf (name : List ℕ) (key : ParameterKey) (n : ℕ) : Type 0 whe
   pub spelled : IsSpelled key name
   pub number : key_number key ≡ n
 
-named_is : (key : ParameterKey) (n : ℕ) (name : List ℕ) → name ≢ [] → AreRunOctets name → HasNoEquals name → IsKeyName key name → key_number key ≡ n → IsKeyOf name key n
+named_is : (key : ParameterKey) (n : ℕ) (name : List ℕ) → name ≢ [] → AreRunOctets name → HasNoEquals name → IsKeyName key name → key_number key ≡ n
+    → IsKeyOf name key n
 named_is key n name some run whole named number = record { spelled = record { some = some; run = run; whole = whole; named = named }; number = number }
 
 numbered_name : (n : ℕ) → n < 65535 → IsNumberedName n (codes "key" ++ decimal n)

@@ -12,23 +12,23 @@ use Rattle.std.proofs.NetLemmas.Alphabet.{IsDigitOrDot, IsHexOrColon, All-ipv4_t
 use Rattle.std.proofs.lemmas.List.Elements.{All-append, All-cons, All-head, All-nil, All-tail}
 use Rattle.base64.specs.{Engines.standard, GeneralPurpose.encode_of, GeneralPurpose.decode_of}
 use Rattle.base64.proofs.EngineFacts.{decode_of-encode_of}
-use Rattle.dns_fields.specs.{Octets.AreOctets, Pieces.string}
+use Rattle.dns_fields.specs.{Octets.AreOctets, Tlvs.string}
 use Rattle.dns_rdata_base.specs.{A.a_text, AAAA.aaaa_text, declared.a.A.A, declared.aaaa.AAAA.AAAA}
 use Rattle.dns_rdata_service.specs.{SvcParamKey.key_number, declared.svcb.key.SvcParamKey.SvcParamKey}
 use Rattle.dns_rdata_service.specs.SvcParamValue.{a_octets, aaaa_octets}
-use Rattle.dns_words.proofs.Printed.{ipv4_back, ipv6_back}
-use Rattle.dns_zone_words.specs.Letters.{Letter, plain, letters, octet_of, escapes_stand}
+use Rattle.dns_tokens.proofs.Printed.{ipv4_back, ipv6_back}
+use Rattle.dns_zone_tokens.specs.Letters.{Letter, plain, letters, octet_of, escapes_stand}
 use Rattle.dns_zone_parameters.specs.{Values.HasOctets, Values.IsPort, Values.forbids_escapes, Values.IsValue, declared.key.ParameterKey.ParameterKey}
 use Rattle.dns_zone_parameters.specs.Lists.{items_from, items_in, unescaped_from, escapes_end_from, IsItem, IsList, IsListedKey, IsKeyList}
 use Rattle.dns_zone_parameters.specs.declared.lists.ListItem.TheVariants as items
 use Rattle.dns_rdata_zone.specs.{Lists.commas, Spellings.escaped, Spellings.item_octet, Spellings.protocol_octet}
 use Rattle.dns_rdata_zone.specs.Parameters.{key_name, named_key, protocol, rises_from}
-use Rattle.dns_rdata_zone.proofs.{Cuts.is_run_octet, Cuts.AreRunOctets, Cuts.run_both, Letters.first_true, Letters.second_true, ParameterForms.key_of}
-use Rattle.dns_rdata_zone.proofs.{ParameterForms.key_is, ParameterForms.by_key, RowForms.bytes_of, RowForms.bounded, WordForms.text_form}
+use Rattle.dns_rdata_zone.proofs.{Dividing.is_run_octet, Dividing.AreRunOctets, Dividing.run_both, Letters.first_true, Letters.second_true, ParameterForms.key_of}
+use Rattle.dns_rdata_zone.proofs.{ParameterForms.key_is, ParameterForms.by_key, RowForms.bytes_of, RowForms.bounded, TokenForms.text_form}
 
 -- ---- texts of values
 
--- octets that stand for themselves
+-- octets that need no escape
 run_slash : (c : ℕ) → is_run_octet c ≡ true → eqb c 92 ≡ false
 run_slash c h = grind (arith, nat_tests)
 
@@ -48,7 +48,7 @@ no_slash : (s : List ℕ) → AreRunOctets s → AllByRecursion (λ c. eqb c 92 
 no_slash [] h = tt
 no_slash (c ∷ s) h = (run_slash c h.0, no_slash s h.1)
 
--- a value whose text's octets stand for themselves
+-- a value whose text needs no escape
 pub plain_value : (key : ParameterKey) (s octets : List ℕ) → AreRunOctets s → HasOctets key s octets → length octets < 2 ^ 16 → IsValue key s octets
 plain_value key s octets h has fits = record {
   plain = λ _. no_slash s h;
@@ -71,7 +71,7 @@ escaped_value key s octets free h has fits =
 
 -- ---- lists whose items have no comma and no `\`
 
--- it stands for itself in a word, and is no comma
+-- it needs no escape in a token, and is no comma
 abbrev pub AreItemOctets : List ℕ → Type 0
 AreItemOctets s = AllByRecursion (λ c. (is_run_octet c ≡ true) × (eqb c 44 ≡ false)) s
 
@@ -85,7 +85,7 @@ item_end [] front h = ap (λ (l : List ℕ). l ∷ []) (sym (append-nil front))
 item_end (c ∷ s) front h = rw (h.0.1, run_slash c h.0.0)
     (item_end s (front ++ c ∷ []) h.1 ∙ ap (λ (l : List ℕ). l ∷ []) (append_assoc front (c ∷ []) s))
 
--- the text is one item, in front of a comma and at the end
+-- the text is one item, before a comma and at the end
 pub record IsOneItem (text : List ℕ) : Type 0 where
   pub then : (rest : List ℕ) → items_from false [] (text ++ 44 ∷ rest) ≡ text ∷ items_from false [] rest
   pub end : items_from false [] text ≡ text ∷ []
@@ -126,7 +126,8 @@ item_text name = flat_map item_octet name
 
 spelled_octet : (c : ℕ) (front text : List ℕ) → items_from false front (item_octet c ++ text) ≡ items_from false (front ++ item_octet c) text
 spelled_octet c front text = by_test (eqb c 44 || eqb c 92) refl where
-  by_test : (b : Bool) → eqb c 44 || eqb c 92 ≡ b → items_from false front (cond b (92 ∷ c ∷ []) (c ∷ []) ++ text) ≡ items_from false (front ++ cond b (92 ∷ c ∷ []) (c ∷ [])) text
+  by_test : (b : Bool) → eqb c 44 || eqb c 92 ≡ b
+      → items_from false front (cond b (92 ∷ c ∷ []) (c ∷ []) ++ text) ≡ items_from false (front ++ cond b (92 ∷ c ∷ []) (c ∷ [])) text
   by_test true e = ap (λ (f : List ℕ). items_from false f text) (append_assoc front (92 ∷ []) (c ∷ []))
   by_test false e =
       let comma : eqb c 44 ≡ false = grind (arith, nat_tests) in
@@ -208,7 +209,8 @@ further_octets (s ∷ names) h = All-cons (λ x. x < 256) 44 (item_text s ++ fla
 
 pub list_octets : (names : List (List ℕ)) → AllByRecursion AreOctets names → AreOctets (commas item_text names)
 list_octets [] h = All-nil (λ x. x < 256)
-list_octets (s ∷ names) h = All-append (λ x. x < 256) (item_text s) (flat_map (λ x. codes "," ++ item_text x) names) (item_octets s h.0) (further_octets names h.1)
+list_octets (s ∷ names) h =
+    All-append (λ x. x < 256) (item_text s) (flat_map (λ x. codes "," ++ item_text x) names) (item_octets s h.0) (further_octets names h.1)
 
 protocol_spelled : (name : List ℕ) → protocol name ≡ flat_map escaped (item_text name)
 protocol_spelled [] = refl
@@ -268,9 +270,10 @@ is_item_octet c = is_run_octet c && not (eqb c 44)
 
 comma_tested : (s : List ℕ) → list_all is_item_octet s ≡ true → AreItemOctets s
 comma_tested [] h = tt
-comma_tested (c ∷ s) h = (item_is c (first_true (is_item_octet c) (list_all is_item_octet s) h), comma_tested s (second_true (is_item_octet c) (list_all is_item_octet s) h)) where
-  item_is : (c : ℕ) → is_item_octet c ≡ true → (is_run_octet c ≡ true) × (eqb c 44 ≡ false)
-  item_is c h = (first_true (is_run_octet c) (not (eqb c 44)) h, (let other = second_true (is_run_octet c) (not (eqb c 44)) h in grind (arith, nat_tests)))
+comma_tested (c ∷ s) h =
+    (item_is c (first_true (is_item_octet c) (list_all is_item_octet s) h), comma_tested s (second_true (is_item_octet c) (list_all is_item_octet s) h)) where
+      item_is : (c : ℕ) → is_item_octet c ≡ true → (is_run_octet c ≡ true) × (eqb c 44 ≡ false)
+      item_is c h = (first_true (is_run_octet c) (not (eqb c 44)) h, (let other = second_true (is_run_octet c) (not (eqb c 44)) h in grind (arith, nat_tests)))
 
 digit_item : (c : ℕ) → 48 ≤ c → c ≤ 58 → (is_run_octet c ≡ true) × (eqb c 44 ≡ false)
 digit_item c low high = (grind (arith, nat_tests), grind (arith, nat_tests))
@@ -288,7 +291,7 @@ item_both : (a b : List ℕ) → AreItemOctets a → AreItemOctets b → AreItem
 item_both [] b h k = k
 item_both (c ∷ a) b h k = (h.0, item_both a b h.1 k)
 
--- what holds of each name of a key
+-- what is true of each name of a key
 key_item : (n : ℕ) → n < 65535 → AreItemOctets (key_name n)
 key_item n h = by_key (λ (s : List ℕ) (k : ParameterKey) (m : ℕ). AreItemOctets s) n
     (comma_tested (codes "mandatory") refl) (comma_tested (codes "alpn") refl) (comma_tested (codes "no-default-alpn") refl)
@@ -336,7 +339,8 @@ one_items false x y h k = k
 
 segments_items : (s : List ℕ) → AllSegments s → AreItemOctets (ipv6_text s)
 unfolding ipv6_text
-segments_items s fits = one_items (bytes_eq (take 6 s) (0 ∷ 0 ∷ 0 ∷ 0 ∷ 0 ∷ 65535 ∷ [])) (codes "::ffff:" ++ ipv4_text (octets_of (drop 6 s))) (hex_groups_text s)
+segments_items s fits =
+    one_items (bytes_eq (take 6 s) (0 ∷ 0 ∷ 0 ∷ 0 ∷ 0 ∷ 65535 ∷ [])) (codes "::ffff:" ++ ipv4_text (octets_of (drop 6 s))) (hex_groups_text s)
     (item_both (codes "::ffff:") (ipv4_text (octets_of (drop 6 s))) (comma_tested (codes "::ffff:") refl)
     (dotted_items (octets_of (drop 6 s)) (bounded (drop 6 s) (AllSegments-drop 6 s fits))))
     (items_all IsHexOrColon group_item (hex_groups_text s) (All-hex_groups_text s fits))
@@ -370,7 +374,8 @@ hints4_list xs some h = record {
 pub hints6_run : (xs : List AAAA) → AllByRecursion (λ a. IsIpv6Addr a.0) xs → AreRunOctets (commas aaaa_text xs)
 hints6_run xs h = commas_run aaaa_text xs (items6 xs h)
 
-pub hints6_list : (xs : List AAAA) → xs ≢ [] → AllByRecursion (λ a. IsIpv6Addr a.0) xs → IsList items.Ipv6 (commas aaaa_text xs) (flat_map (λ s. s) (map aaaa_octets xs))
+pub hints6_list : (xs : List AAAA) → xs ≢ [] → AllByRecursion (λ a. IsIpv6Addr a.0) xs
+    → IsList items.Ipv6 (commas aaaa_text xs) (flat_map (λ s. s) (map aaaa_octets xs))
 hints6_list xs some h = record {
   parts = map aaaa_octets xs;
   each = subst (λ (l : List (List ℕ)). AllZip (IsItem items.Ipv6) l (map aaaa_octets xs)) (sym (commas_are aaaa_text xs some (each_item aaaa_text xs (items6 xs h)))) (each6 xs h);

@@ -7,25 +7,25 @@ use Rattle.std.proofs.{lemmas.Bool.Decides.nat_tests, lemmas.List.append-nil, le
 use Rattle.base64.specs.{Engines.standard, GeneralPurpose.encode_of}
 use Rattle.dns_zone_parameters.specs.{Keys.key_number as spelled_number, Values.HasOctets, Values.IsValue, declared.key.ParameterKey.ParameterKey}
 use Rattle.dns_zone_parameters.specs.Parameters.{Parameter as Spelled, IsParameter, AreWritten, AreParameters}
-use Rattle.dns_fields.specs.{Fields.parameter_pieces, Octets.AreOctets}
-use Rattle.dns_fields.specs.Pieces.{Numbered, ParameterValue, string, pieces, as_piece, is_some, parameter_octets, Below, Rising}
+use Rattle.dns_fields.specs.{Fields.parameter_tlvs, Octets.AreOctets}
+use Rattle.dns_fields.specs.Tlvs.{Numbered, ParameterValue, string, tlvs, as_tlv, is_some, parameter_octets, Below, Rising}
 use Rattle.dns_rdata_base.specs.{A.a_text, AAAA.aaaa_text}
 use Rattle.dns_rdata_service.specs.{Parameters.Parameter, Parameters.parameter_of, SvcParamKey.key_number, SvcParamValue.value_of}
 use Rattle.dns_rdata_service.specs.declared.svcb.value.SvcParamValue.{SvcParamValue}
 use Rattle.dns_rdata_service.specs.declared.svcb.value.SvcParamValue.TheVariants.{Mandatory, Alpn, NoDefaultAlpn, Port, Ipv4Hint, EchConfigList}
 use Rattle.dns_rdata_service.specs.declared.svcb.value.SvcParamValue.TheVariants.{Ipv6Hint, DohPath, Unknown}
-use Rattle.dns_zone_words.specs.Words.{Word}
+use Rattle.dns_zone_tokens.specs.Tokens.{Token}
 use Rattle.dns_zone_parameters.specs.declared.key.ParameterKey.TheVariants as keys
 use Rattle.dns_rdata_zone.specs.{Lists.commas, Spellings.escaped, Strings.quoted, ZoneGives.AreUnmarked}
 use Rattle.dns_rdata_zone.specs.Parameters.{key_name, named_key, zone_value, zone_parameter, rises_from, value_has_text, has_text}
 use Rattle.dns_rdata_zone.specs.Readable.{IsString, IsWritableValue, IsWritableParameter}
 use Rattle.dns_rdata_zone.proofs.{Letters.first_true, Letters.second_true, RowForms.decimal_run, RestForms.base64_run}
-use Rattle.dns_rdata_zone.proofs.Cuts.{AreCut, cut_then, AreRunOctets, InQuotes, plain_quotes, spelled_quotes}
+use Rattle.dns_rdata_zone.proofs.Dividing.{AreDivided, divided_then, AreRunOctets, InQuotes, plain_quotes, spelled_quotes}
 use Rattle.dns_rdata_zone.proofs.ParameterForms.{ParameterText, IsSpelled, alone_text, bare_text, enclosed_text, key_of, key_is}
 use Rattle.dns_rdata_zone.proofs.ParameterValues.{plain_value, escaped_value, item_text, AreNames, names_list, list_octets, list_spelled, rises_above}
 use Rattle.dns_rdata_zone.proofs.ParameterValues.{keys_run, keys_list, hints4_run, hints4_list, hints6_run, hints6_list, port_is, ech_is}
 
--- the number is the one that the key's form asks for
+-- the number is the one that the key's format needs
 key_at : (m n : ℕ) (key : ParameterKey) → key_of m ≡ key → eqb n m ≡ true → key_of n ≡ key
 key_at m n key e t = let same : n ≡ m = grind (arith, nat_tests) in ap key_of same ∙ e
 
@@ -55,7 +55,8 @@ spelled_at n key h e =
 numbered : {text : List ℕ} {m n : ℕ} {octets : List ℕ} → m ≡ n → ParameterText text (m, octets) → ParameterText text (n, octets)
 numbered {text = text} {octets = octets} e h = subst (λ (k : ℕ). ParameterText text (k, octets)) e h
 
-bare_at : (n : ℕ) (key : ParameterKey) (s octets : List ℕ) → n < 65535 → key_of n ≡ key → AreRunOctets s → IsValue key s octets → ParameterText (key_name n ++ 61 ∷ s) (n, octets)
+bare_at : (n : ℕ) (key : ParameterKey) (s octets : List ℕ) → n < 65535 → key_of n ≡ key → AreRunOctets s → IsValue key s octets
+    → ParameterText (key_name n ++ 61 ∷ s) (n, octets)
 bare_at n key s octets h e run v = let k = spelled_at n key h e in numbered k.1 (bare_text key (key_name n) s octets k.0 run v)
 
 enclosed_at : (n : ℕ) (key : ParameterKey) (s octets : List ℕ) → n < 65535 → key_of n ≡ key → InQuotes s → IsValue key s octets
@@ -68,7 +69,7 @@ opaque_at n s h above octets fits =
     (enclosed_at n (keys.Numbered n) (flat_map escaped s) s h (numbered_at n above) (spelled_quotes s octets)
     (escaped_value (keys.Numbered n) s s refl octets refl fits))
 
--- a value without quotes behind its key
+-- a value without quotes after its key
 bare_behind : (n : ℕ) (key : ParameterKey) (s octets : List ℕ) → n < 65535 → key_of n ≡ key → AreRunOctets s → HasOctets key s octets → length octets < 2 ^ 16
     → ParameterText (key_name n ++ 61 ∷ s) (n, octets)
 bare_behind n key s octets h e run has fits = bare_at n key s octets h e run (plain_value key s octets run has fits)
@@ -88,14 +89,15 @@ small_at : (m n : ℕ) → m < 65535 → eqb n m ≡ true → n < 65535
 small_at m n h t = let same : n ≡ m = grind (arith, nat_tests) in omega (arith, h, same)
 
 -- octets without a form, which may be none
-unknown_behind : (n : ℕ) (s : List ℕ) → n < 65535 → 6 < n → AreOctets s → length s < 2 ^ 16 → ParameterText (key_name n ++ cond (is_some s) (codes "=" ++ quoted s) []) (n, s)
+unknown_behind : (n : ℕ) (s : List ℕ) → n < 65535 → 6 < n → AreOctets s → length s < 2 ^ 16
+    → ParameterText (key_name n ++ cond (is_some s) (codes "=" ++ quoted s) []) (n, s)
 unknown_behind n [] h above octets fits =
     let k = spelled_at n (keys.Numbered n) h (numbered_at n above) in
     subst (λ (t : List ℕ). ParameterText t (n, [])) (sym (append-nil (key_name n)))
     (numbered k.1 (alone_text (keys.Numbered n) (key_name n) [] k.0 (plain_value (keys.Numbered n) [] [] tt refl fits)))
 unknown_behind n (c ∷ s) h above octets fits = opaque_at n (c ∷ s) h above octets fits
 
--- the text of a value behind its key's name
+-- the text of a value after its key's name
 behind_key : (n : ℕ) (v : SvcParamValue) → value_has_text n v ≡ true → IsWritableValue v → length (parameter_octets (value_of v)) < 2 ^ 16
     → ParameterText (key_name n ++ zone_value v) (n, parameter_octets (value_of v))
 behind_key n (Mandatory x) has h fits =
@@ -141,56 +143,57 @@ behind_key n (Unknown x) has h fits =
     let below : nat_lt n 65535 ≡ true = second_true (nat_lt 7 n) (nat_lt n 65535) has in
     unknown_behind n x.0 (grind (arith, nat_tests)) (grind (arith, nat_tests)) h fits
 
-pub parameter_text : (p : Parameter) → has_text p ≡ true → IsWritableParameter p → ParameterText (zone_parameter p) (as_piece parameter_octets (parameter_of p))
+pub parameter_text : (p : Parameter) → has_text p ≡ true → IsWritableParameter p → ParameterText (zone_parameter p) (as_tlv parameter_octets (parameter_of p))
 parameter_text p has h = behind_key (key_number p.0) p.1 has h.1 h.2
 
 -- ---- all parameters
 
--- the texts, a blank between two, are words that are these parameters
+-- the texts, with a blank between two, are tokens that are these parameters
 pub record ParametersText (text : List ℕ) (ps : List Spelled) : Type 0 where
-  pub words : List Word
-  pub cut : AreCut text words
-  pub are : AreWritten ps words
-  pub unmarked : AreUnmarked words
+  pub tokens : List Token
+  pub divided : AreDivided text tokens
+  pub are : AreWritten ps tokens
+  pub unmarked : AreUnmarked tokens
 
-unmarked_front : (a b : List Word) (p : Spelled) → IsParameter p a → AreUnmarked a → AreUnmarked (a ++ b)
+unmarked_front : (a b : List Token) (p : Spelled) → IsParameter p a → AreUnmarked a → AreUnmarked (a ++ b)
 unmarked_front [] b p h k = elim h.written [ ]
 unmarked_front (w ∷ a) b p h k = k
 
 pub parameters_text : (p : Parameter) (ps : List Parameter) → list_all has_text (p ∷ ps) ≡ true → AllByRecursion IsWritableParameter (p ∷ ps)
-    → ParametersText (zone_parameter p ++ flat_map (λ q. codes " " ++ zone_parameter q) ps) (parameter_pieces (map parameter_of (p ∷ ps)))
+    → ParametersText (zone_parameter p ++ flat_map (λ q. codes " " ++ zone_parameter q) ps) (parameter_tlvs (map parameter_of (p ∷ ps)))
 parameters_text p [] has h =
     let one = parameter_text p (first_true (has_text p) true has) h.0 in
     record {
-      words = one.words;
-      cut = subst (λ (t : List ℕ). AreCut t one.words) (sym (append-nil (zone_parameter p))) one.cut;
-      are = (one.words, [], sym (append-nil one.words), one.is, refl);
+      tokens = one.tokens;
+      divided = subst (λ (t : List ℕ). AreDivided t one.tokens) (sym (append-nil (zone_parameter p))) one.divided;
+      are = (one.tokens, [], sym (append-nil one.tokens), one.is, refl);
       unmarked = one.unmarked;
     }
 parameters_text p (q ∷ ps) has h =
     let one = parameter_text p (first_true (has_text p) (list_all has_text (q ∷ ps)) has) h.0 in
     let rest = parameters_text q ps (second_true (has_text p) (list_all has_text (q ∷ ps)) has) h.1 in
     record {
-      words = one.words ++ rest.words;
-      cut = cut_then one.cut rest.cut;
-      are = (one.words, rest.words, refl, one.is, rest.are);
-      unmarked = unmarked_front one.words rest.words _ one.is one.unmarked;
+      tokens = one.tokens ++ rest.tokens;
+      divided = divided_then one.divided rest.divided;
+      are = (one.tokens, rest.tokens, refl, one.is, rest.are);
+      unmarked = unmarked_front one.tokens rest.tokens _ one.is one.unmarked;
     }
 
-below_pieces : (n : ℕ) (v : List (Numbered ParameterValue)) → Below n v → Below n (parameter_pieces v)
-below_pieces n [] h = tt
-below_pieces n (x ∷ v) h = (h.0, below_pieces n v h.1)
+below_tlvs : (n : ℕ) (v : List (Numbered ParameterValue)) → Below n v → Below n (parameter_tlvs v)
+below_tlvs n [] h = tt
+below_tlvs n (x ∷ v) h = (h.0, below_tlvs n v h.1)
 
-rising_pieces : (v : List (Numbered ParameterValue)) → Rising v → Rising (parameter_pieces v)
-rising_pieces [] h = tt
-rising_pieces (x ∷ v) h = (below_pieces x.0 v h.0, rising_pieces v h.1)
+rising_tlvs : (v : List (Numbered ParameterValue)) → Rising v → Rising (parameter_tlvs v)
+rising_tlvs [] h = tt
+rising_tlvs (x ∷ v) h = (below_tlvs x.0 v h.0, rising_tlvs v h.1)
 
-pub parameters_are : {words : List Word} (v : List (Numbered ParameterValue)) → Rising v → AreWritten (parameter_pieces v) words → AreParameters (pieces (parameter_pieces v)) words
+pub parameters_are : {tokens : List Token} (v : List (Numbered ParameterValue)) → Rising v → AreWritten (parameter_tlvs v) tokens
+    → AreParameters (tlvs (parameter_tlvs v)) tokens
 parameters_are v rising written = record {
-  parameters = parameter_pieces v;
+  parameters = parameter_tlvs v;
   written = written;
-  order = parameter_pieces v;
-  same = IsPermutation-refl (parameter_pieces v);
-  rising = rising_pieces v rising;
+  order = parameter_tlvs v;
+  same = IsPermutation-refl (parameter_tlvs v);
+  rising = rising_tlvs v rising;
   wire = refl;
 }

@@ -1,4 +1,4 @@
--- What takes all words that are left, written and given back: hexadecimal, base64, strings and types.
+-- Fields that take all remaining tokens, written and read back: hexadecimal, base64, strings and types.
 use Rattle.std.proofs.Common.{◌≡◌, ◌≢◌, ℕ, suc, ◌+◌, ◌*◌, ◌/◌, ◌%◌, ◌^◌, ◌<◌, ◌≤◌, true, false, List, [], ◌∷◌}
 use Rattle.std.proofs.Common.{◌++◌, length, zero, replicate, rules, decimal, codes, inl, inr, lit<, Option}
 use Rattle.std.proofs.Common.{Ok, refl, sym, ◌∙◌, ap, subst, append_assoc, arith}
@@ -7,12 +7,12 @@ use Rattle.std.specs.{List.AllByRecursion, List.list_all}
 use Rattle.std.specs.{Str.Parse.digits_value}
 use Rattle.std.proofs.{lemmas.Fmt.decimal_is_IsNumeral, lemmas.Fmt.length-decimal-le, lemmas.List.append-nil}
 use Rattle.std.proofs.{lemmas.List.Elements.All-head, lemmas.List.Elements.All-tail}
-use Rattle.dns_fields.specs.{Pieces.string as string_octets, Labels.DomainName, Octets.AreOctets, Bitmaps.block, Bitmaps.minimal}
+use Rattle.dns_fields.specs.{Tlvs.string as string_octets, Labels.DomainName, Octets.AreOctets, Bitmaps.block, Bitmaps.minimal}
 use Rattle.dns_types.specs.{RecordTypes.number_of, RecordTypes.record_type_of, RecordTypes.IsTypeText, declared.record_type.RecordType.RecordType}
 use Rattle.dns_types.specs.declared.record_type.RecordType.TheVariants.{ZERO, ANAME, Unknown}
 use Rattle.dns_types.proofs.RecordTypeLaws.{number_of-record_type_of}
-use Rattle.dns_zone_words.specs.{Words.Word}
-use Rattle.dns_zone_words.specs.Remaining.{AreStrings, AreHex, AreBase64}
+use Rattle.dns_zone_tokens.specs.{Tokens.Token}
+use Rattle.dns_zone_tokens.specs.Remaining.{AreStrings, AreHex, AreBase64}
 use Rattle.hex.specs.Hex.{encode_with, encode_lower, lower_digits, decode_of as hex_of, decode_pairs}
 use Rattle.hex.proofs.HexLemmas.{decode_of-encode_lower}
 use Rattle.base64.specs.{Engines.standard, Rfc4648.encode_symbols, Rfc4648.padding_len}
@@ -23,27 +23,27 @@ use Rattle.dns_zone_rows.specs.Rows.{RestKind, SomeStrings, SomeHex, SomeBase64,
 use Rattle.dns_rdata_zone.specs.{Strings.quoted, Strings.spaced}
 use Rattle.dns_rdata_zone.specs.{ZoneGives.AreUnmarked, Records.zone_type}
 use Rattle.dns_rdata_zone.specs.Spellings.{escaped}
-use Rattle.dns_rdata_zone.proofs.Cuts.{AreCut, cut_then, bare_word, quoted_word, is_run_octet, plain_cut, AreRunOctets}
-use Rattle.dns_rdata_zone.proofs.Cuts.{run_not, run_both, quoted_cut, spelled_quotes}
+use Rattle.dns_rdata_zone.proofs.Dividing.{AreDivided, divided_then, bare_token, quoted_token, is_run_octet, plain_divided, AreRunOctets}
+use Rattle.dns_rdata_zone.proofs.Dividing.{run_not, run_both, quoted_divided, spelled_quotes}
 use Rattle.dns_rdata_zone.specs.Tokens.{in_tokens}
-use Rattle.dns_rdata_zone.proofs.TokenWords.{digit_words, split_words, tokens_cut, words_bare, words_joined}
-use Rattle.dns_zone_words.specs.Remaining.{joined}
+use Rattle.dns_rdata_zone.proofs.TokenTokens.{digit_tokens, split_tokens, tokens_divided, tokens_bare, tokens_joined}
+use Rattle.dns_zone_tokens.specs.Remaining.{joined}
 use Rattle.dns_rdata_zone.proofs.Letters.{first_true, second_true}
-use Rattle.dns_rdata_zone.proofs.WordForms.{text_form}
+use Rattle.dns_rdata_zone.proofs.TokenForms.{text_form}
 use Rattle.dns_rdata_zone.proofs.RowForms.{FieldText, RowText, bare_unmarked, bytes_of, decimal_run, quoted_unmarked, row_last, row_text}
 use Rattle.dns_rdata_zone.proofs.RowForms.{row_then, run_first}
 
--- ---- what takes all words that are left
+-- ---- fields that take all remaining tokens
 
--- a text of words that give these octets
+-- a text of tokens that give these octets
 pub record RestText (rest : RestKind) (text octets : List ℕ) : Type 0 where
-  pub words : List Word
-  pub cut : AreCut text words
-  pub gives : RestGives rest octets words
-  pub unmarked : AreUnmarked words
+  pub tokens : List Token
+  pub divided : AreDivided text tokens
+  pub gives : RestGives rest octets tokens
+  pub unmarked : AreUnmarked tokens
 
 pub row_rest : {origin : Option DomainName} {rest : RestKind} {a x : List ℕ} → RestText rest a x → RowText origin [] rest a x
-row_rest h = record { words = h.words; cut = h.cut; gives = h.gives; unmarked = h.unmarked }
+row_rest h = record { tokens = h.tokens; divided = h.divided; gives = h.gives; unmarked = h.unmarked }
 
 table_run : (t : List ℕ) (k : ℕ) → list_all is_run_octet t ≡ true → k < length t → is_run_octet (slice_index t k) ≡ true
 table_run [] k h lt = absurd (omega arith)
@@ -69,25 +69,25 @@ pub hex_none : hex_of [] ≡ Ok []
 unfolding decode_pairs
 hex_none = refl
 
-pub hex_form : (s : List ℕ) → AreOctets s → AreHex s (digit_words (encode_lower s))
-hex_form s h = record { bare = words_bare (encode_lower s); digits = ap hex_of (words_joined (encode_lower s)) ∙ decode_of-encode_lower s (bytes_of s h) }
+pub hex_form : (s : List ℕ) → AreOctets s → AreHex s (digit_tokens (encode_lower s))
+hex_form s h = record { bare = tokens_bare (encode_lower s); digits = ap hex_of (tokens_joined (encode_lower s)) ∙ decode_of-encode_lower s (bytes_of s h) }
 
--- digits in tokens do not begin the form of unknown data
-digits_unmarked : (s : List ℕ) → s ≢ [] → AreRunOctets s → AreUnmarked (digit_words s)
+-- digits in tokens do not begin the unknown-data form
+digits_unmarked : (s : List ℕ) → s ≢ [] → AreRunOctets s → AreUnmarked (digit_tokens s)
 digits_unmarked [] some h = absurd (some refl)
 digits_unmarked (c ∷ s) some h = split_unmarked 1019 c [] s (run_not c h.0) where
-  split_unmarked : (left c : ℕ) (front s : List ℕ) → c ≢ 92 → AreUnmarked (split_words left (c ∷ front) s)
+  split_unmarked : (left c : ℕ) (front s : List ℕ) → c ≢ 92 → AreUnmarked (split_tokens left (c ∷ front) s)
   split_unmarked left c front [] other = bare_unmarked (c ∷ front) other
   split_unmarked zero c front (d ∷ s) other = bare_unmarked (c ∷ front) other
   split_unmarked (suc left) c front (d ∷ s) other = split_unmarked left c (front ++ d ∷ []) s other
 
-digits_there : (s : List ℕ) → s ≢ [] → digit_words s ≢ []
-digits_there s some e = some (sym (words_joined s) ∙ ap joined e)
+digits_there : (s : List ℕ) → s ≢ [] → digit_tokens s ≢ []
+digits_there s some e = some (sym (tokens_joined s) ∙ ap joined e)
 
 pub hex_text : (s : List ℕ) → s ≢ [] → AreOctets s → RestText SomeHex (in_tokens (encode_lower s)) s
 hex_text s some h = record {
-  words = digit_words (encode_lower s);
-  cut = tokens_cut (encode_lower s) (hex_some s some) (hex_run s h);
+  tokens = digit_tokens (encode_lower s);
+  divided = tokens_divided (encode_lower s) (hex_some s some) (hex_run s h);
   gives = (digits_there (encode_lower s) (hex_some s some), hex_form s h);
   unmarked = digits_unmarked (encode_lower s) (hex_some s some) (hex_run s h);
 }
@@ -146,43 +146,44 @@ symbols_some (a ∷ b ∷ c ∷ s) rest h = λ e. absurd (cc e)
 pub base64_some : (s : List ℕ) → s ≢ [] → encode_of standard s ≢ []
 base64_some s h = symbols_some s (replicate (padding_len (length s)) 61) h
 
-pub base64_form : (s : List ℕ) → AreOctets s → AreBase64 s (digit_words (encode_of standard s))
+pub base64_form : (s : List ℕ) → AreOctets s → AreBase64 s (digit_tokens (encode_of standard s))
 base64_form s h = record {
-  bare = words_bare (encode_of standard s);
-  digits = ap (base64_of standard) (words_joined (encode_of standard s)) ∙ decode_of-encode_of standard s (search rules) (bytes_of s h);
+  bare = tokens_bare (encode_of standard s);
+  digits = ap (base64_of standard) (tokens_joined (encode_of standard s)) ∙ decode_of-encode_of standard s (search rules) (bytes_of s h);
 }
 
 pub base64_text : (s : List ℕ) → s ≢ [] → AreOctets s → RestText SomeBase64 (in_tokens (encode_of standard s)) s
 base64_text s some h = record {
-  words = digit_words (encode_of standard s);
-  cut = tokens_cut (encode_of standard s) (base64_some s some) (base64_run s h);
+  tokens = digit_tokens (encode_of standard s);
+  divided = tokens_divided (encode_of standard s) (base64_some s some) (base64_run s h);
   gives = (digits_there (encode_of standard s) (base64_some s some), base64_form s h);
   unmarked = digits_unmarked (encode_of standard s) (base64_some s some) (base64_run s h);
 }
 
 -- ---- lists with a blank between two
 
-pub list_cut : {X : Type 0} (f : X → List ℕ) (g : X → List Word) (x : X) (xs : List X) → AllByRecursion (λ y. AreCut (f y) (g y)) (x ∷ xs)
-    → AreCut (f x ++ flat_map (λ y. codes " " ++ f y) xs) (flat_map g (x ∷ xs))
-list_cut f g x [] h = subst (λ (t : List ℕ). AreCut t (g x ++ [])) (sym (append-nil (f x))) (subst (λ (ws : List Word). AreCut (f x) ws) (sym (append-nil (g x))) h.0)
-list_cut f g x (y ∷ ys) h = cut_then h.0 (list_cut f g y ys h.1)
+pub list_divided : {X : Type 0} (f : X → List ℕ) (g : X → List Token) (x : X) (xs : List X) → AllByRecursion (λ y. AreDivided (f y) (g y)) (x ∷ xs)
+    → AreDivided (f x ++ flat_map (λ y. codes " " ++ f y) xs) (flat_map g (x ∷ xs))
+list_divided f g x [] h =
+    subst (λ (t : List ℕ). AreDivided t (g x ++ [])) (sym (append-nil (f x))) (subst (λ (ws : List Token). AreDivided (f x) ws) (sym (append-nil (g x))) h.0)
+list_divided f g x (y ∷ ys) h = divided_then h.0 (list_divided f g y ys h.1)
 
-abbrev string_word : List ℕ → List Word
-string_word s = quoted_word false (flat_map escaped s) ∷ []
+abbrev string_token : List ℕ → List Token
+string_token s = quoted_token false (flat_map escaped s) ∷ []
 
-strings_cut : (ss : List (List ℕ)) → AllByRecursion AreOctets ss → AllByRecursion (λ s. AreCut (quoted s) (string_word s)) ss
-strings_cut [] h = tt
-strings_cut (s ∷ ss) h = (quoted_cut (flat_map escaped s) (spelled_quotes s h.0), strings_cut ss h.1)
+strings_divided : (ss : List (List ℕ)) → AllByRecursion AreOctets ss → AllByRecursion (λ s. AreDivided (quoted s) (string_token s)) ss
+strings_divided [] h = tt
+strings_divided (s ∷ ss) h = (quoted_divided (flat_map escaped s) (spelled_quotes s h.0), strings_divided ss h.1)
 
-are_strings : (ss : List (List ℕ)) → AllByRecursion AreOctets ss → AllByRecursion (λ s. length s ≤ 255) ss → AreStrings ss (flat_map string_word ss)
+are_strings : (ss : List (List ℕ)) → AllByRecursion AreOctets ss → AllByRecursion (λ s. length s ≤ 255) ss → AreStrings ss (flat_map string_token ss)
 are_strings [] h k = tt
 are_strings (s ∷ ss) h k = ((text_form false s h.0, k.0), are_strings ss h.1 k.1)
 
 pub strings_text : (s : List ℕ) (ss : List (List ℕ)) → AllByRecursion AreOctets (s ∷ ss) → AllByRecursion (λ t. length t ≤ 255) (s ∷ ss)
     → RestText SomeStrings (quoted s ++ spaced ss) (flat_map string_octets (s ∷ ss))
 strings_text s ss h k = record {
-  words = flat_map string_word (s ∷ ss);
-  cut = list_cut quoted string_word s ss (strings_cut (s ∷ ss) h);
+  tokens = flat_map string_token (s ∷ ss);
+  divided = list_divided quoted string_token s ss (strings_divided (s ∷ ss) h);
   gives = ((λ e. absurd (cc e)), record { strings = s ∷ ss; are = are_strings (s ∷ ss) h k; same = refl });
   unmarked = quoted_unmarked false (flat_map escaped s);
 }
@@ -210,7 +211,7 @@ typed n ANAME small e =
     inr (record { digits = codes "65305"; spelled = refl; numeral = (omega arith, (omega arith, (omega arith, (omega arith, (omega arith, (omega arith, tt)))))); few = omega arith; fits = omega arith; value = refl })
 typed n t small e = inl (record { named = refl; printed = refl })
 
-pub type_form : (n : ℕ) → n < 2 ^ 16 → IsTypeNumber n (bare_word (zone_type (record_type_of n)))
+pub type_form : (n : ℕ) → n < 2 ^ 16 → IsTypeNumber n (bare_token (zone_type (record_type_of n)))
 type_form n small = record {
   record_type = record_type_of n;
   is = record { bare = refl; text = inl (typed n (record_type_of n) small refl) };
@@ -229,8 +230,8 @@ type_run : (t : RecordType) → number_of t < 2 ^ 64 → AreRunOctets (zone_type
 type_run (Unknown n) h = run_both (codes "TYPE") (decimal n) (run_tested (codes "TYPE") refl) (decimal_run n h)
 type_run t h = run_tested (zone_type t) refl
 
-abbrev type_word : ℕ → List Word
-type_word n = bare_word (zone_type (record_type_of n)) ∷ []
+abbrev type_token : ℕ → List Token
+type_token n = bare_token (zone_type (record_type_of n)) ∷ []
 
 abbrev AreNumbers : List ℕ → Type 0
 AreNumbers ns = AllByRecursion (λ n. n < 2 ^ 16) ns
@@ -238,11 +239,11 @@ AreNumbers ns = AllByRecursion (λ n. n < 2 ^ 16) ns
 type_numbered : (n : ℕ) → n < 2 ^ 16 → AreRunOctets (zone_type (record_type_of n))
 type_numbered n h = let e = number_of-record_type_of n in type_run (record_type_of n) (omega (arith, e, h))
 
-types_cut : (ns : List ℕ) → AreNumbers ns → AllByRecursion (λ n. AreCut (zone_type (record_type_of n)) (type_word n)) ns
-types_cut [] h = tt
-types_cut (n ∷ ns) h = (plain_cut (zone_type (record_type_of n)) (type_some (record_type_of n)) (type_numbered n h.0), types_cut ns h.1)
+types_divided : (ns : List ℕ) → AreNumbers ns → AllByRecursion (λ n. AreDivided (zone_type (record_type_of n)) (type_token n)) ns
+types_divided [] h = tt
+types_divided (n ∷ ns) h = (plain_divided (zone_type (record_type_of n)) (type_some (record_type_of n)) (type_numbered n h.0), types_divided ns h.1)
 
-are_types : (ns : List ℕ) → AreNumbers ns → AreTypes ns (flat_map type_word ns)
+are_types : (ns : List ℕ) → AreNumbers ns → AreTypes ns (flat_map type_token ns)
 are_types [] h = tt
 are_types (n ∷ ns) h = (type_form n h.0, are_types ns h.1)
 
@@ -256,8 +257,8 @@ types_text [] h = record { numbers = []; are = tt; same = refl }
 types_text (n ∷ ns) h =
     let t = record_type_of n in
     record {
-      words = flat_map type_word (n ∷ ns);
-      cut = list_cut (λ m. zone_type (record_type_of m)) type_word n ns (types_cut (n ∷ ns) h);
+      tokens = flat_map type_token (n ∷ ns);
+      divided = list_divided (λ m. zone_type (record_type_of m)) type_token n ns (types_divided (n ∷ ns) h);
       gives = record { numbers = n ∷ ns; are = are_types (n ∷ ns) h; same = refl };
       unmarked = bare_unmarked (zone_type t) (run_first (zone_type t) (type_some t) (type_numbered n h.0));
     }
@@ -268,7 +269,7 @@ list_behind a b c d = simp append_assoc
 list_alone : (a b : List ℕ) → (a ++ codes " " ++ b) ++ [] ≡ a ++ 32 ∷ b
 list_alone a b = append-nil (a ++ codes " " ++ b) ∙ append_assoc a (32 ∷ []) b
 
--- a list behind two fields
+-- a list after two fields
 pub row_list : {X : Type 0} {origin : Option DomainName} {k l : FieldKind} {rest : RestKind} {a b x y : List ℕ} (f : X → List ℕ) (xs : List X) (z : List ℕ)
     → FieldText origin k a x → FieldText origin l b y → ListText rest f xs z
     → RowText origin (k ∷ l ∷ []) rest ((a ++ codes " " ++ b) ++ flat_map (λ w. codes " " ++ f w) xs) (x ++ (y ++ z))

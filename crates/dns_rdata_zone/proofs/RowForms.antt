@@ -1,4 +1,4 @@
--- Fields that were written give their octets, and so do rows of them.
+-- Fields that were written give their octets, and so do zone rows of them.
 use Rattle.std.proofs.Common.{◌≡◌, ◌≢◌, ℕ, suc, ◌+◌, ◌*◌, ◌/◌, ◌%◌, ◌^◌, ◌<◌, ◌≤◌, Bool, true, false, cond, eqb, ◌&&◌, nat_le, List, [], ◌∷◌}
 use Rattle.std.proofs.Common.{◌++◌, length, take, drop, zero, get_or, decimal, codes, inl, inr, Option, None}
 use Rattle.std.proofs.Common.{refl, sym, ◌∙◌, ap, subst, append_assoc, arith}
@@ -12,58 +12,58 @@ use Rattle.std.proofs.{lemmas.Bool.Decides.nat_tests, lemmas.Fmt.decimal_is_IsNu
 use Rattle.std.proofs.{lemmas.List.Elements.All-head, lemmas.List.Elements.All-tail, lemmas.Str.Parse.digit_at}
 use Rattle.std.proofs.NetLemmas.Alphabet.{IsDigitOrDot, IsHexOrColon, All-ipv4_text, All-hex_groups_text}
 use Rattle.std.proofs.NetLemmas.Texts.{IsDotted-ipv4_text, IsColonHex-ipv6_text, AllSegments, AllSegments-drop}
-use Rattle.dns_fields.specs.{Pieces.string as string_octets, Labels.DomainName, Labels.IsName, Octets.AreOctets}
-use Rattle.dns_words.proofs.Printed.{ipv4_back, ipv6_back}
-use Rattle.dns_zone_words.specs.{NameWords.name, NameWords.name_octets, Words.Word}
-use Rattle.dns_zone_words.specs.Remaining.{IsUnknownMark}
+use Rattle.dns_fields.specs.{Tlvs.string as string_octets, Labels.DomainName, Labels.IsName, Octets.AreOctets}
+use Rattle.dns_tokens.proofs.Printed.{ipv4_back, ipv6_back}
+use Rattle.dns_zone_tokens.specs.{NameTokens.name, NameTokens.name_octets, Tokens.Token}
+use Rattle.dns_zone_tokens.specs.Remaining.{IsUnknownMark}
 use Rattle.hex.specs.Hex.{IsBytes}
-use Rattle.dns_zone_words.specs.Mnemonics.{Named, number_named}
+use Rattle.dns_zone_tokens.specs.Mnemonics.{Named, number_named}
 use Rattle.dns_zone_rows.specs.Mnemonics.{IsNamedNumber, cert_types, algorithms}
 use Rattle.dns_zone_rows.specs.Rows.{FieldKind, Number, NamedNumber, Ttl, Ipv4, Ipv6, Name, String, Tag}
 use Rattle.dns_zone_rows.specs.Rows.{Octets, RestKind, FieldGives, RestGives, FieldsGive}
 use Rattle.dns_rdata_zone.specs.{Names.zone_label, Names.zone_labels, Names.zone_name, Strings.quoted}
 use Rattle.dns_rdata_zone.specs.{ZoneGives.AreUnmarked}
 use Rattle.dns_rdata_zone.specs.Spellings.{escaped, needs_backslash, name_octet}
-use Rattle.dns_rdata_zone.proofs.Cuts.{AreCut, cut_then, bare_word, quoted_word, is_run_octet, plain_cut, AreRunOctets}
-use Rattle.dns_rdata_zone.proofs.Cuts.{run_not, run_by_index, run_all, run_both, quoted_cut, spelled_quotes, name_cut, NoneEmpty}
+use Rattle.dns_rdata_zone.proofs.Dividing.{AreDivided, divided_then, bare_token, quoted_token, is_run_octet, plain_divided, AreRunOctets}
+use Rattle.dns_rdata_zone.proofs.Dividing.{run_not, run_by_index, run_all, run_both, quoted_divided, spelled_quotes, name_divided, NoneEmpty}
 use Rattle.dns_rdata_zone.proofs.Letters.{first_true, second_true}
-use Rattle.dns_rdata_zone.proofs.WordForms.{number_form, ttl_form, text_form, name_form}
+use Rattle.dns_rdata_zone.proofs.TokenForms.{number_form, ttl_form, text_form, name_form}
 
--- ---- rows
+-- ---- zone rows
 
--- the word does not begin the form of unknown data
-abbrev pub IsUnmarked : Word → Type 0
-IsUnmarked word = IsUnknownMark word → ⊥
+-- the token does not begin the unknown-data form
+abbrev pub IsUnmarked : Token → Type 0
+IsUnmarked token = IsUnknownMark token → ⊥
 
--- the text is a word that gives these octets for the field
+-- the text is a token that gives these octets for the field
 pub record FieldText (origin : Option DomainName) (field : FieldKind) (text octets : List ℕ) : Type 0 where
-  pub word : Word
-  pub cut : AreCut text (word ∷ [])
-  pub gives : FieldGives origin field octets word
-  pub unmarked : IsUnmarked word
+  pub token : Token
+  pub divided : AreDivided text (token ∷ [])
+  pub gives : FieldGives origin field octets token
+  pub unmarked : IsUnmarked token
 
--- the text is words that give these octets for fields and what stands behind them
+-- the text is tokens that give these octets for fields and what follows them
 pub record RowText (origin : Option DomainName) (fields : List FieldKind) (rest : RestKind) (text octets : List ℕ) : Type 0 where
-  pub words : List Word
-  pub cut : AreCut text words
-  pub gives : FieldsGive origin fields rest octets words
-  pub unmarked : AreUnmarked words
+  pub tokens : List Token
+  pub divided : AreDivided text tokens
+  pub gives : FieldsGive origin fields rest octets tokens
+  pub unmarked : AreUnmarked tokens
 
 pub row_then : {origin : Option DomainName} {field : FieldKind} {fields : List FieldKind} {rest : RestKind} {a b x y : List ℕ} → FieldText origin field a x
     → RowText origin fields rest b y → RowText origin (field ∷ fields) rest (a ++ 32 ∷ b) (x ++ y)
 row_then {x = x} {y = y} h k = record {
-  words = h.word ∷ k.words;
-  cut = cut_then h.cut k.cut;
+  tokens = h.token ∷ k.tokens;
+  divided = divided_then h.divided k.divided;
   gives = record { front = x; behind = y; same = refl; first = h.gives; others = k.gives };
   unmarked = h.unmarked;
 }
 
--- the last field, behind which nothing stands
+-- the last field, which nothing follows
 pub row_last : {origin : Option DomainName} {field : FieldKind} {rest : RestKind} {a x : List ℕ} (y : List ℕ) → FieldText origin field a x → RestGives rest y []
     → RowText origin (field ∷ []) rest a (x ++ y)
 row_last {x = x} y h k = record {
-  words = h.word ∷ [];
-  cut = h.cut;
+  tokens = h.token ∷ [];
+  divided = h.divided;
   gives = record { front = x; behind = y; same = refl; first = h.gives; others = k };
   unmarked = h.unmarked;
 }
@@ -73,17 +73,17 @@ pub row_text : {origin : Option DomainName} {fields : List FieldKind} {rest : Re
     → RowText origin fields rest a x
 row_text {origin = origin} {fields = fields} {rest = rest} {x = x} e h = subst (λ (t : List ℕ). RowText origin fields rest t x) (sym e) h
 
--- ---- words that begin with an octet that is no `\`
+-- ---- tokens that begin with an octet other than `\`
 
 abbrev pub OtherFirst : List ℕ → Type 0
 OtherFirst [] = ⊥
 OtherFirst (c ∷ s) = c ≢ 92
 
-pub bare_unmarked : (s : List ℕ) → OtherFirst s → IsUnmarked (bare_word s)
+pub bare_unmarked : (s : List ℕ) → OtherFirst s → IsUnmarked (bare_token s)
 bare_unmarked [] h mark = h
 bare_unmarked (c ∷ s) h mark = let e : c ∷ s ≡ 92 ∷ 35 ∷ [] = mark.octets in h (cc e)
 
-pub quoted_unmarked : (joined : Bool) (s : List ℕ) → IsUnmarked (quoted_word joined s)
+pub quoted_unmarked : (joined : Bool) (s : List ℕ) → IsUnmarked (quoted_token joined s)
 quoted_unmarked joined s mark = let e : true ≡ false = mark.bare in absurd (cc e)
 
 -- ---- fields
@@ -104,10 +104,10 @@ decimal_run n small =
     run_by_index (decimal n) (λ k lt. let digit = digit_at (decimal n) k num.0.1 lt in
     digit_run (get_or (decimal n) k 0) (omega (arith, digit)) (omega (arith, digit)))
 
--- a word whose octets stand for themselves
-pub plain_text : {origin : Option DomainName} {field : FieldKind} (s octets : List ℕ) → s ≢ [] → AreRunOctets s → FieldGives origin field octets (bare_word s)
+-- a token whose octets need no escape
+pub plain_text : {origin : Option DomainName} {field : FieldKind} (s octets : List ℕ) → s ≢ [] → AreRunOctets s → FieldGives origin field octets (bare_token s)
     → FieldText origin field s octets
-plain_text s octets some h k = record { word = bare_word s; cut = plain_cut s some h; gives = k; unmarked = bare_unmarked s (run_first s some h) }
+plain_text s octets some h k = record { token = bare_token s; divided = plain_divided s some h; gives = k; unmarked = bare_unmarked s (run_first s some h) }
 
 pub number_text : (origin : Option DomainName) (w n : ℕ) → n < 2 ^ (8 * w) → n < 2 ^ 64 → FieldText origin (Number w) (decimal n) (bytes_high_first w n)
 number_text origin w n fits small = plain_text (decimal n) (bytes_high_first w n) (decimal_some n small) (decimal_run n small)
@@ -137,38 +137,40 @@ octet_not_mark c s same = not_mark c (48 + c / 100) (48 + c / 10 % 10) (48 + c %
 first_apart : (n l d r : List ℕ) → ((n ++ l) ++ d) ++ r ≡ n ++ ((l ++ d) ++ r)
 first_apart n l d r = simp append_assoc
 
-bare_not : (s : List ℕ) → (s ≡ 92 ∷ 35 ∷ [] → ⊥) → IsUnmarked (bare_word s)
+bare_not : (s : List ℕ) → (s ≡ 92 ∷ 35 ∷ [] → ⊥) → IsUnmarked (bare_token s)
 bare_not s h mark = h mark.octets
 
 dot_not_mark : (s : List ℕ) → s ≡ 46 ∷ [] → s ≡ 92 ∷ 35 ∷ [] → ⊥
 dot_not_mark s d e = absurd (cc (d, e))
 
 label_not_mark : (c : ℕ) (l r : List ℕ) → (flat_map name_octet (c ∷ l) ++ 46 ∷ []) ++ r ≡ 92 ∷ 35 ∷ [] → ⊥
-label_not_mark c l r same = octet_not_mark c ((flat_map name_octet l ++ 46 ∷ []) ++ r) (sym (first_apart (name_octet c) (flat_map name_octet l) (46 ∷ []) r) ∙ same)
+label_not_mark c l r same =
+    octet_not_mark c ((flat_map name_octet l ++ 46 ∷ []) ++ r) (sym (first_apart (name_octet c) (flat_map name_octet l) (46 ∷ []) r) ∙ same)
 
 labels_not_mark : (ls : List (List ℕ)) → NoneEmpty ls → zone_labels ls ≡ 92 ∷ 35 ∷ [] → ⊥
 labels_not_mark [] k same = dot_not_mark (46 ∷ []) refl same
 labels_not_mark ([] ∷ ls) k same = absurd (k.0 refl)
 labels_not_mark ((c ∷ l) ∷ ls) k same = label_not_mark c l (flat_map zone_label ls) same
 
-name_first : (ls : List (List ℕ)) → NoneEmpty ls → IsUnmarked (bare_word (zone_labels ls))
+name_first : (ls : List (List ℕ)) → NoneEmpty ls → IsUnmarked (bare_token (zone_labels ls))
 name_first ls k = bare_not (zone_labels ls) (labels_not_mark ls k)
 
 pub name_text : (origin : Option DomainName) (x : DomainName) → AllByRecursion AreOctets x.labels → NoneEmpty x.labels → x.fully_qualified ≡ true → IsName x
     → FieldText origin Name (zone_name x) (name_octets x)
 name_text origin x h k q is = record {
-  word = bare_word (zone_name x);
-  cut = name_cut x.labels h k;
+  token = bare_token (zone_name x);
+  divided = name_divided x.labels h k;
   gives = record { value = x; is = name_form x origin h k q is; same = refl };
   unmarked = name_first x.labels k;
 }
 
--- what stands in quotes
-quoted_text : {origin : Option DomainName} {field : FieldKind} (s octets : List ℕ) → AreOctets s → FieldGives origin field octets (quoted_word false (flat_map escaped s))
+-- what is in quotes
+quoted_text : {origin : Option DomainName} {field : FieldKind} (s octets : List ℕ) → AreOctets s
+    → FieldGives origin field octets (quoted_token false (flat_map escaped s))
     → FieldText origin field (quoted s) octets
 quoted_text s octets h k = record {
-  word = quoted_word false (flat_map escaped s);
-  cut = quoted_cut (flat_map escaped s) (spelled_quotes s h);
+  token = quoted_token false (flat_map escaped s);
+  divided = quoted_divided (flat_map escaped s) (spelled_quotes s h);
   gives = k;
   unmarked = quoted_unmarked false (flat_map escaped s);
 }
@@ -201,13 +203,15 @@ name_apart d s [] low high h = absurd (cc h)
 name_apart d s (c ∷ name) low high h =
     ap (λ (b : Bool). b && bytes_eq (str_to_ascii_lowercase s) (str_to_ascii_lowercase name)) (digit_apart d c low high h)
 
-table_apart : (table : List Named) (d : ℕ) (s : List ℕ) → 48 ≤ d → d ≤ 57 → list_all (λ x. begins_letter x.name) table ≡ true → number_named table (d ∷ s) ≡ None
+table_apart : (table : List Named) (d : ℕ) (s : List ℕ) → 48 ≤ d → d ≤ 57 → list_all (λ x. begins_letter x.name) table ≡ true
+    → number_named table (d ∷ s) ≡ None
 table_apart [] d s low high h = refl
 table_apart (x ∷ table) d s low high h =
     rw (name_apart d s x.name low high (first_true (begins_letter x.name) (list_all (λ y. begins_letter y.name) table) h))
     (table_apart table d s low high (second_true (begins_letter x.name) (list_all (λ y. begins_letter y.name) table) h))
 
-digits_apart : (table : List Named) (s : List ℕ) → 0 < length s → 48 ≤ get_or s 0 0 → get_or s 0 0 ≤ 57 → list_all (λ x. begins_letter x.name) table ≡ true → number_named table s ≡ None
+digits_apart : (table : List Named) (s : List ℕ) → 0 < length s → 48 ≤ get_or s 0 0 → get_or s 0 0 ≤ 57 → list_all (λ x. begins_letter x.name) table ≡ true
+    → number_named table s ≡ None
 digits_apart table [] some low high h = absurd (omega (arith, some))
 digits_apart table (d ∷ s) some low high h = table_apart table d s low high h
 
@@ -218,12 +222,13 @@ number_apart table n small h =
     digits_apart table (decimal n) num.0.0 (omega (arith, digit)) (omega (arith, digit)) h
 
 -- the number of a name is written by its digits
-pub named_text : (origin : Option DomainName) (w : ℕ) (table : List Named) (n : ℕ) → n < 2 ^ (8 * w) → n < 2 ^ 64 → list_all (λ x. begins_letter x.name) table ≡ true
+pub named_text : (origin : Option DomainName) (w : ℕ) (table : List Named) (n : ℕ) → n < 2 ^ (8 * w) → n < 2 ^ 64
+    → list_all (λ x. begins_letter x.name) table ≡ true
     → FieldText origin (NamedNumber w table) (decimal n) (bytes_high_first w n)
 named_text origin w table n fits small letters = plain_text (decimal n) (bytes_high_first w n) (decimal_some n small) (decimal_run n small)
     (record {
       value = n;
-      is = subst (λ (o : Option ℕ). IsNamedNumber w o n (bare_word (decimal n))) (sym (number_apart table n small letters)) (number_form w n fits small);
+      is = subst (λ (o : Option ℕ). IsNamedNumber w o n (bare_token (decimal n))) (sym (number_apart table n small letters)) (number_form w n fits small);
       same = refl;
     })
 

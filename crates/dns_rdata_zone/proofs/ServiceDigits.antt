@@ -1,4 +1,4 @@
--- A service binding in the form of unknown data.
+-- A service binding in the unknown-data form.
 use Rattle.std.proofs.Common.{◌≡◌, ℕ, ◌+◌, ◌*◌, ◌≤◌, Bool, true, false, cond, List, [], ◌∷◌, ◌++◌, length, drop, decimal, Option, Some, None, MatchOption}
 use Rattle.std.proofs.Common.{refl, sym, ◌∙◌, ap, append_assoc, arith, length-append}
 use Rattle.std.proofs.lemmas.List.{append-nil, drop_at}
@@ -36,7 +36,8 @@ parts : (count left : ℕ) (f l n t whole rest : List ℕ) → whole ≡ f ++ (l
     → (92 ∷ 35 ∷ 32 ∷ (decimal count ++ 32 ∷ (encode_lower f ++ encode_lower n))) ++ tokens_from (2 * left) (encode_lower rest) ≡ generic (f ++ (n ++ t))
 parts count left f l n t whole rest is same some counted behind room =
     let size : length (f ++ l) ≡ length l + length f = omega (arith, length-append f l) in
-    let others : rest ≡ t = behind ∙ ap (λ (s : List ℕ). drop (length l + length f) s) (is ∙ sym (append_assoc f l t)) ∙ drop_at (f ++ l) t (length l + length f) size in
+    let others : rest ≡ t =
+    behind ∙ ap (λ (s : List ℕ). drop (length l + length f) s) (is ∙ sym (append_assoc f l t)) ∙ drop_at (f ++ l) t (length l + length f) size in
     let number : count ≡ length (f ++ (n ++ t)) =
     omega (arith, counted, ap length is, length-append f (l ++ t), length-append l t, length-append f (n ++ t), length-append n t, same) in
     let many : 1 ≤ count = omega (arith, number, length-append f (n ++ t)) in
@@ -63,9 +64,9 @@ service_generic x count left head whole rest is counted front behind room =
     let long : length f ≡ 2 = two_octets x.svc_priority in
     ap (λ (s : List ℕ). (92 ∷ 35 ∷ 32 ∷ (decimal count ++ 32 ∷ (encode_lower s ++ encode_lower (name_octets x.target_name)))) ++ tokens_from (2 * left) (encode_lower rest)) front
     ∙ parts count left f (lowname x.target_name) (name_octets x.target_name) (field_octets Parameters (svcb_fields x).1.1.0 ++ []) whole rest
-    (is ∙ low_octets x) (length_low x.target_name.labels) (omega (arith, long)) counted
+    (is ∙ low_octets x) (length_low x.target_name) (omega (arith, long)) counted
     (behind ∙ ap (λ (n : ℕ). drop (length (lowname x.target_name) + n) whole) (sym long))
-    (omega (arith, room, long, length_low x.target_name.labels))
+    (omega (arith, room, long, length_low x.target_name))
 
 if_so : (b : Bool) (x y : List ℕ) → b ≡ true → cond b x y ≡ x
 if_so true x y h = refl

@@ -6,7 +6,7 @@ use Rattle.hex.specs.Hex.{encode_lower, lower_digits}
 use Rattle.hex.proofs.HexLemmas.{length-encode_with}
 use Rattle.base64.specs.{Engines.standard, Rfc4648.encode_symbols, Rfc4648.padding_len, GeneralPurpose.encode_of}
 use Rattle.dns_rdata_zone.specs.{Generic.generic, Tokens.tokens_from, Tokens.left_after}
-use Rattle.dns_rdata_zone.proofs.{Digits.generic_is, Digits.hex_append, TokenWords.tokens_append, TokenWords.tokens_fit, TokenWords.tokens_full, TokenWords.after_fits, TokenWords.after_full}
+use Rattle.dns_rdata_zone.proofs.{Digits.generic_is, Digits.hex_append, TokenTokens.tokens_append, TokenTokens.tokens_fit, TokenTokens.tokens_full, TokenTokens.after_fits, TokenTokens.after_full}
 
 -- ---- hexadecimal
 
@@ -16,7 +16,7 @@ hex_length s = length-encode_with lower_digits s
 some_behind : (s : List ℕ) → 0 < length s → s ≢ []
 some_behind s h e = let none : length s ≡ 0 = ap length e in omega (arith, none)
 
--- what a slice has from a place on
+-- what a slice has from an index on
 rest_from : (n : ℕ) (s : List ℕ) → n < length s → take (length s - n) (drop n s) ≡ drop n s
 rest_from n s h = take_all (length s - n) (drop n s) (omega (arith, length-drop n s))
 
@@ -41,11 +41,12 @@ hex_step left rest text whole h w =
     let e = rest_from left rest h in rw e (hex_step_on left rest text whole h w)
 
 -- the last one takes the rest
-pub hex_last : (left : ℕ) (rest text whole : List ℕ) → length rest ≤ left → text ++ tokens_from (2 * left) (encode_lower rest) ≡ whole → text ++ encode_lower rest ≡ whole
+pub hex_last : (left : ℕ) (rest text whole : List ℕ) → length rest ≤ left → text ++ tokens_from (2 * left) (encode_lower rest) ≡ whole
+    → text ++ encode_lower rest ≡ whole
 hex_last left rest text whole h w =
     ap (λ (t : List ℕ). text ++ t) (sym (tokens_fit (2 * left) (encode_lower rest) (omega (arith, hex_length rest)))) ∙ w
 
--- octets and others behind them
+-- octets and others after them
 pub hex_tokens : (left : ℕ) (a b : List ℕ) → tokens_from left (encode_lower (a ++ b))
     ≡ tokens_from left (encode_lower a) ++ tokens_from (left_after left (2 * length a)) (encode_lower b)
 hex_tokens left a b =
@@ -71,7 +72,7 @@ symbols_append t (suc k) (x ∷ y ∷ z ∷ a) b h = let behind = symbols_append
 abbrev symbols : List ℕ
 symbols = standard.encode_table
 
--- the `=` behind so many octets
+-- the `=` after so many octets
 abbrev padding : ℕ → List ℕ
 padding n = replicate (padding_len n) 61
 
@@ -102,7 +103,7 @@ pad_same n m e = rw e refl
 full_padding : (n : ℕ) → n ≡ 765 → padding n ≡ []
 full_padding n h = rw h refl
 
--- octets of whole groups, and others behind them
+-- octets of whole groups, and others after them
 base64_append : (a b : List ℕ) → length a ≡ 765 → encode_of standard (a ++ b) ≡ encode_of standard a ++ encode_of standard b
 base64_append a b h =
     let s = encode_symbols symbols a in
@@ -137,14 +138,16 @@ pub base64_step : (rest text whole : List ℕ) → 765 < length rest → text ++
 base64_step rest text whole h w = let e = rest_from 765 rest h in rw e (base64_step_on rest text whole h w)
 
 -- the last one takes the rest
-pub base64_last : (rest text whole : List ℕ) → length rest ≤ 765 → text ++ tokens_from 1020 (encode_of standard rest) ≡ whole → text ++ encode_of standard rest ≡ whole
+pub base64_last : (rest text whole : List ℕ) → length rest ≤ 765 → text ++ tokens_from 1020 (encode_of standard rest) ≡ whole
+    → text ++ encode_of standard rest ≡ whole
 base64_last rest text whole h w =
     ap (λ (t : List ℕ). text ++ t) (sym (tokens_fit 1020 (encode_of standard rest) (omega (arith, base64_length rest)))) ∙ w
 
 -- ---- from the beginning of a token on
 
--- octets that the first token takes, and others behind them
-pub front_tokens : (left : ℕ) (a b : List ℕ) → left + length a ≡ 510 → encode_lower a ++ tokens_from (2 * left) (encode_lower b) ≡ tokens_from 1020 (encode_lower (a ++ b))
+-- octets that the first token takes, and others after them
+pub front_tokens : (left : ℕ) (a b : List ℕ) → left + length a ≡ 510
+    → encode_lower a ++ tokens_from (2 * left) (encode_lower b) ≡ tokens_from 1020 (encode_lower (a ++ b))
 front_tokens left a b h =
     let first : tokens_from 1020 (encode_lower a) ≡ encode_lower a = tokens_fit 1020 (encode_lower a) (omega (arith, hex_length a)) in
     let after : left_after 1020 (2 * length a) ≡ 2 * left = omega (arith, after_octets 510 (length a) (omega arith)) in
@@ -163,7 +166,8 @@ after_append zero (suc n) m (suc k) e = after_append 1019 n m k (omega arith)
 after_append (suc left) (suc n) m (suc k) e = after_append left n m k (omega arith)
 
 -- what the token takes after octets, and after more
-pub after_more : (start left next n m k : ℕ) → 2 * left ≡ left_after start (2 * n) → 2 * next ≡ left_after (2 * left) (2 * m) → k ≡ n + m → 2 * next ≡ left_after start (2 * k)
+pub after_more : (start left next n m k : ℕ) → 2 * left ≡ left_after start (2 * n) → 2 * next ≡ left_after (2 * left) (2 * m) → k ≡ n + m
+    → 2 * next ≡ left_after start (2 * k)
 after_more start left next n m k e f g =
     f ∙ ap (λ (l : ℕ). left_after l (2 * m)) e ∙ sym (after_append start (2 * n) (2 * m) (2 * k) (omega arith))
 

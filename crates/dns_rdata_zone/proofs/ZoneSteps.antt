@@ -2,24 +2,24 @@
 use Rattle.std.proofs.Common.{◌≡◌, ◌≢◌, ℕ, true, List, [], ◌∷◌, length, Option, Some, Result, Ok, Err, ◌⊎◌, inl, inr, refl, sym, ◌∙◌, ap, subst}
 use Rattle.std.specs.Prelude.{IfOk, IfErr, codes}
 use Rattle.std.specs.{Option.option_map, Result.IsErrAnd}
-use Rattle.dns_names_wire.specs.{Words.UnlessMemory, State.Reading}
+use Rattle.dns_names_wire.specs.{Terms.UnlessMemory, State.Reading}
 use Rattle.dns_fields.specs.Labels.{DomainName}
-use Rattle.dns_rdata.specs.{Data.shape, Data.Fills, Data.NoValue, Data.data_octets, Refusals.IsRefusal, declared.record_data.RData.RData}
-use Rattle.dns_types.specs.{Errors.decode_refusal, Errors.proto_refusal, declared.error.DecodeError.DecodeError, declared.error.ParseError.ParseError}
+use Rattle.dns_rdata.specs.{Data.shape, Data.Fills, Data.NoValue, Data.data_octets, ReadErrors.IsReadError, declared.record_data.RData.RData}
+use Rattle.dns_types.specs.{Errors.decode_error, Errors.proto_error, declared.error.DecodeError.DecodeError, declared.error.ParseError.ParseError}
 use Rattle.dns_types.specs.declared.record_type.RecordType.{RecordType}
 use Rattle.dns_types.specs.declared.error.DecodeError.TheVariants as decode
 use Rattle.dns_types.specs.declared.error.ParseError.TheVariants as parse
-use Rattle.dns_words.specs.Reads.{UnlessParseMemory}
-use Rattle.dns_zone_rows.specs.{RowFaults.row_value, RowFaults.RowFault, RowTable.row_of, RowTexts.row_texts, RowTexts.texts_of, declared.row.ZoneRow.ZoneRow}
-use Rattle.dns_zone_words.specs.{Refusals.Says, Remaining.AreUnknown, Remaining.TookAll, declared.words_error.WordsError.WordsError}
-use Rattle.dns_zone_words.specs.Words.{Word, Cursor, words_at, with_word, zone_words}
-use Rattle.dns_words.proofs.Steps.{unless_map}
-use Rattle.dns_rdata_zone.specs.ZoneGives.{AreUnknownData, AreUnmarked, GiveByRow, WordsGive, IsWhole, has_name, AreDataOf, GivesValue, GivesNone}
+use Rattle.dns_tokens.specs.Reads.{UnlessParseMemory}
+use Rattle.dns_zone_rows.specs.{RowFaults.row_value, RowFaults.RowFault, RowTable.zone_row_of, RowTexts.row_texts, RowTexts.texts_of, declared.zone_row.ZoneRow.ZoneRow}
+use Rattle.dns_zone_tokens.specs.{Errors.Says, Remaining.AreUnknown, Remaining.TookAll, declared.tokens_error.TokensError.TokensError}
+use Rattle.dns_zone_tokens.specs.Tokens.{Token, Cursor, tokens_at, with_token, zone_tokens}
+use Rattle.dns_tokens.proofs.Steps.{unless_map}
+use Rattle.dns_rdata_zone.specs.ZoneGives.{AreUnknownData, AreUnmarked, GiveByRow, TokensGive, IsWhole, has_name, AreDataOf, GivesValue, GivesNone}
 use Rattle.dns_rdata_zone.specs.ZoneGives.{at_start}
 use Rattle.dns_rdata_zone.specs.ZoneFaults.{OctetsFault, IsBehindMark, BehindMarkFault}
-use Rattle.dns_rdata_zone.specs.ZoneFaults.{HasNoMark, LacksRow, WordsFault, ByRowFault, ZoneFault}
+use Rattle.dns_rdata_zone.specs.ZoneFaults.{HasNoMark, LacksRow, TokensFault, ByRowFault, ZoneFault}
 use Rattle.dns_rdata_zone.specs.ZoneSteps.{AreNoData, UnknownIs, UnknownIsNone, RowIs, RowIsNone}
-use Rattle.dns_rdata_zone.proofs.ZoneOnce.{same_words, unknown_once, by_row_once, data_one}
+use Rattle.dns_rdata_zone.proofs.ZoneOnce.{same_tokens, unknown_once, by_row_once, data_one}
 
 -- what is handed on
 pub exit_with : {T : Type 0} (F : Result T ParseError → Type 0) (e : ParseError) (r : Result T ParseError) → IsErrAnd r (λ y. y ≡ e) → F (Err e) → F r
@@ -28,13 +28,14 @@ exit_with F e (Err y) h f = subst (λ (z : ParseError). F (Err z)) (sym h) f
 
 -- ---- octets that are read
 
-read_none : (e : DecodeError) (P : Type 0) → UnlessMemory e P → UnlessParseMemory (proto_refusal (decode_refusal e)) P
+read_none : (e : DecodeError) (P : Type 0) → UnlessMemory e P → UnlessParseMemory (proto_error (decode_error e)) P
 read_none decode.Memory P h = tt
 read_none e P h = h
 
-pub octets_refused : (e : DecodeError) (m octets : List ℕ) (p n : ℕ) (t : RecordType) → m ≡ octets → p ≡ 0 → n ≡ length octets → UnlessMemory e (NoValue m p n t)
-    → UnlessParseMemory (proto_refusal (decode_refusal e)) (AreNoData octets t)
-octets_refused e m octets p n t same start all h = unless_map (proto_refusal (decode_refusal e)) (NoValue m p n t) (AreNoData octets t)
+pub octets_refused : (e : DecodeError) (m octets : List ℕ) (p n : ℕ) (t : RecordType) → m ≡ octets → p ≡ 0 → n ≡ length octets
+    → UnlessMemory e (NoValue m p n t)
+    → UnlessParseMemory (proto_error (decode_error e)) (AreNoData octets t)
+octets_refused e m octets p n t same start all h = unless_map (proto_error (decode_error e)) (NoValue m p n t) (AreNoData octets t)
     (λ none. record {
       none = λ v is. none.none v (subst (λ (k : ℕ). Fills m p k t v) (sym all)
           (subst (λ (k : ℕ). Fills m k (length octets) t v) (sym start) (subst (λ (o : List ℕ). Fills o 0 (length octets) t v) (sym same) is.fills)));
@@ -42,17 +43,21 @@ octets_refused e m octets p n t same start all h = unless_map (proto_refusal (de
 
 -- ---- unknown data
 
-unknown_same : (t : RecordType) (v : RData) (octets : List ℕ) (cursor : Cursor) → TookAll AreUnknown octets cursor → (u : UnknownIs t v cursor) → u.octets ≡ octets
+unknown_same : (t : RecordType) (v : RData) (octets : List ℕ) (cursor : Cursor) → TookAll AreUnknown octets cursor → (u : UnknownIs t v cursor)
+    → u.octets ≡ octets
 unknown_same t v octets cursor took u =
-    let words : took.words ≡ u.words = same_words (words_at cursor) took.words u.words took.cut u.cut in
-    unknown_once u.octets octets u.words u.are (subst (AreUnknown octets) words took.value)
+    let tokens : took.tokens ≡ u.tokens = same_tokens (tokens_at cursor) took.tokens u.tokens took.divided u.divided in
+    unknown_once u.octets octets u.tokens u.are (subst (AreUnknown octets) tokens took.value)
 
-pub unknown_refused : (e : ParseError) (t : RecordType) (octets s : List ℕ) (cursor : Cursor) → s ≡ octets → TookAll AreUnknown octets cursor → UnlessParseMemory e (AreNoData s t)
+pub unknown_refused : (e : ParseError) (t : RecordType) (octets s : List ℕ) (cursor : Cursor) → s ≡ octets → TookAll AreUnknown octets cursor
+    → UnlessParseMemory e (AreNoData s t)
     → UnlessParseMemory e (UnknownIsNone t cursor)
-unknown_refused e t octets s cursor same took h = unless_refused e t octets cursor took (subst (λ (o : List ℕ). UnlessParseMemory e (AreNoData o t)) same h) where
-  unless_refused : (e : ParseError) (t : RecordType) (octets : List ℕ) (cursor : Cursor) → TookAll AreUnknown octets cursor → UnlessParseMemory e (AreNoData octets t) → UnlessParseMemory e (UnknownIsNone t cursor)
-  unless_refused e t octets cursor took h = unless_map e (AreNoData octets t) (UnknownIsNone t cursor)
-      (λ none. record { none = λ v u. none.none v (subst (λ (o : List ℕ). AreDataOf o t v) (unknown_same t v octets cursor took u) u.is_data) }) h
+unknown_refused e t octets s cursor same took h =
+    unless_refused e t octets cursor took (subst (λ (o : List ℕ). UnlessParseMemory e (AreNoData o t)) same h) where
+      unless_refused : (e : ParseError) (t : RecordType) (octets : List ℕ) (cursor : Cursor) → TookAll AreUnknown octets cursor
+          → UnlessParseMemory e (AreNoData octets t) → UnlessParseMemory e (UnknownIsNone t cursor)
+      unless_refused e t octets cursor took h = unless_map e (AreNoData octets t) (UnknownIsNone t cursor)
+          (λ none. record { none = λ v u. none.none v (subst (λ (o : List ℕ). AreDataOf o t v) (unknown_same t v octets cursor took u) u.is_data) }) h
 
 pub not_whole : (t : RecordType) (v : RData) (octets s : List ℕ) (n : ℕ) (cursor : Cursor) → s ≡ octets → n ≡ length octets → TookAll AreUnknown octets cursor
     → AreDataOf s t v → has_name (shape t) ≡ true → length (data_octets v) ≢ n → UnknownIsNone t cursor
@@ -63,53 +68,58 @@ not_whole t v octets s n cursor e counted took is named other = record {
       other (ap (λ (x : RData). length (data_octets x)) (sym value) ∙ u.whole named ∙ ap length same ∙ sym counted);
 }
 
--- ---- rows
+-- ---- zone rows
 
-row_none : (e : ParseError) (origin : Option DomainName) (t : RecordType) (octets text : List ℕ) (cursor : Cursor) → words_at cursor ≡ zone_words text
-    → TookAll (GiveByRow origin (row_of t)) octets cursor → UnlessParseMemory e (AreNoData octets t) → UnlessParseMemory e (RowIsNone origin t text)
+row_none : (e : ParseError) (origin : Option DomainName) (t : RecordType) (octets text : List ℕ) (cursor : Cursor) → tokens_at cursor ≡ zone_tokens text
+    → TookAll (GiveByRow origin (zone_row_of t)) octets cursor → UnlessParseMemory e (AreNoData octets t) → UnlessParseMemory e (RowIsNone origin t text)
 row_none e origin t octets text cursor starts took h = unless_map e (AreNoData octets t) (RowIsNone origin t text)
     (λ none. record {
       none = λ v u.
-          let words : u.words ≡ took.words = same_words (zone_words text) u.words took.words u.cut (sym starts ∙ took.cut) in
-          let give : GiveByRow origin (row_of t) u.octets took.words = subst (GiveByRow origin (row_of t) u.octets) words u.give in
-          let octets_same : u.octets ≡ octets = by_row_once origin (row_of t) u.octets octets took.words give took.value in
+          let tokens : u.tokens ≡ took.tokens = same_tokens (zone_tokens text) u.tokens took.tokens u.divided (sym starts ∙ took.divided) in
+          let give : GiveByRow origin (zone_row_of t) u.octets took.tokens = subst (GiveByRow origin (zone_row_of t) u.octets) tokens u.give in
+          let octets_same : u.octets ≡ octets = by_row_once origin (zone_row_of t) u.octets octets took.tokens give took.value in
           none.none v (subst (λ (o : List ℕ). AreDataOf o t v) octets_same u.is_data);
     }) h
 
-pub row_refused : {T : Type 0} (r : Result T ParseError) (origin : Option DomainName) (t : RecordType) (octets s text : List ℕ) (cursor : Cursor) → words_at cursor ≡ zone_words text
-    → s ≡ octets → TookAll (GiveByRow origin (row_of t)) octets cursor → IfErr r (λ e. UnlessParseMemory e (AreNoData s t)) → IfErr r (λ e. UnlessParseMemory e (RowIsNone origin t text))
+pub row_refused : {T : Type 0} (r : Result T ParseError) (origin : Option DomainName) (t : RecordType) (octets s text : List ℕ) (cursor : Cursor)
+    → tokens_at cursor ≡ zone_tokens text
+    → s ≡ octets → TookAll (GiveByRow origin (zone_row_of t)) octets cursor → IfErr r (λ e. UnlessParseMemory e (AreNoData s t))
+    → IfErr r (λ e. UnlessParseMemory e (RowIsNone origin t text))
 row_refused (Ok x) origin t octets s text cursor starts same took h = tt
 row_refused (Err e) origin t octets s text cursor starts same took h =
     row_none e origin t octets text cursor starts took (subst (λ (o : List ℕ). UnlessParseMemory e (AreNoData o t)) same h)
 
--- what is the same of the rows is the same of the one row
-same_rows : {T : Type 0} (view : ZoneRow → T) (o : Option ZoneRow) (row : ZoneRow) (r : Option T) → o ≡ Some row → option_map view o ≡ r → r ≡ Some (view row)
-same_rows view o row r e f = sym f ∙ ap (option_map view) e
+-- what is the same of the zone rows is the same of the one zone row
+same_rows : {T : Type 0} (view : ZoneRow → T) (o : Option ZoneRow) (zone_row : ZoneRow) (r : Option T) → o ≡ Some zone_row → option_map view o ≡ r
+    → r ≡ Some (view zone_row)
+same_rows view o zone_row r e f = sym f ∙ ap (option_map view) e
 
-pub row_fault : {T : Type 0} (origin : Option DomainName) (t : RecordType) (text : List ℕ) (o : Option ZoneRow) (row : ZoneRow) (cursor : Cursor) (r : Result T ParseError)
-    → o ≡ Some row → option_map row_value o ≡ row_of t → option_map row_texts o ≡ texts_of t → words_at cursor ≡ zone_words text → IfErr r (λ e. (e ≡ parse.Memory) ⊎ RowFault origin row cursor e)
-    → IfErr r (λ e. (e ≡ parse.Memory) ⊎ LacksRow t e ⊎ WordsFault origin t text e)
-row_fault origin t text o row cursor (Ok x) e f g starts h = tt
-row_fault origin t text o row cursor (Err y) e f g starts (inl memory) = inl memory
-row_fault origin t text o row cursor (Err y) e f g starts (inr fault) =
+pub row_fault : {T : Type 0} (origin : Option DomainName) (t : RecordType) (text : List ℕ) (o : Option ZoneRow) (zone_row : ZoneRow) (cursor : Cursor) (r : Result T ParseError)
+    → o ≡ Some zone_row → option_map row_value o ≡ zone_row_of t → option_map row_texts o ≡ texts_of t → tokens_at cursor ≡ zone_tokens text
+    → IfErr r (λ e. (e ≡ parse.Memory) ⊎ RowFault origin zone_row cursor e)
+    → IfErr r (λ e. (e ≡ parse.Memory) ⊎ LacksRow t e ⊎ TokensFault origin t text e)
+row_fault origin t text o zone_row cursor (Ok x) e f g starts h = tt
+row_fault origin t text o zone_row cursor (Err y) e f g starts (inl memory) = inl memory
+row_fault origin t text o zone_row cursor (Err y) e f g starts (inr fault) =
     inr (inr (record {
-      row = row;
-      of_type = same_rows row_value o row (row_of t) e f;
-      texts = same_rows row_texts o row (texts_of t) e g;
+      zone_row = zone_row;
+      of_type = same_rows row_value o zone_row (zone_row_of t) e f;
+      texts = same_rows row_texts o zone_row (texts_of t) e g;
       cursor = cursor;
       starts = starts;
       has = fault;
     }))
 
--- ---- why octets are refused
+-- ---- why octets are rejected
 
 -- the octets that were read, from their beginning
-pub read_why : (cause : DecodeError) (old behind : Reading) (octets : List ℕ) (n : ℕ) (t : RecordType) → old ≡ record { message = octets; index = 0 } → n ≡ length octets
-    → IsRefusal t n old behind cause → OctetsFault octets t (proto_refusal (decode_refusal cause))
+pub read_why : (cause : DecodeError) (old behind : Reading) (octets : List ℕ) (n : ℕ) (t : RecordType) → old ≡ record { message = octets; index = 0 }
+    → n ≡ length octets
+    → IsReadError t n old behind cause → OctetsFault octets t (proto_error (decode_error cause))
 read_why cause old behind octets n t start all h = inr (record {
   cause = cause;
   behind = behind;
-  refused = subst (λ (k : ℕ). IsRefusal t k (record { message = octets; index = 0 }) behind cause) all (subst (λ (o : Reading). IsRefusal t n o behind cause) start h);
+  refused = subst (λ (k : ℕ). IsReadError t k (record { message = octets; index = 0 }) behind cause) all (subst (λ (o : Reading). IsReadError t n o behind cause) start h);
   says = refl;
 })
 
@@ -119,7 +129,8 @@ unknown_why e t octets s cursor same took (inl memory) = inl memory
 unknown_why e t octets s cursor same took (inr fault) =
     inr (inr (record { octets = octets; took = took; why = inl (subst (λ (o : List ℕ). OctetsFault o t e) same fault) }))
 
-pub pointer_why : (e : ParseError) (t : RecordType) (v : RData) (octets s : List ℕ) (n : ℕ) (cursor : Cursor) → s ≡ octets → n ≡ length octets → TookAll AreUnknown octets cursor
+pub pointer_why : (e : ParseError) (t : RecordType) (v : RData) (octets s : List ℕ) (n : ℕ) (cursor : Cursor) → s ≡ octets → n ≡ length octets
+    → TookAll AreUnknown octets cursor
     → AreDataOf s t v → has_name (shape t) ≡ true → length (data_octets v) ≢ n → Says (codes "pointer in a domain name of unknown data") e
     → (e ≡ parse.Memory) ⊎ BehindMarkFault t cursor e
 pointer_why e t v octets s n cursor same counted took is named other says = inr (inr (record {
@@ -134,14 +145,15 @@ pointer_why e t v octets s n cursor same counted took is named other says = inr 
 }))
 
 pub given_why : {T : Type 0} (r : Result T ParseError) (origin : Option DomainName) (t : RecordType) (octets s text : List ℕ) → s ≡ octets
-    → TookAll (GiveByRow origin (row_of t)) octets (at_start text) → IfErr r (λ e. (e ≡ parse.Memory) ⊎ OctetsFault s t e)
+    → TookAll (GiveByRow origin (zone_row_of t)) octets (at_start text) → IfErr r (λ e. (e ≡ parse.Memory) ⊎ OctetsFault s t e)
     → IfErr r (λ e. (e ≡ parse.Memory) ⊎ ByRowFault origin t text e)
 given_why (Ok x) origin t octets s text same took h = tt
 given_why (Err e) origin t octets s text same took (inl memory) = inl memory
 given_why (Err e) origin t octets s text same took (inr fault) =
     inr (inr (inr (record { octets = octets; took = took; why = subst (λ (o : List ℕ). OctetsFault o t e) same fault })))
 
-pub marked_why : {T : Type 0} (r : Result T ParseError) (origin : Option DomainName) (t : RecordType) (text : List ℕ) (cursor : Cursor) → IsBehindMark text cursor
+pub marked_why : {T : Type 0} (r : Result T ParseError) (origin : Option DomainName) (t : RecordType) (text : List ℕ) (cursor : Cursor)
+    → IsBehindMark text cursor
     → IfErr r (λ e. (e ≡ parse.Memory) ⊎ BehindMarkFault t cursor e) → IfErr r (λ e. (e ≡ parse.Memory) ⊎ ZoneFault origin t text e)
 marked_why (Ok x) origin t text cursor b h = tt
 marked_why (Err e) origin t text cursor b (inl memory) = inl memory
@@ -155,61 +167,65 @@ unmarked_why (Err e) origin t text m (inr why) = inr (inr (inr (record { unmarke
 
 -- ---- a whole text
 
-first_ok : (first : Word) (behind : Result (List Word) WordsError) (all : List Word) → with_word first behind ≡ Ok all
-    → (rest : List Word) × (behind ≡ Ok rest) × (all ≡ first ∷ rest)
+first_ok : (first : Token) (behind : Result (List Token) TokensError) (all : List Token) → with_token first behind ≡ Ok all
+    → (rest : List Token) × (behind ≡ Ok rest) × (all ≡ first ∷ rest)
 first_ok first (Ok rest) all e = let same : first ∷ rest ≡ all = cc in (rest, refl, sym same)
 first_ok first (Err why) all e = absurd (cc)
 
-unknown_from : (t : RecordType) (v : RData) (octets : List ℕ) (words rest : List Word) (first : Word) (cursor : Cursor) → words ≡ first ∷ rest → words_at cursor ≡ Ok rest
-    → AreUnknownData octets words → AreDataOf octets t v → (AreUnknownData octets words → IsWhole t octets v) → UnknownIs t v cursor
-unknown_from t v octets words rest first cursor e cut unknown is whole = record {
-  words = rest;
-  cut = cut;
+unknown_from : (t : RecordType) (v : RData) (octets : List ℕ) (tokens rest : List Token) (first : Token) (cursor : Cursor) → tokens ≡ first ∷ rest
+    → tokens_at cursor ≡ Ok rest
+    → AreUnknownData octets tokens → AreDataOf octets t v → (AreUnknownData octets tokens → IsWhole t octets v) → UnknownIs t v cursor
+unknown_from t v octets tokens rest first cursor e divided unknown is whole = record {
+  tokens = rest;
+  divided = divided;
   octets = octets;
   are = (subst (AreUnknownData octets) e unknown).1;
   is_data = is;
   whole = whole unknown;
 }
 
-none_behind : (origin : Option DomainName) (t : RecordType) (text : List ℕ) (cursor : Cursor) → IsBehindMark text cursor → UnknownIsNone t cursor → GivesNone origin t text
+none_behind : (origin : Option DomainName) (t : RecordType) (text : List ℕ) (cursor : Cursor) → IsBehindMark text cursor → UnknownIsNone t cursor
+    → GivesNone origin t text
 none_behind origin t text cursor b none = record {
   none = λ v g.
-      let k = first_ok b.first (words_at cursor) g.gives.words (sym b.cut ∙ g.gives.cut) in
+      let k = first_ok b.first (tokens_at cursor) g.gives.tokens (sym b.divided ∙ g.gives.divided) in
       by_form v g k.0 k.1 k.2 g.gives.give;
 } where
-  by_form : (v : RData) (g : GivesValue origin t text v) (rest : List Word) → words_at cursor ≡ Ok rest → g.gives.words ≡ b.first ∷ rest → WordsGive origin t g.octets g.gives.words → ⊥
-  by_form v g rest cut e (inl unknown) = none.none v (unknown_from t v g.octets g.gives.words rest b.first cursor e cut unknown g.is_data g.whole)
-  by_form v g rest cut e (inr own) = (subst AreUnmarked e own.0) b.mark
+  by_form : (v : RData) (g : GivesValue origin t text v) (rest : List Token) → tokens_at cursor ≡ Ok rest → g.gives.tokens ≡ b.first ∷ rest
+      → TokensGive origin t g.octets g.gives.tokens → ⊥
+  by_form v g rest divided e (inl unknown) = none.none v (unknown_from t v g.octets g.gives.tokens rest b.first cursor e divided unknown g.is_data g.whole)
+  by_form v g rest divided e (inr own) = (subst AreUnmarked e own.0) b.mark
 
 pub marked_refused : (e : ParseError) (origin : Option DomainName) (t : RecordType) (text : List ℕ) (cursor : Cursor) → IsBehindMark text cursor
     → UnlessParseMemory e (UnknownIsNone t cursor) → UnlessParseMemory e (GivesNone origin t text)
 marked_refused e origin t text cursor b h = unless_map e (UnknownIsNone t cursor) (GivesNone origin t text) (none_behind origin t text cursor b) h
 
-not_marked : (octets : List ℕ) (words : List Word) → AreUnmarked words → AreUnknownData octets words → ⊥
+not_marked : (octets : List ℕ) (tokens : List Token) → AreUnmarked tokens → AreUnknownData octets tokens → ⊥
 not_marked octets [] h k = k
-not_marked octets (first ∷ words) h k = h k.0
+not_marked octets (first ∷ tokens) h k = h k.0
 
 pub row_gives : (origin : Option DomainName) (t : RecordType) (text : List ℕ) (v : RData) → HasNoMark text → RowIs origin t text v → GivesValue origin t text v
 row_gives origin t text v h u = record {
   octets = u.octets;
-  gives = record { words = u.words; cut = u.cut; give = inr (h.unmarked u.words u.cut, u.give) };
+  gives = record { tokens = u.tokens; divided = u.divided; give = inr (h.unmarked u.tokens u.divided, u.give) };
   is_data = u.is_data;
-  whole = λ unknown. absurd (not_marked u.octets u.words (h.unmarked u.words u.cut) unknown);
+  whole = λ unknown. absurd (not_marked u.octets u.tokens (h.unmarked u.tokens u.divided) unknown);
 }
 
 none_own : (origin : Option DomainName) (t : RecordType) (text : List ℕ) → HasNoMark text → RowIsNone origin t text → GivesNone origin t text
 none_own origin t text h none = record { none = λ v g. by_form v g g.gives.give } where
-  by_form : (v : RData) (g : GivesValue origin t text v) → WordsGive origin t g.octets g.gives.words → ⊥
-  by_form v g (inl unknown) = not_marked g.octets g.gives.words (h.unmarked g.gives.words g.gives.cut) unknown
-  by_form v g (inr own) = none.none v (record { words = g.gives.words; cut = g.gives.cut; octets = g.octets; give = own.1; is_data = g.is_data })
+  by_form : (v : RData) (g : GivesValue origin t text v) → TokensGive origin t g.octets g.gives.tokens → ⊥
+  by_form v g (inl unknown) = not_marked g.octets g.gives.tokens (h.unmarked g.gives.tokens g.gives.divided) unknown
+  by_form v g (inr own) = none.none v (record { tokens = g.gives.tokens; divided = g.gives.divided; octets = g.octets; give = own.1; is_data = g.is_data })
 
 pub own_refused : (e : ParseError) (origin : Option DomainName) (t : RecordType) (text : List ℕ) → HasNoMark text
     → UnlessParseMemory e (RowIsNone origin t text) → UnlessParseMemory e (GivesNone origin t text)
 own_refused e origin t text h k = unless_map e (RowIsNone origin t text) (GivesNone origin t text) (none_own origin t text h) k
 
--- ---- what calls answer
+-- ---- what calls return
 
-pub marked_answer : {T : Type 0} (r : Result T ParseError) (origin : Option DomainName) (t : RecordType) (text : List ℕ) (cursor : Cursor) → IsBehindMark text cursor
+pub marked_answer : {T : Type 0} (r : Result T ParseError) (origin : Option DomainName) (t : RecordType) (text : List ℕ) (cursor : Cursor)
+    → IsBehindMark text cursor
     → IfErr r (λ e. UnlessParseMemory e (UnknownIsNone t cursor)) → IfErr r (λ e. UnlessParseMemory e (GivesNone origin t text))
 marked_answer (Ok x) origin t text cursor b h = tt
 marked_answer (Err e) origin t text cursor b h = marked_refused e origin t text cursor b h

@@ -2,17 +2,17 @@
 use Rattle.std.specs.Prelude.{◌≡◌, ℕ, List, [], ◌∷◌, Option, Ok, codes}
 use Rattle.dns_fields.specs.Labels.{DomainName, full_name}
 use Rattle.dns_types.specs.declared.error.ParseError.{ParseError}
-use Rattle.dns_zone_rows.specs.{RowFaults.row_value, RowFaults.RowFault, RowTexts.row_texts, RowTexts.no_more, declared.row.ZoneRow.ZoneRow}
-use Rattle.dns_zone_rows.specs.Rows.{Name, NoWord, RowShape}
-use Rattle.dns_zone_words.specs.{FieldTexts.name_called, NameWords.IsNameWord, Words.Word, Words.Cursor, Words.words_at, Words.zone_words}
+use Rattle.dns_zone_rows.specs.{RowFaults.row_value, RowFaults.RowFault, RowTexts.row_texts, RowTexts.no_more, declared.zone_row.ZoneRow.ZoneRow}
+use Rattle.dns_zone_rows.specs.Rows.{Name, NoToken, RowShape}
+use Rattle.dns_zone_tokens.specs.{FieldTexts.name_called, NameTokens.IsNameToken, Tokens.Token, Tokens.Cursor, Tokens.tokens_at, Tokens.zone_tokens}
 
--- The text is one token, which is the name: labels that the origin completes, `@` or a dot. The name is fully qualified, also
--- if there is no origin and the text has no dot at its end.
+-- The text is one token, which is the name: labels that the origin completes, `@` or a dot. The name is fully
+-- qualified, also if there is no origin and the text has no dot at its end.
 pub record IsZoneName (origin : Option DomainName) (text : List ℕ) (x : DomainName) : Type 0 where
-  pub word : Word
-  pub cut : zone_words text ≡ Ok (word ∷ [])
+  pub token : Token
+  pub divided : zone_tokens text ≡ Ok (token ∷ [])
   pub value : DomainName
-  pub is : IsNameWord origin value word
+  pub is : IsNameToken origin value token
   pub same : x ≡ full_name value
 
 -- the text is no name
@@ -21,13 +21,13 @@ pub record IsNoZoneName (origin : Option DomainName) (text : List ℕ) : Type 0 
 
 -- one name, and no token after it
 abbrev pub name_row : RowShape
-name_row = record { fields = Name ∷ []; rest = NoWord }
+name_row = record { fields = Name ∷ []; rest = NoToken }
 
--- why the text is no name, as of record data that is one name, which errors call `name`
+-- why the text is no name: as for RDATA that is one name, which errors call `name`
 pub record ZoneNameFault (origin : Option DomainName) (text : List ℕ) (e : ParseError) : Type 0 where
-  pub row : ZoneRow
-  pub shape : row_value row ≡ name_row
-  pub texts : row_texts row ≡ name_called (codes "name") ∷ no_more ∷ []
+  pub zone_row : ZoneRow
+  pub shape : row_value zone_row ≡ name_row
+  pub texts : row_texts zone_row ≡ name_called (codes "name") ∷ no_more ∷ []
   pub cursor : Cursor
-  pub starts : words_at cursor ≡ zone_words text
-  pub has : RowFault origin row cursor e
+  pub starts : tokens_at cursor ≡ zone_tokens text
+  pub has : RowFault origin zone_row cursor e

@@ -1,8 +1,8 @@
--- Service parameters as zone files have them (RFC 9460, 2.1, 7 and appendix A).
+-- Service parameters in zone files (RFC 9460, 2.1, 7 and appendix A).
 use Rattle.std.specs.Prelude.{ℕ, ◌==◌, ◌&&◌, nat_lt, Bool, true, if◌then◌else◌, List, [], ◌∷◌, ◌++◌, flat_map, map, codes, decimal}
 use Rattle.std.specs.List.{list_all}
 use Rattle.base64.specs.{Engines.standard, GeneralPurpose.encode_of}
-use Rattle.dns_fields.specs.Pieces.{is_some}
+use Rattle.dns_fields.specs.Tlvs.{is_some}
 use Rattle.dns_rdata_base.specs.{A.a_text, AAAA.aaaa_text}
 use Rattle.dns_rdata_service.specs.{SvcParamKey.key_number, Parameters.Parameter, declared.svcb.key.SvcParamKey.SvcParamKey}
 use Rattle.dns_rdata_service.specs.declared.svcb.value.SvcParamValue.{SvcParamValue}
@@ -10,7 +10,7 @@ use Rattle.dns_rdata_service.specs.declared.svcb.value.SvcParamValue.TheVariants
 use Rattle.dns_rdata_service.specs.declared.svcb.value.SvcParamValue.TheVariants.{Ipv6Hint, DohPath, Unknown}
 use Rattle.dns_rdata_zone.specs.{Lists.commas, Spellings.protocol_octet, Strings.quoted}
 
--- A key's name (RFC 9460, 14.3.2), and `key` and the number of one without a name (2.1). Key 7 goes by its number, since
+-- A key's name (RFC 9460, 14.3.2), or `key` and the number if it has no name (2.1). Key 7 is written as a number, since
 -- readers from before RFC 9461 do not know `dohpath`.
 abbrev pub key_name : ℕ → List ℕ
 key_name n =
@@ -30,7 +30,7 @@ named_key key = key_name (key_number key)
 abbrev pub protocol : List ℕ → List ℕ
 protocol name = flat_map protocol_octet name
 
--- an equals sign and the value; nothing where there is none
+-- an equals sign and the value; nothing if there is no value
 abbrev pub zone_value : SvcParamValue → List ℕ
 zone_value (Mandatory x) = codes "=" ++ commas named_key x.0
 zone_value (Alpn x) = codes "=\"" ++ commas protocol x.0 ++ codes "\""
@@ -47,7 +47,7 @@ zone_parameter p = named_key p.0 ++ zone_value p.1
 
 -- ---- which have a text
 
--- strictly above the last one, below 65535 (8)
+-- strictly greater than the last one, less than 65535 (8)
 abbrev pub rises_from : ℕ → List ℕ → Bool
 rises_from last [] = true
 rises_from last (k ∷ keys) = nat_lt last k && (nat_lt k 65535 && rises_from k keys)
@@ -56,8 +56,9 @@ rises_from last (k ∷ keys) = nat_lt last k && (nat_lt k 65535 && rises_from k 
 abbrev pub are_some : List (List ℕ) → Bool
 are_some names = list_all is_some names
 
--- The value is of the form of the key of this number, and not one that no text has: no addresses, no configuration, no
--- path, an empty name of a protocol, mandatory keys that do not rise or are not above 0, the invalid key 65535.
+-- The value has the format of the key with this number, and a text can have it. No text has: no addresses, no
+-- configuration, no path, an empty name of a protocol, mandatory keys that do not rise or are not greater than 0, or
+-- the invalid key 65535.
 abbrev pub value_has_text : ℕ → SvcParamValue → Bool
 value_has_text n (Mandatory x) = n == 0 && rises_from 0 (map key_number x.0)
 value_has_text n (Alpn x) = n == 1 && are_some x.0

@@ -1,9 +1,9 @@
--- Records in the form that name servers read.
+-- The zone texts of records.
 use Rattle.std.specs.Prelude.{ℕ, ◌&&◌, Bool, if◌then◌else◌, List, [], ◌∷◌, ◌++◌, flat_map, codes, decimal}
 use Rattle.std.specs.{List.list_all, Char.is_ascii_alphanumeric, Int.cast_unsigned, Int.w32}
 use Rattle.base64.specs.{Engines.standard, GeneralPurpose.encode_of}
 use Rattle.hex.specs.Hex.{encode_lower}
-use Rattle.dns_fields.specs.{Fields.canonical, Pieces.is_some}
+use Rattle.dns_fields.specs.{Fields.canonical, Tlvs.is_some}
 use Rattle.dns_types.specs.{RecordTypes.type_text, RecordTypes.record_type_of, declared.record_type.RecordType.RecordType}
 use Rattle.dns_types.specs.declared.record_type.RecordType.TheVariants.{ZERO, ANAME}
 use Rattle.dns_rdata_base.specs.{declared.hinfo.HINFO.HINFO, declared.naptr.NAPTR.NAPTR, declared.openpgpkey.OPENPGPKEY.OPENPGPKEY}
@@ -12,7 +12,7 @@ use Rattle.dns_rdata_certs.specs.{declared.cert.CERT.CERT, declared.sshfp.SSHFP.
 use Rattle.dns_rdata_certs.specs.Enums.{cert_type_number, cert_algorithm_number, cert_usage_number, matching_number, selector_number}
 use Rattle.dns_rdata_certs.specs.Enums.{sshfp_algorithm_number, fingerprint_type_number}
 use Rattle.dns_rdata_certs.specs.{SSHFP.sshfp_shape, SSHFP.sshfp_fields, TLSA.tlsa_shape, TLSA.tlsa_fields}
-use Rattle.dns_rdata_sets.specs.{declared.caa.CAA.CAA, declared.csync.CSYNC.CSYNC, CAA.caa_shape, CAA.caa_fields, CAA.caa_flags, CSYNC.csync_flags}
+use Rattle.dns_rdata_caa_csync.specs.{declared.caa.CAA.CAA, declared.csync.CSYNC.CSYNC, CAA.caa_shape, CAA.caa_fields, CAA.caa_flags, CSYNC.csync_flags}
 use Rattle.dns_rdata_zone.specs.{Generic.generic, Strings.quoted, Strings.spaced, Names.zone_name, Tokens.in_tokens}
 
 -- two strings
@@ -30,9 +30,10 @@ zone_txt x = zone_strings x.txt_data
 -- order and preference, flags, services and regular expression, the replacement
 abbrev pub zone_naptr : NAPTR → List ℕ
 zone_naptr x = (decimal x.order ++ codes " " ++ decimal x.preference)
-    ++ (codes " " ++ quoted x.flags ++ codes " " ++ quoted x.services ++ codes " " ++ quoted x.regexp ++ codes " " ++ zone_name x.replacement)
+    ++ (codes " " ++ quoted x.flags ++ codes " " ++ quoted x.services ++ codes " " ++ quoted x.regexp ++ codes " "
+    ++ zone_name x.replacement)
 
--- two names and five numbers, those of refresh, retry and expire as they stand in their 32 bits
+-- two names and five numbers; refresh, retry and expire as the unsigned numbers of their 32 bits
 abbrev pub zone_soa : SOA → List ℕ
 zone_soa x = (zone_name x.mname ++ codes " " ++ zone_name x.rname ++ codes " " ++ decimal x.serial)
     ++ (codes " " ++ decimal (cast_unsigned w32 x.refresh) ++ codes " " ++ decimal (cast_unsigned w32 x.retry)
@@ -49,7 +50,8 @@ zone_caa x = if has_plain_tag x then decimal (caa_flags x) ++ codes " " ++ x.tag
 
 -- type, key tag and algorithm in decimal, and base64; no certificate has no text
 abbrev pub zone_cert : CERT → List ℕ
-zone_cert x = if is_some x.cert_data then decimal (cert_type_number x.cert_type) ++ codes " " ++ decimal x.key_tag ++ codes " "
+zone_cert x = if is_some x.cert_data then decimal (cert_type_number x.cert_type) ++ codes " "
+    ++ decimal x.key_tag ++ codes " "
     ++ decimal (cert_algorithm_number x.algorithm) ++ codes " " ++ in_tokens (encode_of standard x.cert_data)
     else generic (canonical cert_shape (cert_fields x))
 
@@ -59,8 +61,9 @@ zone_sshfp x = if is_some x.fingerprint then decimal (sshfp_algorithm_number x.a
     else generic (canonical sshfp_shape (sshfp_fields x))
 
 abbrev pub zone_tlsa : TLSA → List ℕ
-zone_tlsa x = if is_some x.cert_data then decimal (cert_usage_number x.cert_usage) ++ codes " " ++ decimal (selector_number x.selector)
-    ++ codes " " ++ decimal (matching_number x.matching) ++ codes " " ++ in_tokens (encode_lower x.cert_data)
+zone_tlsa x = if is_some x.cert_data then decimal (cert_usage_number x.cert_usage) ++ codes " "
+    ++ decimal (selector_number x.selector) ++ codes " "
+    ++ decimal (matching_number x.matching) ++ codes " " ++ in_tokens (encode_lower x.cert_data)
     else generic (canonical tlsa_shape (tlsa_fields x))
 
 abbrev pub zone_openpgpkey : OPENPGPKEY → List ℕ

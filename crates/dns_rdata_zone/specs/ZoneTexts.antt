@@ -1,4 +1,4 @@
--- Record data in the form that name servers read.
+-- RDATA printed as zone text.
 use Rattle.std.specs.Prelude.{ℕ, List, [], ◌++◌, codes, decimal}
 use Rattle.dns_rdata.specs.{Data.fields_of, declared.record_data.RData.RData, WholeOctets.name_octets, WholeOctets.all_whole}
 use Rattle.dns_rdata.specs.declared.record_data.RData.TheVariants as rdata
@@ -33,7 +33,8 @@ zone_text (rdata.OPT x) = zone_options x
 zone_text (rdata.PTR x) = zone_name x.0
 zone_text (rdata.SMIMEA x) = zone_tlsa x.0
 zone_text (rdata.SOA x) = zone_soa x
-zone_text (rdata.SRV x) = decimal x.priority ++ codes " " ++ decimal x.weight ++ codes " " ++ decimal x.port ++ codes " " ++ zone_name x.target
+zone_text (rdata.SRV x) = decimal x.priority ++ codes " " ++ decimal x.weight ++ codes " " ++ decimal x.port
+    ++ codes " " ++ zone_name x.target
 zone_text (rdata.SSHFP x) = zone_sshfp x
 zone_text (rdata.SVCB x) = zone_service x
 zone_text (rdata.TLSA x) = zone_tlsa x

@@ -1,4 +1,4 @@
-//! The form of unknown record data (RFC 3597, 5).
+//! The unknown-data form (RFC 3597, section 5).
 
 ghost use Rattle.std.specs.Prelude.{Some};
 ghost use Rattle.hex.specs.Hex.{encode_lower};
@@ -10,7 +10,7 @@ use dns_rdata::Name;
 use dns_rdata_certs::hexadecimal::Hexadecimal;
 use std::fmt;
 
-/// Octets in the form of unknown record data (RFC 3597, section 5): `\#`, their number, and their hexadecimal digits in
+/// Octets in the unknown-data form (RFC 3597, section 5): `\#`, their number, and their hexadecimal digits in
 /// lower case, in tokens of at most 1,020 characters with a space between. Allocates nothing.
 #[derive(Clone, Copy)]
 pub struct Generic<'a>(pub &'a [u8]);
@@ -38,18 +38,12 @@ impl fmt::Display for NameDigits<'_> {
     ghost output = { λ n. Some (encode_lower (name_octets n.0.now)) };
 
     fn fmt<W: fmt::Write>(&self, f: &mut fmt::Formatter<W>) -> fmt::Result {
-        for label in self.0.iter() {
-            if label.len() > 63 {
-                return Err(fmt::Error);
-            }
-            f.write(Hexadecimal(&[label.len() as u8]))?;
-            f.write(Hexadecimal(label))?;
-        }
-        f.write_str("00")
+        let digits = Hexadecimal(self.0.label_octets());
+        write!(f, "{digits}00")
     }
 }
 
-/// A name in the form of unknown data.
+/// A name in the unknown-data form.
 #[derive(Clone, Copy)]
 pub(crate) struct GenericName<'a>(pub &'a Name);
 

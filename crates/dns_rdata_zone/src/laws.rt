@@ -1,4 +1,4 @@
-//! Laws that clients may cite: calls without a body, which promise what holds of all values.
+//! Laws that clients may cite: functions without a body, whose contracts say what is true of all values.
 
 ghost use Rattle.dns_rdata_zone.specs.ZoneReads.{TextsGive, TextsTell, OneGiven, TextsPrint, FillsGive, FillsTell, FillsPrint};
 
@@ -12,8 +12,8 @@ pub fn zone_texts_hold()
     ensures print { TextsPrint }
     // A text gives at most one value of a type.
     ensures one { OneGiven }
-    // The text of a value that was read from a message, and whose uncompressed octets are at most 65535, gives this very value,
-    // whatever the origin.
+    // The text of a value that was read from a message, and whose uncompressed octets are at most 65535, gives the same
+    // value, whatever the origin.
     ensures filled_give { FillsGive }
     // Two values that were read under a type and have one text have the same octets.
     ensures filled_tell { FillsTell }

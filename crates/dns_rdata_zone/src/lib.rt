@@ -1,9 +1,9 @@
-//! Record data in the form that name servers read: the data of a record in a zone file (RFC 1035, 5.1; RFC 3597, 5; RFC
-//! 9460, 2.1).
+//! Zone text: RDATA as it is written in a zone file (RFC 1035, section 5.1; RFC 3597, section 5; RFC 9460, section
+//! 2.1).
 #![tactic(auto)]
 
+mod certificates;
 mod generic;
-mod keys;
 pub mod laws;
 mod lists;
 mod name_reading;
@@ -20,7 +20,7 @@ mod zone_text;
 
 pub use dns_text::parse_ttl;
 pub use dns_zone_rows::token_at_fault;
-pub use dns_zone_words::type_named;
+pub use dns_zone_tokens::type_named;
 pub use generic::Generic;
 pub use name_reading::name_from_zone_text;
 pub use names::ZoneName;

@@ -1,21 +1,21 @@
-//! Domain names of zone files.
+//! Domain names read from texts of zone files.
 
 ghost use Rattle.std.specs.Prelude.{◌≡◌, ◌⊎◌, IfOk, IfErr};
 ghost use Rattle.std.specs.Option.{option_copied};
 ghost use Rattle.dns_fields.specs.Labels.{IsName, full_name};
-ghost use Rattle.dns_words.specs.Reads.{UnlessParseMemory};
-ghost use Rattle.dns_zone_words.specs.NameWords.{name_octets};
+ghost use Rattle.dns_tokens.specs.Reads.{UnlessParseMemory};
+ghost use Rattle.dns_zone_tokens.specs.NameTokens.{name_octets};
 ghost use Rattle.dns_rdata_zone.specs.NameTexts.{IsZoneName, IsNoZoneName, ZoneNameFault};
 
 use dns_names_wire::BinDecodable;
 use dns_rdata::{BinDecoder, Name, ParseError};
 use dns_zone_rows::{ZoneField, ZoneRest, ZoneRow, row_octets};
-use dns_zone_words::{ZoneWords, name_field};
+use dns_zone_tokens::{ZoneTokens, name_field};
 use std::alloc::Global;
 
 static NAME: [ZoneField; 1] = [ZoneField::Name(name_field!("name"))];
 
-const SURPLUS: &str = "surplus word behind the record data";
+const SURPLUS: &str = "surplus token after the RDATA";
 
 /// The domain name that a text of a zone file is (RFC 1035, section 5.1).
 ///
@@ -45,11 +45,11 @@ pub fn name_from_zone_text(
     // The error says what is wrong.
     ensures why { IfErr result (λ e. (e ≡ ParseError.Memory) ⊎ ZoneNameFault (option_copied origin.entry) text.now e) }
 {
-    let row = ZoneRow {
+    let zone_row = ZoneRow {
         fields: &NAME,
         rest: ZoneRest::Nothing(SURPLUS),
     };
-    let octets = row_octets(alloc, &mut ZoneWords::new(text), origin, &row)?;
+    let octets = row_octets(alloc, &mut ZoneTokens::new(text), origin, &zone_row)?;
     whole_name(alloc, octets.as_slice())
 }
 
@@ -61,7 +61,7 @@ fn whole_name(alloc: Global, octets: &[u8]) -> Result<Name, ParseError>
     let mut decoder = BinDecoder::new(alloc, octets);
     match Name::read(&mut decoder) {
         Ok(name) => Ok(name),
-        // Unreachable unless an allocation fails: the octets of a row of one name are a name.
+        // Unreachable unless an allocation fails: the octets of a zone row of one name are a name.
         Err(_) => Err(ParseError::Memory),
     }
 }

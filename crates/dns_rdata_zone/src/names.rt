@@ -1,4 +1,4 @@
-//! Domain names as zone files have them (RFC 1035, 5.1).
+//! Domain names printed for zone files (RFC 1035, section 5.1).
 
 ghost use Rattle.std.specs.Prelude.{◌≡◌, ◌<◌, Some};
 ghost use Rattle.std.specs.Bool.{OnTrue};

@@ -1,21 +1,21 @@
-//! Options of EDNS as data without a form of its own (RFC 3597, 5): OPT has no text in a zone file.
+//! EDNS options in the unknown-data form (RFC 3597, section 5): OPT has no other text in a zone file.
 
 ghost use Rattle.std.specs.Prelude.{◌≡◌, ◌+◌, ◌*◌, ◌≤◌, Some, IfSome, length, take};
 ghost use Rattle.std.specs.Fmt.{DisplaysOnOk};
 ghost use Rattle.hex.specs.Hex.{encode_lower};
-ghost use Rattle.dns_fields.specs.Pieces.{option_octets};
+ghost use Rattle.dns_fields.specs.Tlvs.{option_octets};
 ghost use Rattle.dns_rdata_options.specs.{ClientSubnet.prefix_octets, ClientSubnet.subnet_value, EdnsOption.option_value};
 ghost use Rattle.dns_rdata_zone.specs.Options.{subnet_octets, pair_octets, options_octets, zone_options};
 ghost use Rattle.dns_rdata_zone.specs.Tokens.{tokens_from, in_tokens};
 
 use crate::tokens::{HEX_OCTETS, HexTokens, left_after};
-use dns_pieces::Head;
+use dns_canonical::Head;
 use dns_rdata::OPT;
 use dns_rdata::opt::{ClientSubnet, EdnsCode, EdnsOption};
 use std::fmt;
 use std::net::IpAddr;
 
-// The octets of an address that the source prefix of a subnet asks for.
+// The octets of an address that the source prefix of a subnet needs.
 fn asked_octets(address: &[u8], source: u8) -> &[u8]
     ensures value { result.now ≡ take (prefix_octets source) address.now }
     ensures few { length result.now ≤ length address.now }
@@ -27,7 +27,7 @@ fn asked_octets(address: &[u8], source: u8) -> &[u8]
     &address[..len]
 }
 
-// How many octets a subnet has whose address has these.
+// How many octets a subnet with these octets of an address has.
 fn subnet_len(address: &[u8], source: u8) -> usize
     requires { length address.now ≤ 16 }
     ensures { result ≡ 4 + length (take (prefix_octets source) address.now) }
@@ -35,7 +35,7 @@ fn subnet_len(address: &[u8], source: u8) -> usize
     4 + asked_octets(address, source).len()
 }
 
-// How many octets an option has behind its code and its length.
+// How many octets an option has after its code and its length.
 fn option_len(option: &EdnsOption) -> usize
     ensures { result ≡ length (option_octets (option_value option.now)) }
 {
@@ -49,8 +49,8 @@ fn option_len(option: &EdnsOption) -> usize
     }
 }
 
-// Writes family, prefixes and the octets of the address that the source prefix asks for, in hexadecimal. The token takes `left`
-// more octets, here and below.
+// Writes family, prefixes and the octets of the address that the source prefix needs, in hexadecimal. The token takes
+// `left` more octets, here and below.
 fn write_subnet<W: fmt::Write>(
     family: u16,
     source: u8,
@@ -156,7 +156,7 @@ impl fmt::Display for OptionsDigits<'_> {
     }
 }
 
-// How many octets the options have; none where one is too long for its length, or 64 bits do not hold the number.
+// How many octets the options have. `None` if one is too long for its length, or if 64 bits do not hold the number.
 fn count_octets(pairs: &[(EdnsCode, EdnsOption)]) -> Option<u64>
     ensures { IfSome result (λ n. n ≡ length (options_octets pairs.now)) }
 {
@@ -171,7 +171,7 @@ fn count_octets(pairs: &[(EdnsCode, EdnsOption)]) -> Option<u64>
     Some(count)
 }
 
-/// Options in their order, in the form of unknown data.
+/// Options in their order, in the unknown-data form.
 #[derive(Clone, Copy)]
 pub(crate) struct ZoneOptions<'a>(pub &'a OPT);
 

@@ -1,4 +1,4 @@
-//! Service parameters as zone files have them (RFC 9460, 2.1, 7 and appendix A; RFC 9461, 5).
+//! Service parameters printed for zone files (RFC 9460, sections 2.1 and 7, and appendix A; RFC 9461, section 5).
 
 ghost use Rattle.std.specs.Prelude.{◌≡◌, Some, flat_map, map, true};
 ghost use Rattle.std.specs.List.{list_all};
@@ -12,7 +12,7 @@ use crate::spelling::{Spelled, Spelling};
 use crate::strings::{InQuotes, Quoted};
 use dns_rdata::svcb::{SvcParamKey, SvcParamValue};
 use dns_rdata::{A, AAAA, SmallOctets};
-use dns_words::Base64Text;
+use dns_tokens::Base64Text;
 use std::fmt;
 
 /// The name of a key, by its number alone: `key` and the number if it has no name, and for key 7 too, since readers
@@ -155,7 +155,7 @@ impl fmt::Display for ZoneParameter<'_> {
     }
 }
 
-// Whether the keys strictly rise, from above 0 to below 65535 (RFC 9460, 8).
+// Whether the keys strictly rise and are greater than 0 and less than 65535 (RFC 9460, section 8).
 fn keys_rise(keys: &[SvcParamKey]) -> bool
     ensures { result ≡ rises_from 0 (map key_number keys.now) }
 {

@@ -1,4 +1,4 @@
-//! Records of numbers, strings and names, where their text is not that of `RData`, or not always.
+//! Records of numbers, strings and names whose zone text is not their display text, or not always.
 
 ghost use Rattle.std.specs.Prelude.{◌≡◌, Some};
 ghost use Rattle.std.specs.{Char.is_ascii_alphanumeric, List.list_all};
@@ -7,7 +7,7 @@ ghost use Rattle.dns_rdata_zone.specs.Records.{zone_hinfo, zone_txt, zone_naptr,
 use crate::names::ZoneName;
 use crate::strings::{Quoted, Spaced};
 use crate::tokens::{HEX_OCTETS, HexTokens};
-use dns_pieces::Head;
+use dns_canonical::Head;
 use dns_rdata::{CAA, CSYNC, HINFO, NAPTR, RecordType, SOA, TXT};
 use dns_rdata_certs::hexadecimal::Hexadecimal;
 use std::{fmt, str};
@@ -26,7 +26,7 @@ impl fmt::Display for ZoneHinfo<'_> {
     }
 }
 
-/// TXT: strings; without any the form of unknown data.
+/// TXT: strings; without any the unknown-data form.
 #[derive(Clone, Copy)]
 pub(crate) struct ZoneTxt<'a>(pub &'a TXT);
 
@@ -88,14 +88,14 @@ fn are_alphanumeric(octets: &[u8]) -> bool
     octets.iter().all(|c| c.is_ascii_alphanumeric())
 }
 
-// Whether a tag can stand in a text: it has letters and digits alone, and at least one.
+// Whether a tag can be written in a text: it has only letters and digits, and at least one.
 fn has_plain_tag(x: &CAA) -> bool
     ensures { result ≡ has_plain_tag x.now }
 {
     x.tag.len() != 0 && are_alphanumeric(x.tag.as_slice())
 }
 
-/// CAA: flags, tag and value; if the tag has other octets than letters and digits, the form of unknown data.
+/// CAA: flags, tag and value; if the tag has other octets than letters and digits, the unknown-data form.
 #[derive(Clone, Copy)]
 pub(crate) struct ZoneCaa<'a>(pub &'a CAA);
 

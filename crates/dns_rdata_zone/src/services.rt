@@ -1,4 +1,4 @@
-//! Service bindings as zone files have them (RFC 9460, 2.1).
+//! Service bindings printed for zone files (RFC 9460, section 2.1).
 
 ghost use Rattle.std.specs.Prelude.{◌≡◌, ◌*◌, ◌^◌, ◌≤◌, Some, IfSome, IfNone, length, drop};
 ghost use Rattle.std.specs.Fmt.{DisplaysOnOk};
@@ -12,7 +12,7 @@ use crate::generic::NameDigits;
 use crate::names::ZoneName;
 use crate::parameters::{ZoneParameter, have_text};
 use crate::tokens::{HEX_OCTETS, HexTokens, left_after};
-use dns_pieces::Head;
+use dns_canonical::Head;
 use dns_rdata::{CanonicalOctets, RData, SVCB};
 use dns_rdata_certs::hexadecimal::Hexadecimal;
 use std::fmt;
@@ -36,7 +36,7 @@ impl fmt::Display for ServiceText<'_> {
     }
 }
 
-/// Writes the service binding that `rdata` is: its text, or the form of unknown data if a parameter has no text.
+/// Writes the service binding that `rdata` is: its text, or the unknown-data form if a parameter has no text.
 pub(crate) fn write_service<W: fmt::Write>(
     rdata: &RData,
     x: &SVCB,
@@ -52,7 +52,7 @@ pub(crate) fn write_service<W: fmt::Write>(
     write_generic(rdata, x, f)
 }
 
-// How many canonical octets there are; none where 64 bits do not hold the number.
+// How many canonical octets there are. `None` if 64 bits do not hold the number.
 pub(crate) fn count_octets(rdata: &RData) -> Option<u64>
     ensures some { IfSome result (λ n. n ≡ length (data_octets rdata.now)) }
     ensures none { IfNone result (2 ^ 64 ≤ length (data_octets rdata.now)) }
@@ -68,7 +68,7 @@ pub(crate) fn count_octets(rdata: &RData) -> Option<u64>
     Some(count)
 }
 
-// The canonical octets behind the first n.
+// The canonical octets after the first n.
 fn octets_behind(rdata: &RData, n: usize) -> CanonicalOctets<'_>
     ensures { result.octets ≡ drop n (data_octets rdata.now) }
 {
@@ -80,7 +80,7 @@ fn octets_behind(rdata: &RData, n: usize) -> CanonicalOctets<'_>
     octets
 }
 
-// The hexadecimal digits of what is left of canonical octets, in tokens, of which the first takes `left` more octets.
+// Writes the remaining canonical octets in hexadecimal, in tokens, of which the first takes `left` more octets.
 fn write_digits<W: fmt::Write>(
     octets: &mut CanonicalOctets<'_>,
     left: usize,
@@ -103,7 +103,7 @@ fn write_digits<W: fmt::Write>(
     }
 }
 
-// The form of unknown data: the canonical octets, but the target with its letters.
+// Writes the unknown-data form: the canonical octets, but with the case of the target preserved.
 fn write_generic<W: fmt::Write>(rdata: &RData, x: &SVCB, f: &mut fmt::Formatter<W>) -> fmt::Result
     requires { data_octets rdata.now ≡ canonical svcb_shape (svcb_fields x.now) }
     ensures { DisplaysOnOk W.write_str_gives f.old result (Some (generic (service_octets x.now))) f.new }

@@ -1,4 +1,4 @@
-//! Octets in texts of zone files (RFC 1035, 5.1): as they stand, behind a `\`, or as `\` and three digits.
+//! Octets in texts of zone files (RFC 1035, section 5.1): as they are, after a `\`, or as `\` and three digits.
 
 ghost use Rattle.std.specs.Prelude.{◌≡◌, ◌<◌, ℕ, List, [], ◌∷◌, Some, flat_map};
 ghost use Rattle.std.specs.{Bool.OnTrue, Fmt.DisplaysOnOk};
@@ -24,7 +24,7 @@ pub(crate) trait Spelling {
 #[derive(Clone, Copy)]
 pub(crate) struct Spelled<'a, S>(pub &'a [u8], pub S);
 
-// Whether each octet stands for itself.
+// Whether each octet is written as it is.
 #[inline]
 fn are_plain<S: Spelling>(octets: &[u8], spelling: &S) -> bool
     ensures { OnTrue result (flat_map S.spelled octets.now ≡ octets.now) }

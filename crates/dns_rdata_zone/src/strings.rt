@@ -1,4 +1,4 @@
-//! Character strings in quotes (RFC 1035, 5.1).
+//! Character strings in quotes (RFC 1035, section 5.1).
 
 ghost use Rattle.std.specs.Prelude.{Some, flat_map};
 ghost use Rattle.dns_rdata_zone.specs.{Spellings.escaped, Strings.quoted, Strings.spaced};

@@ -1,4 +1,4 @@
-//! Long digits in tokens of at most 1,020 characters, which every reader takes.
+//! Long runs of digits in tokens of at most 1,020 characters, which every reader accepts.
 
 ghost use Rattle.std.specs.Prelude.{◌≡◌, ◌*◌, Some};
 ghost use Rattle.hex.specs.Hex.{encode_lower};
@@ -6,7 +6,7 @@ ghost use Rattle.base64.specs.{Engines.standard, GeneralPurpose.encode_of};
 ghost use Rattle.dns_rdata_zone.specs.Tokens.{tokens_from, in_tokens, left_after};
 
 use dns_rdata_certs::hexadecimal::Hexadecimal;
-use dns_words::Base64Text;
+use dns_tokens::Base64Text;
 use std::fmt;
 
 /// The most octets that a token of hexadecimal digits has.

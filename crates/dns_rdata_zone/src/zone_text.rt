@@ -1,12 +1,12 @@
-//! Record data in the form that name servers read.
+//! RDATA printed as zone text.
 
 ghost use Rattle.std.specs.Prelude.{◌≡◌, Some, OnOk, None};
 ghost use Rattle.std.specs.Fmt.{DisplaysOnOk, DisplaysStyledOnOk};
 ghost use Rattle.dns_rdata.specs.Data.{IsEmittable};
 ghost use Rattle.dns_rdata_zone.specs.ZoneTexts.{zone_text};
 
+use crate::certificates::{ZoneCert, ZoneOpenpgpkey, ZoneSshfp, ZoneTlsa};
 use crate::generic::{Generic, GenericName};
-use crate::keys::{ZoneCert, ZoneOpenpgpkey, ZoneSshfp, ZoneTlsa};
 use crate::names::ZoneName;
 use crate::options::ZoneOptions;
 use crate::records::{ZoneCaa, ZoneCsync, ZoneHinfo, ZoneNaptr, ZoneSoa, ZoneTxt};
@@ -14,15 +14,15 @@ use crate::services::write_service;
 use dns_rdata::RData;
 use std::fmt;
 
-/// Record data that prints as it is written in a zone file, in the form that name servers read (RFC 1035, section 5.1;
-/// RFC 9460, section 2.1; the RFCs of the types). A value that has no such text prints in the form of unknown data (RFC
+/// RDATA that prints as it is written in a zone file, in the form that name servers read (RFC 1035, section 5.1;
+/// RFC 9460, section 2.1; the RFCs of the types). A value that has no such text prints in the unknown-data form (RFC
 /// 3597, section 5). Printing allocates nothing, whatever the value.
 ///
 /// Names are fully qualified, with case preserved; strings are in quotes; numbers have no sign; times to live and the
 /// numbers of SOA are seconds. The text is printable ASCII in one line, with one blank between two fields
 /// ([`zone_texts_hold`](crate::laws::zone_texts_hold)).
 ///
-/// The form of unknown data is that of NULL, OPT, ANAME, ZERO and every type without a format of its own; of TXT
+/// The unknown-data form is that of NULL, OPT, ANAME, ZERO and every type without a format of its own; of TXT
 /// without strings; of CERT, SSHFP, TLSA, SMIMEA and OPENPGPKEY without data; of CAA whose tag has other octets than
 /// ASCII letters and digits; and of SVCB and HTTPS with a parameter that has no text ([`has_text`](crate::has_text)).
 #[derive(Clone, Copy)]

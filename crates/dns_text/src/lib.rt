@@ -4,16 +4,17 @@
 pub mod laws;
 pub mod lexer;
 pub mod list;
-pub mod pieces;
 mod quoted;
+pub mod segments;
 mod spans;
 pub mod token;
 pub mod ttl;
 pub mod words;
 
 pub use lexer::Lexer;
-pub use list::{read_item, read_list};
-pub use pieces::next_piece;
+pub use list::read_item;
+pub use segments::next_segment;
+pub use spans::{is_blank, is_line_end};
 pub use token::Token;
 pub use ttl::parse_ttl;
 pub use words::text_words;

@@ -1,4 +1,4 @@
 pub mod FieldNames
-pub mod Pieces
+pub mod Overlaps
 pub mod RecordTypeLaws
 pub mod TypeTexts

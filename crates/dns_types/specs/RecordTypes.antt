@@ -9,55 +9,55 @@ use Rattle.dns_types.specs.declared.record_type.RecordType.TheVariants.{NAPTR, C
 use Rattle.dns_types.specs.declared.record_type.RecordType.TheVariants.{TLSA, SMIMEA, CDS, CDNSKEY, OPENPGPKEY, CSYNC, SVCB, HTTPS, TSIG, IXFR, AXFR}
 use Rattle.dns_types.specs.declared.record_type.RecordType.TheVariants.{ANY, CAA, ANAME, Unknown}
 
--- the number of a type on the wire (IANA's "Resource Record (RR) TYPEs"; ANAME's is of private use), and what is printed: the name in
--- capitals, or TYPE and the number (RFC 3597, section 5)
-abbrev pub type_row : RecordType → ℕ × List ℕ
-type_row ZERO = (0, codes "ZERO")
-type_row A = (1, codes "A")
-type_row NS = (2, codes "NS")
-type_row CNAME = (5, codes "CNAME")
-type_row SOA = (6, codes "SOA")
-type_row NULL = (10, codes "NULL")
-type_row PTR = (12, codes "PTR")
-type_row HINFO = (13, codes "HINFO")
-type_row MX = (15, codes "MX")
-type_row TXT = (16, codes "TXT")
-type_row SIG = (24, codes "SIG")
-type_row KEY = (25, codes "KEY")
-type_row AAAA = (28, codes "AAAA")
-type_row SRV = (33, codes "SRV")
-type_row NAPTR = (35, codes "NAPTR")
-type_row CERT = (37, codes "CERT")
-type_row DNAME = (39, codes "DNAME")
-type_row OPT = (41, codes "OPT")
-type_row DS = (43, codes "DS")
-type_row SSHFP = (44, codes "SSHFP")
-type_row RRSIG = (46, codes "RRSIG")
-type_row NSEC = (47, codes "NSEC")
-type_row DNSKEY = (48, codes "DNSKEY")
-type_row NSEC3 = (50, codes "NSEC3")
-type_row NSEC3PARAM = (51, codes "NSEC3PARAM")
-type_row TLSA = (52, codes "TLSA")
-type_row SMIMEA = (53, codes "SMIMEA")
-type_row CDS = (59, codes "CDS")
-type_row CDNSKEY = (60, codes "CDNSKEY")
-type_row OPENPGPKEY = (61, codes "OPENPGPKEY")
-type_row CSYNC = (62, codes "CSYNC")
-type_row SVCB = (64, codes "SVCB")
-type_row HTTPS = (65, codes "HTTPS")
-type_row TSIG = (250, codes "TSIG")
-type_row IXFR = (251, codes "IXFR")
-type_row AXFR = (252, codes "AXFR")
-type_row ANY = (255, codes "ANY")
-type_row CAA = (257, codes "CAA")
-type_row ANAME = (65305, codes "ANAME")
-type_row (Unknown n) = (n, codes "TYPE" ++ decimal n)
+-- the number of a type on the wire (IANA's "Resource Record (RR) TYPEs"; ANAME's is of private use), and what is
+-- printed: the name in capitals, or TYPE and the number (RFC 3597, section 5)
+abbrev pub type_entry : RecordType → ℕ × List ℕ
+type_entry ZERO = (0, codes "ZERO")
+type_entry A = (1, codes "A")
+type_entry NS = (2, codes "NS")
+type_entry CNAME = (5, codes "CNAME")
+type_entry SOA = (6, codes "SOA")
+type_entry NULL = (10, codes "NULL")
+type_entry PTR = (12, codes "PTR")
+type_entry HINFO = (13, codes "HINFO")
+type_entry MX = (15, codes "MX")
+type_entry TXT = (16, codes "TXT")
+type_entry SIG = (24, codes "SIG")
+type_entry KEY = (25, codes "KEY")
+type_entry AAAA = (28, codes "AAAA")
+type_entry SRV = (33, codes "SRV")
+type_entry NAPTR = (35, codes "NAPTR")
+type_entry CERT = (37, codes "CERT")
+type_entry DNAME = (39, codes "DNAME")
+type_entry OPT = (41, codes "OPT")
+type_entry DS = (43, codes "DS")
+type_entry SSHFP = (44, codes "SSHFP")
+type_entry RRSIG = (46, codes "RRSIG")
+type_entry NSEC = (47, codes "NSEC")
+type_entry DNSKEY = (48, codes "DNSKEY")
+type_entry NSEC3 = (50, codes "NSEC3")
+type_entry NSEC3PARAM = (51, codes "NSEC3PARAM")
+type_entry TLSA = (52, codes "TLSA")
+type_entry SMIMEA = (53, codes "SMIMEA")
+type_entry CDS = (59, codes "CDS")
+type_entry CDNSKEY = (60, codes "CDNSKEY")
+type_entry OPENPGPKEY = (61, codes "OPENPGPKEY")
+type_entry CSYNC = (62, codes "CSYNC")
+type_entry SVCB = (64, codes "SVCB")
+type_entry HTTPS = (65, codes "HTTPS")
+type_entry TSIG = (250, codes "TSIG")
+type_entry IXFR = (251, codes "IXFR")
+type_entry AXFR = (252, codes "AXFR")
+type_entry ANY = (255, codes "ANY")
+type_entry CAA = (257, codes "CAA")
+type_entry ANAME = (65305, codes "ANAME")
+type_entry (Unknown n) = (n, codes "TYPE" ++ decimal n)
 
 abbrev pub number_of : RecordType → ℕ
-number_of t = (type_row t).0
+number_of t = (type_entry t).0
 
 abbrev pub type_text : RecordType → List ℕ
-type_text t = (type_row t).1
+type_text t = (type_entry t).1
 
 -- a type with a name of its own
 abbrev pub is_named : RecordType → Bool
@@ -73,7 +73,7 @@ named_types = ZERO ∷ A ∷ NS ∷ CNAME ∷ SOA ∷ NULL ∷ PTR ∷ HINFO ∷
 abbrev pub record_type_of : ℕ → RecordType
 record_type_of n = unwrap_or (find (λ t. number_of t == n) named_types) (Unknown n)
 
--- a number of its own for each value, in their order: by number on the wire, and `Unknown n` behind the named type
+-- a number of its own for each value, in their order: by number on the wire, and `Unknown n` after the named type
 abbrev pub code_of : RecordType → ℕ
 code_of (Unknown n) = 2 * n + 1
 code_of t = 2 * number_of t

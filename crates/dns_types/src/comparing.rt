@@ -1,9 +1,9 @@
-//! Octets compared by pieces of one size.
+//! Octets compared by blocks of one size.
 
 ghost use Rattle.std.specs.Prelude.{◌≡◌, ◌<◌, ◌≤◌, ◌↔◌, IsTrue, length};
 ghost use Rattle.std.specs.Int.{from_le_bytes, w32, w64};
 
-/// Whether the octets are the same: what `==` of slices answers, quicker where they are few.
+/// Whether the octets are the same. It returns what `==` of slices returns, and is quicker for few octets.
 #[inline]
 pub fn same_octets(a: &[u8], b: &[u8]) -> bool
     ensures { IsTrue result ↔ (a.now ≡ b.now) }
@@ -12,7 +12,7 @@ pub fn same_octets(a: &[u8], b: &[u8]) -> bool
     if len != b.len() {
         return false;
     }
-    // Few octets are compared in place, and many by a call.
+    // Few octets are compared inline, many by a call.
     if len < 8 {
         return same_few(a, b);
     }
@@ -38,13 +38,13 @@ pub fn same_middle(a: &[u8], b: &[u8]) -> bool
     // A block from the beginning and one up to the end are compared without a branch between; they may lap.
     if len <= 16 {
         let last = len - 8;
-        return same_word(&a[..8], &b[..8]) & same_word(&a[last..], &b[last..]);
+        return same_token(&a[..8], &b[..8]) & same_token(&a[last..], &b[last..]);
     }
     let last = len - 16;
     same_pair(&a[..16], &b[..16]) & same_pair(&a[last..], &b[last..])
 }
 
-/// Whether the arrays are the same, compared whole and without a branch where they are of 32 or 64 octets.
+/// Whether the arrays are the same. Arrays of 32 or 64 octets are compared as a whole, without a branch.
 #[inline(always)]
 pub fn same_arrays<const N: usize>(a: &[u8; N], b: &[u8; N]) -> bool
     ensures { IsTrue result ↔ (a.now ≡ b.now) }
@@ -69,7 +69,7 @@ fn same_many(a: &[u8], b: &[u8]) -> bool
 {
     let last = a.len() - 32;
     let mut at = 0usize;
-    'pieces: while at < last {
+    'each_block: while at < last {
         if !same_block(&a[at..at + 32], &b[at..at + 32]) {
             return false;
         }
@@ -119,16 +119,16 @@ fn same_pair(a: &[u8], b: &[u8]) -> bool
     requires { (length a.now ≡ 16) × (length b.now ≡ 16) }
     ensures { IsTrue result ↔ (a.now ≡ b.now) }
 {
-    same_word(&a[..8], &b[..8]) & same_word(&a[8..], &b[8..])
+    same_token(&a[..8], &b[..8]) & same_token(&a[8..], &b[8..])
 }
 
 // Whether eight octets are the same, as one number.
 #[inline]
-fn same_word(a: &[u8], b: &[u8]) -> bool
+fn same_token(a: &[u8], b: &[u8]) -> bool
     requires { (length a.now ≡ 8) × (length b.now ≡ 8) }
     ensures { IsTrue result ↔ (a.now ≡ b.now) }
 {
-    word(a) == word(b)
+    token(a) == token(b)
 }
 
 #[inline]
@@ -140,7 +140,7 @@ fn same_half(a: &[u8], b: &[u8]) -> bool
 }
 
 #[inline]
-fn word(octets: &[u8]) -> u64
+fn token(octets: &[u8]) -> u64
     requires { length octets.now ≡ 8 }
     ensures { result ≡ from_le_bytes w64 octets.now }
 {

@@ -1,6 +1,6 @@
-//! Why octets, values or texts are refused.
+//! The errors: why octets, values or texts are rejected.
 ghost use Rattle.std.specs.Prelude.{◌≡◌, ℕ, List, IfSome, IfNone};
-ghost use Rattle.dns_types.specs.Errors.{decode_refusal, proto_refusal, IsAbout, NamesField};
+ghost use Rattle.dns_types.specs.Errors.{decode_error, proto_error, IsAbout, NamesField};
 ghost use Rattle.dns_types.specs.declared.error.DecodeError.TheVariants as decode;
 ghost use Rattle.dns_types.specs.declared.error.ProtoError.TheVariants as proto;
 ghost use Rattle.dns_types.specs.declared.error.ParseError.TheVariants as parse;
@@ -114,9 +114,9 @@ impl<T: Drop> From<AllocFailed<T>> for ProtoError {
     }
 }
 
-/// Want of memory stays want of memory; any other error becomes a `Decode`.
+/// `Memory` stays `Memory`; any other error becomes a `Decode`.
 impl From<DecodeError> for ProtoError {
-    ghost from_gives = { λ inner e. e ≡ decode_refusal inner };
+    ghost from_gives = { λ inner e. e ≡ decode_error inner };
 
     fn from(e: DecodeError) -> ProtoError {
         match e {
@@ -134,19 +134,19 @@ pub struct AddrParseError;
 /// Why a text was not read.
 #[derive(Clone, Copy, Debug, PartialEq, Eq, Error)]
 pub enum ParseError {
-    /// A word is missing; the text names what it stands for.
+    /// A token is missing; the text names its field.
     #[error("{0} missing")]
     MissingToken(&'static str),
-    /// A word or the whole text is wrong; the text says how.
+    /// A token or the whole text is wrong; the text says how.
     #[error("{0}")]
     Message(&'static str),
     /// No text is read for this type.
     #[error("unsupported record type: {0}")]
     UnsupportedRecordType(RecordType),
-    /// A word is no address.
+    /// A token is not an address.
     #[error("invalid address")]
     AddrParse,
-    /// The lower layer refused a name or a value.
+    /// The lower layer rejected a name or a value.
     #[error("proto error: {0}")]
     Proto(ProtoError),
     /// Memory ran out.
@@ -212,9 +212,9 @@ impl From<AddrParseError> for ParseError {
     }
 }
 
-/// Want of memory, at any depth, stays want of memory; any other error becomes a `Proto`.
+/// `Memory`, at any depth, becomes `Memory`; any other error becomes a `Proto`.
 impl From<ProtoError> for ParseError {
-    ghost from_gives = { λ inner e. e ≡ proto_refusal inner };
+    ghost from_gives = { λ inner e. e ≡ proto_error inner };
 
     fn from(e: ProtoError) -> ParseError {
         match e {
@@ -226,7 +226,7 @@ impl From<ProtoError> for ParseError {
 
 /// As through [`ProtoError`].
 impl From<DecodeError> for ParseError {
-    ghost from_gives = { λ inner e. e ≡ proto_refusal (decode_refusal inner) };
+    ghost from_gives = { λ inner e. e ≡ proto_error (decode_error inner) };
 
     fn from(e: DecodeError) -> ParseError {
         ParseError::from(ProtoError::from(e))

@@ -309,7 +309,7 @@ fn named(text: &str) -> Option<RecordType>
     NAMED.iter().copied().find(|kind| kind.has_name(text))
 }
 
-// The type of the number that the text has behind TYPE.
+// The type of the number that follows TYPE in the text.
 fn numbered(text: &str) -> Option<RecordType>
     ensures { MatchOption result ((t : _) → ¬ (IsNumberText text.now t)) (IsNumberText text.now) }
 {

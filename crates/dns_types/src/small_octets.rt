@@ -20,10 +20,10 @@ use std::{fmt, slice};
 /// Up to `N` octets, in the value itself.
 #[derive(Drop)]
 struct Inline<const N: usize> {
-    // The length fills a word. A word that is loaded where `Heap` has a part of its vector was then stored whole, and
-    // the processor need not join two stores.
+    // The length fills a machine token. `Heap` has a part of its vector at this offset: a load of that token then follows
+    // one store, and the processor need not join two.
     len: u64,
-    // Behind the first `len` octets stand zeros, so that two arrays are compared whole.
+    // Zeros follow the first `len` octets, so that two arrays are compared as a whole.
     octets: [u8; N],
 }
 
@@ -72,7 +72,7 @@ impl<const N: usize> Inline<N> {
         }
     }
 
-    // Whether both have the same octets. The arrays are compared whole and without a branch.
+    // Whether both have the same octets. The arrays are compared as a whole, without a branch.
     #[inline(always)]
     fn is_same(&self, other: &Inline<N>) -> bool
         ensures { IsTrue result ↔ (self.now ≡ other.now) }
@@ -206,7 +206,7 @@ impl<const N: usize> SmallOctets<N> {
         same_octets(self.as_slice(), octets)
     }
 
-    // Whether the octets are the same, wherever they stand.
+    // Whether the octets are the same, wherever each value keeps them.
     #[inline(never)]
     fn is_same_far(&self, other: &SmallOctets<N>) -> bool
         ensures { IsTrue result ↔ (self.now ≡ other.now) }

@@ -8,7 +8,7 @@ use Rattle.std.proofs.lemmas.Fmt.{decimal-digits_value, decimal_is_IsNumeral, de
 use Rattle.std.proofs.lemmas.Bool.{cases_Bool, cases_lt}
 use Rattle.dns_zone_parameters.specs.{Steps.NumberSpelled, declared.key.ParameterKey.ParameterKey, declared.key.ParameterKey.TheVariants.Numbered}
 use Rattle.dns_zone_parameters.specs.Keys.{named_key, IsNumberedName, IsKeyName}
-use Rattle.dns_zone_words.proofs.TextSteps.{ascii_utf8}
+use Rattle.dns_zone_tokens.proofs.TextSteps.{ascii_utf8}
 
 other_name : (name own : List ℕ) → IsUtf8 own → ¬ (IsUtf8 name) → bytes_eq name own ≡ false
 other_name name own is isnt = elim (cases_Bool (bytes_eq name own)) [

@@ -3,8 +3,8 @@ pub mod Items
 pub mod Rises
 pub mod Once
 pub mod ValueSteps
-pub mod WordSteps
+pub mod TokenSteps
 pub mod ParameterSteps
 pub mod OneReading
 pub mod WrittenLists
-pub mod WrittenWords
+pub mod WrittenTokens

@@ -3,7 +3,7 @@ use Rattle.std.proofs.Common.{◌≡◌, ℕ, List, sym, ◌∙◌, ap, subst, O
 use Rattle.std.specs.{Int.bytes_high_first, List.AllZip, List.flat_map, List.Sorted.IsPermutation, Net.Addr.ipv4_octets, Net.Addr.ipv6_octets}
 use Rattle.std.proofs.NetLemmas.Theorems.{IsIpv4Text_unique, IsIpv6Text_unique}
 use Rattle.base64.specs.declared.decode.DecodeError.{DecodeError}
-use Rattle.dns_fields.specs.Pieces.{string}
+use Rattle.dns_fields.specs.Tlvs.{string}
 use Rattle.dns_zone_parameters.specs.{Keys.key_number, Values.HasOctets, declared.key.ParameterKey.ParameterKey, declared.lists.ListItem.ListItem}
 use Rattle.dns_zone_parameters.specs.Lists.{items_in, IsItem, IsList, IsListedKey, IsKeyList}
 use Rattle.dns_zone_parameters.specs.declared.key.ParameterKey.TheVariants.{Mandatory, Alpn, NoDefaultAlpn, Port, Ipv4Hint, Ech, Ipv6Hint, DohPath}
@@ -30,7 +30,8 @@ keys_once text ns ms a b = same_both IsListedKey listed_once (items_in text) ns 
 key_list_once : (text v w : List ℕ) → IsKeyList text v → IsKeyList text w → v ≡ w
 key_list_once text v w a b =
     let same : a.keys ≡ b.keys = keys_once text a.keys b.keys a.each b.each in
-    let order : a.order ≡ b.order = order_once b.keys a.order b.order (subst (λ (x : List ℕ). IsPermutation x a.order) same a.same) (climbs_rising a.order a.rising)
+    let order : a.order ≡ b.order =
+    order_once b.keys a.order b.order (subst (λ (x : List ℕ). IsPermutation x a.order) same a.same) (climbs_rising a.order a.rising)
     b.same (climbs_rising b.order b.rising) in
     a.joined ∙ ap (flat_map (bytes_high_first 2)) order ∙ sym b.joined
 

@@ -1,12 +1,12 @@
--- Words have one list of octets at most.
+-- Tokens have at most one list of octets.
 use Rattle.std.proofs.Common.{◌≡◌, ℕ, zero, suc, ◌<◌, List, [], ◌∷◌, ◌++◌, length, get_or, refl, sym, ◌∙◌, ap, subst, arith, ◌⊎◌, inl, inr}
 use Rattle.std.specs.{List.Contains, List.Sorted.IsPermutation}
 use Rattle.std.proofs.lemmas.List.Sorted.{IsPermutation-sym, Contains-permutation}
-use Rattle.dns_fields.specs.Pieces.{Numbered, pieces, Below, Rising}
-use Rattle.dns_zone_words.specs.Words.{Word}
+use Rattle.dns_fields.specs.Tlvs.{Numbered, tlvs, Below, Rising}
+use Rattle.dns_zone_tokens.specs.Tokens.{Token}
 use Rattle.dns_zone_parameters.specs.{Keys.key_number, Laws.OneReading, Values.IsValue, declared.key.ParameterKey.ParameterKey}
 use Rattle.dns_zone_parameters.specs.Parameters.{Parameter, name_in, value_in, IsWritten, HasParameter, AreWritten}
-use Rattle.dns_zone_parameters.proofs.{KeyNames.key_once, Once.octets_once, WordSteps.starts_alone, WordSteps.is_quoted, ParameterSteps.no_words}
+use Rattle.dns_zone_parameters.proofs.{KeyNames.key_once, Once.octets_once, TokenSteps.starts_alone, TokenSteps.is_quoted, ParameterSteps.no_tokens}
 
 -- ---- one order
 
@@ -15,19 +15,22 @@ below_has n [] z k h lt e = absurd (omega arith)
 below_has n (x ∷ xs) z zero h lt e = let s : x.0 ≡ z.0 = ap (λ y. y.0) e in let below = h.0 in omega (arith, below, s)
 below_has n (x ∷ xs) z (suc k) h lt e = below_has n xs z k h.1 (omega arith) e
 
-first_or_behind : {V : Type 0} (x : Numbered V) (xs : List (Numbered V)) (z : Numbered V) (k : ℕ) → k < length (x ∷ xs) → get_or (x ∷ xs) k z ≡ z → (x ≡ z) ⊎ Contains xs z
+first_or_behind : {V : Type 0} (x : Numbered V) (xs : List (Numbered V)) (z : Numbered V) (k : ℕ) → k < length (x ∷ xs) → get_or (x ∷ xs) k z ≡ z
+    → (x ≡ z) ⊎ Contains xs z
 first_or_behind x xs z zero lt e = inl e
 first_or_behind x xs z (suc k) lt e = inr (k, omega arith, e)
 
 -- not the number of the first
-behind_first : {V : Type 0} (x : Numbered V) (xs ys : List (Numbered V)) (y z : Numbered V) → Below x.0 xs → x ≡ y → Contains xs z → (y ≡ z) ⊎ Contains ys z → Contains ys z
+behind_first : {V : Type 0} (x : Numbered V) (xs ys : List (Numbered V)) (y z : Numbered V) → Below x.0 xs → x ≡ y → Contains xs z → (y ≡ z) ⊎ Contains ys z
+    → Contains ys z
 behind_first x xs ys y z below s in_xs (inl e) =
     let above = below_has x.0 xs z in_xs.0 below in_xs.1 in_xs.2 in
     let same : x.0 ≡ z.0 = ap (λ w. w.0) (s ∙ e) in
     absurd (omega (arith, above, same))
 behind_first x xs ys y z below s in_xs (inr h) = h
 
-both_first : {V : Type 0} (x y : Numbered V) (xs ys : List (Numbered V)) → Below x.0 xs → Below y.0 ys → (y ≡ x) ⊎ Contains ys x → (x ≡ y) ⊎ Contains xs y → x ≡ y
+both_first : {V : Type 0} (x y : Numbered V) (xs ys : List (Numbered V)) → Below x.0 xs → Below y.0 ys → (y ≡ x) ⊎ Contains ys x → (x ≡ y) ⊎ Contains xs y
+    → x ≡ y
 both_first x y xs ys a b (inl e) k = sym e
 both_first x y xs ys a b (inr h) (inl e) = e
 both_first x y xs ys a b (inr h) (inr k) =
@@ -35,7 +38,8 @@ both_first x y xs ys a b (inr h) (inr k) =
     let below = below_has x.0 xs y k.0 a k.1 k.2 in
     absurd (omega (arith, above, below))
 
-same_rising : {V : Type 0} (xs ys : List (Numbered V)) → Rising xs → Rising ys → ((z : Numbered V) → Contains xs z → Contains ys z) → ((z : Numbered V) → Contains ys z → Contains xs z) → xs ≡ ys
+same_rising : {V : Type 0} (xs ys : List (Numbered V)) → Rising xs → Rising ys → ((z : Numbered V) → Contains xs z → Contains ys z)
+    → ((z : Numbered V) → Contains ys z → Contains xs z) → xs ≡ ys
 same_rising [] [] a b to back = refl
 same_rising [] (y ∷ ys) a b to back = let h = back y (0, omega arith, refl) in absurd (omega (arith, h.1))
 same_rising (x ∷ xs) [] a b to back = let h = to x (0, omega arith, refl) in absurd (omega (arith, h.1))
@@ -65,18 +69,19 @@ one_parameter name value (n, v) (m, w) a b =
     let values : v ≡ w = octets_once a.key _ v w a.octets.has other.has in
     cc
 
--- the same words begin with the same name and value, and the same stand behind
-pub record SameBegin (name value n v : List ℕ) (behind others : List Word) : Type 0 where
+-- the same tokens begin with the same name and value, and the same follow
+pub record SameBegin (name value n v : List ℕ) (behind others : List Token) : Type 0 where
   pub names : name ≡ n
   pub values : value ≡ v
   pub left : behind ≡ others
 
-begin_once : (name value n v : List ℕ) (ps qs : List Parameter) (front behind other others : List Word) → front ++ behind ≡ other ++ others → IsWritten name value front → IsWritten n v other
+begin_once : (name value n v : List ℕ) (ps qs : List Parameter) (front behind other others : List Token) → front ++ behind ≡ other ++ others
+    → IsWritten name value front → IsWritten n v other
     → AreWritten ps behind → AreWritten qs others → SameBegin name value n v behind others
 begin_once name value n v ps qs (a ∷ []) behind (b ∷ []) others e h k x y =
     let s : a ≡ b = cc in
     let l : behind ≡ others = cc in
-    record { names = h.1 ∙ ap (λ (w : Word). name_in w.octets) s ∙ sym k.1; values = h.2 ∙ ap (λ (w : Word). value_in w.octets) s ∙ sym k.2; left = l }
+    record { names = h.1 ∙ ap (λ (w : Token). name_in w.octets) s ∙ sym k.1; values = h.2 ∙ ap (λ (w : Token). value_in w.octets) s ∙ sym k.2; left = l }
 begin_once name value n v ps qs (a ∷ []) behind (b ∷ c ∷ []) others e h k x y =
     let l : behind ≡ c ∷ others = cc in
     let alone = starts_alone ps c others (subst (AreWritten ps) l x) in
@@ -89,24 +94,26 @@ begin_once name value n v ps qs (a ∷ c ∷ []) behind (b ∷ d ∷ []) others 
     let s : a ≡ b = cc in
     let t : c ≡ d = cc in
     let l : behind ≡ others = cc in
-    record { names = h.2 ∙ ap (λ (w : Word). name_in w.octets) s ∙ sym k.2; values = h.4 ∙ ap (λ (w : Word). w.octets) t ∙ sym k.4; left = l }
+    record { names = h.2 ∙ ap (λ (w : Token). name_in w.octets) s ∙ sym k.2; values = h.4 ∙ ap (λ (w : Token). w.octets) t ∙ sym k.4; left = l }
 begin_once name value n v ps qs [] behind other others e h k x y = absurd h
 begin_once name value n v ps qs (a ∷ c ∷ f ∷ front) behind other others e h k x y = absurd h
 begin_once name value n v ps qs front behind [] others e h k x y = absurd k
 begin_once name value n v ps qs front behind (b ∷ d ∷ f ∷ other) others e h k x y = absurd k
 
-written_once : (ps qs : List Parameter) (words : List Word) → AreWritten ps words → AreWritten qs words → ps ≡ qs
-written_once [] qs words h k = sym (no_words qs (subst (AreWritten qs) h k))
-written_once (p ∷ ps) [] words h k = no_words (p ∷ ps) (subst (AreWritten (p ∷ ps)) k h)
-written_once (p ∷ ps) (q ∷ qs) words h k =
+written_once : (ps qs : List Parameter) (tokens : List Token) → AreWritten ps tokens → AreWritten qs tokens → ps ≡ qs
+written_once [] qs tokens h k = sym (no_tokens qs (subst (AreWritten qs) h k))
+written_once (p ∷ ps) [] tokens h k = no_tokens (p ∷ ps) (subst (AreWritten (p ∷ ps)) k h)
+written_once (p ∷ ps) (q ∷ qs) tokens h k =
     let b = begin_once h.3.name h.3.value k.3.name k.3.value ps qs h.0 h.1 k.0 k.1 (sym h.2 ∙ k.2) h.3.written k.3.written h.4 k.4 in
-    let has : HasParameter h.3.name h.3.value q = subst (λ (x : List ℕ). HasParameter h.3.name x q) (sym b.values) (subst (λ (x : List ℕ). HasParameter x k.3.value q) (sym b.names) k.3.has) in
+    let has : HasParameter h.3.name h.3.value q =
+    subst (λ (x : List ℕ). HasParameter h.3.name x q) (sym b.values) (subst (λ (x : List ℕ). HasParameter x k.3.value q) (sym b.names) k.3.has) in
     let first : p ≡ q = one_parameter h.3.name h.3.value p q h.3.has has in
     let others : ps ≡ qs = written_once ps qs h.1 h.4 (subst (AreWritten qs) (sym b.left) k.4) in
     cc
 
 pub one_reading : OneReading
-one_reading words a b x y =
-    let ps : x.parameters ≡ y.parameters = written_once x.parameters y.parameters words x.written y.written in
-    let order : x.order ≡ y.order = one_order y.parameters x.order y.order (subst (λ (l : List Parameter). IsPermutation l x.order) ps x.same) y.same x.rising y.rising in
-    x.wire ∙ ap pieces order ∙ sym y.wire
+one_reading tokens a b x y =
+    let ps : x.parameters ≡ y.parameters = written_once x.parameters y.parameters tokens x.written y.written in
+    let order : x.order ≡ y.order =
+    one_order y.parameters x.order y.order (subst (λ (l : List Parameter). IsPermutation l x.order) ps x.same) y.same x.rising y.rising in
+    x.wire ∙ ap tlvs order ∙ sym y.wire

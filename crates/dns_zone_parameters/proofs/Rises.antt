@@ -3,7 +3,7 @@ use Rattle.std.proofs.Common.{◌≡◌, ℕ, zero, suc, ◌<◌, ◌≤◌, fal
 use Rattle.std.specs.{Ordering.is_gt, Ordering.nat_cmp, FinMap.nat_cmp-IsAntisymmetric}
 use Rattle.std.specs.List.Sorted.{IsPermutation, IsNonDecreasing, IsStrictlyIncreasing}
 use Rattle.std.proofs.{lemmas.Cmp.nat_cmp_total, lemmas.Bool.Decides.nat_tests}
-use Rattle.dns_fields.specs.{Pieces.Numbered, Pieces.Below, Pieces.Rising, Sorting.put, Sorting.sorted}
+use Rattle.dns_fields.specs.{Tlvs.Numbered, Tlvs.Below, Tlvs.Rising, Sorting.put, Sorting.sorted}
 use Rattle.dns_fields.proofs.Sorted.{sorted_one}
 
 -- no number is below the one before

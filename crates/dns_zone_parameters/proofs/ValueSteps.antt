@@ -1,4 +1,4 @@
--- Values, one step behind the other.
+-- Values, one step after the other.
 use Rattle.std.proofs.Common.{◌≡◌, ◌≢◌, ℕ, suc, ◌<◌, ◌⊎◌, inl, inr, true, false, eqb, get_or, take, drop, List, [], ◌∷◌, ◌++◌, length, map, refl, sym}
 use Rattle.std.proofs.Common.{◌∙◌, ap, subst, arith, Result, Ok, Err}
 use Rattle.std.specs.Prelude.{IfErr}
@@ -8,10 +8,10 @@ use Rattle.std.specs.{List.AllByRecursion, List.AllZip, Ordering.nat_cmp}
 use Rattle.std.specs.List.Sorted.{IsPermutation, IsSorted, IsStrictlyIncreasing}
 use Rattle.dns_types.specs.declared.error.ParseError.{ParseError}
 use Rattle.dns_types.specs.declared.error.ParseError.TheVariants as parse
-use Rattle.dns_words.specs.{Forms.ipv4, Forms.ipv6, Reads.UnlessParseMemory, Reads.HoldsOfNone, Reads.Decides}
-use Rattle.dns_zone_words.specs.{Forms.bare, Forms.text, Letters.letters, Letters.octet_of, Letters.escapes_stand, ZoneReads.NoValueOf, Refusals.Says}
-use Rattle.dns_zone_words.proofs.LetterSteps.{plain_letters}
-use Rattle.dns_words.proofs.Steps.{unless_map}
+use Rattle.dns_tokens.specs.{Forms.ipv4, Forms.ipv6, Reads.UnlessParseMemory, Reads.HoldsOfNone, Reads.Decides}
+use Rattle.dns_zone_tokens.specs.{Forms.bare, Forms.text, Letters.letters, Letters.octet_of, Letters.escapes_stand, ZoneReads.NoValueOf, Errors.Says}
+use Rattle.dns_zone_tokens.proofs.LetterSteps.{plain_letters}
+use Rattle.dns_tokens.proofs.Steps.{unless_map}
 use Rattle.dns_zone_parameters.specs.{Faults.wrong_value, Faults.ValueFault, Steps.HasMeant, Values.HasOctets, Values.IsPlain, Values.IsValue}
 use Rattle.dns_zone_parameters.specs.{declared.key.ParameterKey.ParameterKey, declared.lists.ListItem.ListItem}
 use Rattle.dns_zone_parameters.specs.Lists.{items_in, IsItem, IsListedKey, IsKeyList}
@@ -20,23 +20,27 @@ use Rattle.dns_zone_parameters.proofs.{Once.keys_once, Once.octets_once, Rises.c
 
 -- ---- items
 
-pub no_ipv4 : (e : ParseError) (item : ListItem) (s : List ℕ) → item ≡ Ipv4 → UnlessParseMemory e (NoValueOf (bare ipv4) (record { octets = s; quoted = false; joined = false }))
+pub no_ipv4 : (e : ParseError) (item : ListItem) (s : List ℕ) → item ≡ Ipv4
+    → UnlessParseMemory e (NoValueOf (bare ipv4) (record { octets = s; quoted = false; joined = false }))
     → UnlessParseMemory e (HoldsOfNone (IsItem item s))
 no_ipv4 e item s is none = rw is (unless_map e _ (HoldsOfNone (IsItem Ipv4 s)) (λ h. record { none = λ v has. h.none v (refl, has) }) none)
 
-pub no_ipv6 : (e : ParseError) (item : ListItem) (s : List ℕ) → item ≡ Ipv6 → UnlessParseMemory e (NoValueOf (bare ipv6) (record { octets = s; quoted = false; joined = false }))
+pub no_ipv6 : (e : ParseError) (item : ListItem) (s : List ℕ) → item ≡ Ipv6
+    → UnlessParseMemory e (NoValueOf (bare ipv6) (record { octets = s; quoted = false; joined = false }))
     → UnlessParseMemory e (HoldsOfNone (IsItem item s))
 no_ipv6 e item s is none = rw is (unless_map e _ (HoldsOfNone (IsItem Ipv6 s)) (λ h. record { none = λ v has. h.none v (refl, has) }) none)
 
 -- ---- lists of keys
 
 -- keys that do not rise in order are no list of keys
-pub no_rise : (s keys order : List ℕ) → AllZip IsListedKey (items_in s) keys → IsPermutation keys order → IsSorted nat_cmp order → (IsStrictlyIncreasing order → ⊥)
+pub no_rise : (s keys order : List ℕ) → AllZip IsListedKey (items_in s) keys → IsPermutation keys order → IsSorted nat_cmp order
+    → (IsStrictlyIncreasing order → ⊥)
     → HoldsOfNone (IsKeyList s)
 no_rise s keys order each same climbs isnt = record {
   none = λ v is.
       let ks : is.keys ≡ keys = keys_once s is.keys keys is.each each in
-      let os : is.order ≡ order = order_once keys is.order order (subst (λ (x : List ℕ). IsPermutation x is.order) ks is.same) (climbs_rising is.order is.rising)
+      let os : is.order ≡ order =
+      order_once keys is.order order (subst (λ (x : List ℕ). IsPermutation x is.order) ks is.same) (climbs_rising is.order is.rising)
       same (climbs_sorted order (IsNonDecreasingBy-from_sort (λ x. x) order climbs)) in
       isnt (subst IsStrictlyIncreasing os is.rising);
 }
@@ -60,7 +64,8 @@ plain_meant s h =
       own.1 ∙ ap (λ (r : List ℕ). take (length s) s ++ map octet_of (letters r)) none ∙ append-nil (take (length s) s) ∙ take_all (length s) s (omega arith),
     )
 
-decides_as : {T V : Type 0} (P Q : V → Type 0) (view : T → V) (r : Result T ParseError) → ((v : V) → P v → Q v) → ((v : V) → Q v → P v) → Decides P view r → Decides Q view r
+decides_as : {T V : Type 0} (P Q : V → Type 0) (view : T → V) (r : Result T ParseError) → ((v : V) → P v → Q v) → ((v : V) → Q v → P v) → Decides P view r
+    → Decides Q view r
 decides_as P Q view (Ok x) f g h = f (view x) h
 decides_as P Q view (Err e) f g h = unless_map e (HoldsOfNone P) (HoldsOfNone Q) (λ n. record { none = λ v q. n.none v (g v q) }) h
 
@@ -73,13 +78,15 @@ meant_plain key s view r h reads =
     (λ v has. record { plain = λ e. plain_text s h; escapes = own.0; has = subst (λ (x : List ℕ). HasOctets key x v) (sym own.1) has })
     (λ v has. subst (λ (x : List ℕ). HasOctets key x v) own.1 has.has) reads
 
--- a refusal of the key's form tells that there is no value of it
-says_why : (key : ParameterKey) (P : Type 0) (e : ParseError) → (e ≡ parse.Memory) ⊎ Says (wrong_value key) e → UnlessParseMemory e P → (e ≡ parse.Memory) ⊎ (Says (wrong_value key) e × P)
+-- an error about the key's format says that there is no value of it
+says_why : (key : ParameterKey) (P : Type 0) (e : ParseError) → (e ≡ parse.Memory) ⊎ Says (wrong_value key) e → UnlessParseMemory e P
+    → (e ≡ parse.Memory) ⊎ (Says (wrong_value key) e × P)
 says_why key P e (inl memory) none = inl memory
 says_why key P (parse.Message said) (inr says) none = inr (says, none)
 says_why key P e (inr says) none = absurd says
 
-pub meant_fault : {T : Type 0} (key : ParameterKey) (text s : List ℕ) (view : T → List ℕ) (r : Result T ParseError) → IsPlain key text → escapes_stand text ≡ true
+pub meant_fault : {T : Type 0} (key : ParameterKey) (text s : List ℕ) (view : T → List ℕ) (r : Result T ParseError) → IsPlain key text
+    → escapes_stand text ≡ true
     → s ≡ map octet_of (letters text) → Decides (HasOctets key s) view r → IfErr r (λ e. (e ≡ parse.Memory) ⊎ Says (wrong_value key) e)
     → IfErr r (λ e. (e ≡ parse.Memory) ⊎ ValueFault key text e)
 meant_fault key text s view (Ok x) plain escapes same reads why = tt

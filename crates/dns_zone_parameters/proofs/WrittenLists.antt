@@ -3,12 +3,12 @@ use Rattle.std.proofs.Common.{◌≡◌, ◌≢◌, ℕ, Bool, true, false, eqb,
 use Rattle.std.specs.Prelude.{◌||◌}
 use Rattle.std.specs.List.{AllByRecursion, AllZip, flat_map, join_with_byte}
 use Rattle.std.proofs.{lemmas.Bool.cases_Bool, lemmas.Bool.Decides.nat_tests, lemmas.List.append-nil}
-use Rattle.dns_fields.specs.Pieces.{string}
+use Rattle.dns_fields.specs.Tlvs.{string}
 use Rattle.dns_zone_parameters.specs.Laws.{escaped, IsProtocolName, NamesRead, IsPlainItem, PlainItemsRead}
 use Rattle.dns_zone_parameters.specs.Lists.{items_from, items_in, unescaped_from, escapes_end_from, IsProtocol, IsItem}
 use Rattle.dns_zone_parameters.specs.declared.lists.ListItem.TheVariants.{Protocol}
 
--- the octets belong to one item, wherever they stand
+-- the octets belong to one item, whatever precedes them
 record IsWhole (item : List ℕ) : Type 0 where
   goes_on : (front rest : List ℕ) → items_from false front (item ++ rest) ≡ items_from false (front ++ item) rest
 
@@ -54,7 +54,8 @@ joined_from : (item : List ℕ) (items : List (List ℕ)) (front : List ℕ) →
     → items_from false front (join_with_byte 44 (item ∷ items)) ≡ (front ++ item) ∷ items
 joined_from item [] front h =
     ap (items_from false front) (sym (append-nil item)) ∙ h.0.goes_on front []
-joined_from item (next ∷ items) front h = h.0.goes_on front (44 ∷ join_with_byte 44 (next ∷ items)) ∙ ap (λ (x : List (List ℕ)). (front ++ item) ∷ x) (joined_from next items [] h.1)
+joined_from item (next ∷ items) front h =
+    h.0.goes_on front (44 ∷ join_with_byte 44 (next ∷ items)) ∙ ap (λ (x : List (List ℕ)). (front ++ item) ∷ x) (joined_from next items [] h.1)
 
 joined_read : (items : List (List ℕ)) → items ≢ [] → AllByRecursion IsWhole items → items_in (join_with_byte 44 items) ≡ items
 joined_read [] some h = absurd (some refl)

@@ -1,17 +1,17 @@
--- Why words are no parameters, and what the refusal says.
+-- Why tokens are no parameters, and what the error says.
 use Rattle.std.specs.Prelude.{◌≡◌, ◌⊎◌, ℕ, suc, ◌+◌, ◌<◌, ◌≤◌, ◌==◌, if◌then◌else◌, true, false, List, length, map, slice_index, Result, Ok, Err, codes}
 use Rattle.std.specs.Prelude.{IsPermutation}
-use Rattle.dns_fields.specs.Pieces.{Rising}
+use Rattle.dns_fields.specs.Tlvs.{Rising}
 use Rattle.dns_types.specs.declared.error.ParseError.{ParseError}
-use Rattle.dns_words.specs.Reads.{HoldsOfNone}
-use Rattle.dns_zone_words.specs.{Letters.letters, Letters.octet_of, Letters.escapes_stand, Refusals.Says, Refusals.cut_text, Remaining.with_words}
-use Rattle.dns_zone_words.specs.{Words.Word, Words.Cursor, Words.words_at, Words.with_word, declared.words_error.WordsError.WordsError}
+use Rattle.dns_tokens.specs.Reads.{HoldsOfNone}
+use Rattle.dns_zone_tokens.specs.{Letters.letters, Letters.octet_of, Letters.escapes_stand, Errors.Says, Errors.undivided_text, Remaining.with_tokens}
+use Rattle.dns_zone_tokens.specs.{Tokens.Token, Tokens.Cursor, Tokens.tokens_at, Tokens.with_token, declared.tokens_error.TokensError.TokensError}
 use Rattle.dns_zone_parameters.specs.{Keys.IsKeyName, Values.HasOctets, Values.IsPlain, declared.key.ParameterKey.ParameterKey}
 use Rattle.dns_zone_parameters.specs.Parameters.{Parameter, StandsAlone, IsWritten, AreWritten}
 use Rattle.dns_zone_parameters.specs.declared.key.ParameterKey.TheVariants.{Mandatory, Alpn, NoDefaultAlpn, Port, Ipv4Hint, Ech, Ipv6Hint, DohPath}
 use Rattle.dns_zone_parameters.specs.declared.key.ParameterKey.TheVariants.{Numbered}
 
--- what is said of a value that has not the form of the key
+-- the text of the error for a value that does not have the format of the key
 abbrev pub wrong_value : ParameterKey → List ℕ
 wrong_value Mandatory = codes "no list of different keys in mandatory"
 wrong_value Alpn = codes "no list of protocols in alpn"
@@ -33,57 +33,62 @@ pub record IsLong (key : ParameterKey) (text : List ℕ) : Type 0 where
   pub has : HasOctets key (meant text) octets
   pub long : 65535 < length octets
 
--- A text is no value of the key: a `\` stands where the key forbids escapes, a `\` has no meaning, what the letters are has
--- not the key's form, or it is too long.
+-- A text is no value of the key: it has a `\` and the key forbids escapes, a `\` has no meaning, the octets of the
+-- letters do not have the key's format, or the value is too long.
 abbrev pub ValueFault : ParameterKey → List ℕ → ParseError → Type 0
 ValueFault key text e =
     (Says (wrong_value key) e × (IsPlain key text → ⊥))
     ⊎ (Says (codes "`\\` without a meaning in a service parameter") e × IsPlain key text × (escapes_stand text ≡ false))
-    ⊎ (Says (wrong_value key) e × IsPlain key text × (escapes_stand text ≡ true) × HoldsOfNone (HasOctets key (meant text)))
-    ⊎ (Says (codes "service parameter of more than 65535 octets") e × IsPlain key text × (escapes_stand text ≡ true) × IsLong key text)
+    ⊎ (Says (wrong_value key) e × IsPlain key text × (escapes_stand text ≡ true)
+    × HoldsOfNone (HasOctets key (meant text)))
+    ⊎ (Says (codes "service parameter of more than 65535 octets") e × IsPlain key text × (escapes_stand text ≡ true)
+    × IsLong key text)
 
--- A name and a value are no parameter: the name is of no key, or the value is none of it.
+-- A name and a value are no parameter: the name is of no key, or the value is not one of the key.
 abbrev pub ParameterFault : List ℕ → List ℕ → ParseError → Type 0
 ParameterFault name value e =
     (Says (codes "no key of a service parameter") e × HoldsOfNone (λ key. IsKeyName key name))
     ⊎ ((key : ParameterKey) × IsKeyName key name × ValueFault key value e)
 
--- words, or why a text has none
-abbrev pub Words : Type 0
-Words = Result (List Word) WordsError
+-- tokens, or why a text cannot be divided into tokens
+abbrev pub TokenList : Type 0
+TokenList = Result (List Token) TokensError
 
--- the next word stands in quotes, or right behind another
-pub record WordFault (words : Words) (e : ParseError) : Type 0 where
-  pub word : Word
-  pub behind : Words
-  pub cut : words ≡ with_word word behind
-  pub other : StandsAlone word → ⊥
-  pub says : Says (codes "service parameter in quotes or right behind another word") e
+-- the next token is in quotes, or directly follows another
+pub record TokenFault (tokens : TokenList) (e : ParseError) : Type 0 where
+  pub token : Token
+  pub behind : TokenList
+  pub divided : tokens ≡ with_token token behind
+  pub other : StandsAlone token → ⊥
+  pub says : Says (codes "service parameter in quotes or directly after another token") e
 
--- the next words are written as a parameter and are none
-pub record WrittenFault (words : Words) (e : ParseError) : Type 0 where
-  pub front : List Word
-  pub behind : Words
-  pub cut : words ≡ with_words front behind
+-- the next tokens are written as a parameter and are none
+pub record WrittenFault (tokens : TokenList) (e : ParseError) : Type 0 where
+  pub front : List Token
+  pub behind : TokenList
+  pub divided : tokens ≡ with_tokens front behind
   pub name : List ℕ
   pub value : List ℕ
   pub written : IsWritten name value front
   pub has : ParameterFault name value e
 
--- No parameter stands next: the text is not cut into words, or a word stands in a wrong place, or is no parameter.
-abbrev pub NextFault : Words → ParseError → Type 0
-NextFault words e = ((why : WordsError) × (words ≡ Err why) × Says (cut_text why) e) ⊎ WordFault words e ⊎ WrittenFault words e
+-- No parameter comes next: the text cannot be divided into tokens, or the next token is in quotes or directly follows
+-- another, or is no parameter.
+abbrev pub NextFault : TokenList → ParseError → Type 0
+NextFault tokens e =
+    ((why : TokensError) × (tokens ≡ Err why) × Says (undivided_text why) e) ⊎ TokenFault tokens e
+    ⊎ WrittenFault tokens e
 
--- behind parameters, none or more, stands none
+-- after parameters, none or more, follows none
 pub record FaultBehind (cursor : Cursor) (e : ParseError) : Type 0 where
   pub parameters : List Parameter
-  pub front : List Word
-  pub behind : Words
-  pub cut : words_at cursor ≡ with_words front behind
+  pub front : List Token
+  pub behind : TokenList
+  pub divided : tokens_at cursor ≡ with_tokens front behind
   pub written : AreWritten parameters front
   pub has : NextFault behind e
 
--- what is said of a key that comes twice, by its number
+-- the text of the error for a key that comes twice, by its number
 abbrev pub twice_text : ℕ → List ℕ
 twice_text key =
     if key == 0 then codes "service parameter mandatory twice" else
@@ -96,7 +101,7 @@ twice_text key =
     if key == 7 then codes "service parameter dohpath twice" else
     codes "key of a service parameter twice"
 
--- no key is above the next
+-- no key is greater than the next
 abbrev pub InOrder : List ℕ → Type 0
 InOrder keys = (k : ℕ) → suc k < length keys → slice_index keys k ≤ slice_index keys (suc k)
 
@@ -108,12 +113,12 @@ pub record IsFirstTwice (key : ℕ) (keys : List ℕ) : Type 0 where
   pub again : slice_index keys (index + 1) ≡ key
   pub before : (k : ℕ) → k < index → slice_index keys k < slice_index keys (k + 1)
 
--- the words are parameters, and a key comes twice, so that they have no rising order; the error names the first such key
+-- the tokens are parameters, and a key comes twice, so that no order of them rises; the error names the first such key
 pub record KeyTwice (cursor : Cursor) (e : ParseError) : Type 0 where
   pub parameters : List Parameter
-  pub words : List Word
-  pub cut : words_at cursor ≡ Ok words
-  pub written : AreWritten parameters words
+  pub tokens : List Token
+  pub divided : tokens_at cursor ≡ Ok tokens
+  pub written : AreWritten parameters tokens
   pub none : (order : List Parameter) → IsPermutation parameters order → Rising order → ⊥
   pub order : List Parameter
   pub same : IsPermutation parameters order

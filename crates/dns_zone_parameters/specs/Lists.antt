@@ -1,29 +1,30 @@
 -- Values that are lists (RFC 9460, 7.1.1, 7.3, 8 and appendix A.1).
 use Rattle.std.specs.Prelude.{◌≡◌, ◌≢◌, ℕ, ◌≤◌, ◌==◌, if◌then◌else◌, Bool, true, false, List, [], ◌∷◌, ◌++◌, length, IsPermutation}
 use Rattle.std.specs.{Int.bytes_high_first, List.AllZip, List.flat_map, List.Sorted.IsStrictlyIncreasing}
-use Rattle.dns_fields.specs.Pieces.{string}
-use Rattle.dns_words.specs.Forms.{ipv4, ipv6}
+use Rattle.dns_fields.specs.Tlvs.{string}
+use Rattle.dns_tokens.specs.Forms.{ipv4, ipv6}
 use Rattle.dns_zone_parameters.specs.{Keys.key_number, Keys.IsKeyName, declared.key.ParameterKey.ParameterKey, declared.lists.ListItem.ListItem}
 use Rattle.dns_zone_parameters.specs.declared.lists.ListItem.TheVariants.{Protocol, Ipv4, Ipv6}
 
--- The items of a text, behind the front of the first of them. A comma ends an item, unless a `\` stands before it that no
--- other `\` takes its meaning from.
+-- The items of a text, after the front of the first of them. A comma ends an item, unless a `\` is before it that is
+-- not escaped itself.
 abbrev pub items_from : Bool → List ℕ → List ℕ → List (List ℕ)
 items_from escaped front [] = front ∷ []
 items_from true front (c ∷ text) = items_from false (front ++ c ∷ []) text
-items_from false front (c ∷ text) = if c == 44 then front ∷ items_from false [] text else items_from (c == 92) (front ++ c ∷ []) text
+items_from false front (c ∷ text) =
+    if c == 44 then front ∷ items_from false [] text else items_from (c == 92) (front ++ c ∷ []) text
 
--- the items of a list, as they stand between its commas
+-- the items of a list, as they are between its commas
 abbrev pub items_in : List ℕ → List (List ℕ)
 items_in text = items_from false [] text
 
--- what an item means: each `\` gives the octet behind it
+-- what an item means: each `\` gives the octet after it
 abbrev pub unescaped_from : Bool → List ℕ → List ℕ
 unescaped_from escaped [] = []
 unescaped_from true (c ∷ item) = c ∷ unescaped_from false item
 unescaped_from false (c ∷ item) = if c == 92 then unescaped_from true item else c ∷ unescaped_from false item
 
--- an octet stands behind each `\`
+-- an octet follows each `\`
 abbrev pub escapes_end_from : Bool → List ℕ → Bool
 escapes_end_from true [] = false
 escapes_end_from false [] = true

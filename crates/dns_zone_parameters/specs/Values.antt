@@ -2,7 +2,7 @@
 use Rattle.std.specs.Prelude.{◌≡◌, ◌≢◌, ℕ, ◌<◌, ◌^◌, ◌==◌, Bool, true, false, List, [], length, map, Ok}
 use Rattle.std.specs.{Int.bytes_high_first, List.AllByRecursion, Str.Parse.IsNumeral, Str.Parse.digits_value}
 use Rattle.base64.specs.{Engines.standard, GeneralPurpose.decode_of}
-use Rattle.dns_zone_words.specs.Letters.{letters, octet_of, escapes_stand}
+use Rattle.dns_zone_tokens.specs.Letters.{letters, octet_of, escapes_stand}
 use Rattle.dns_zone_parameters.specs.{Lists.IsList, Lists.IsKeyList, declared.key.ParameterKey.ParameterKey}
 use Rattle.dns_zone_parameters.specs.declared.key.ParameterKey.TheVariants.{Mandatory, Alpn, NoDefaultAlpn, Port, Ipv4Hint, Ech, Ipv6Hint, DohPath}
 use Rattle.dns_zone_parameters.specs.declared.key.ParameterKey.TheVariants.{Numbered}
@@ -14,8 +14,8 @@ pub record IsPort (text octets : List ℕ) : Type 0 where
   pub fits : digits_value 10 text < 2 ^ 16
   pub value : octets ≡ bytes_high_first 2 (digits_value 10 text)
 
--- The octets on the wire that a value of the key has, by the octets of its text. A key that is written by its number takes
--- the text's octets, whatever the number.
+-- The octets on the wire that a value of the key has, by the octets of its text. If the key is written as a number,
+-- they are the octets of the text, whatever the number.
 abbrev pub HasOctets : ParameterKey → List ℕ → List ℕ → Type 0
 HasOctets Mandatory text octets = IsKeyList text octets
 HasOctets Alpn text octets = IsList Protocol text octets
@@ -36,11 +36,11 @@ forbids_escapes Ech = true
 forbids_escapes Ipv6Hint = true
 forbids_escapes key = false
 
--- where the key forbids escapes, no `\` stands in the text of the value
+-- if the key forbids escapes, the text of the value has no `\`
 abbrev pub IsPlain : ParameterKey → List ℕ → Type 0
 IsPlain key text = forbids_escapes key ≡ true → AllByRecursion (λ c. (c == 92) ≡ false) text
 
--- the text of a value, as it stands, has these octets on the wire
+-- the text of a value, as it is written, has these octets on the wire
 pub record IsValue (key : ParameterKey) (text octets : List ℕ) : Type 0 where
   pub plain : IsPlain key text
   pub escapes : escapes_stand text ≡ true

@@ -1,9 +1,9 @@
-//! Keys of service parameters, as a zone file names them (RFC 9460, 2.1 and 14.3.2; RFC 9461, 5).
+//! Keys of service parameters in zone files (RFC 9460, sections 2.1 and 14.3.2; RFC 9461, section 5).
 
 ghost use Rattle.std.specs.Prelude.{◌≡◌, ◌<◌, ℕ, IfSome, IfNone};
 ghost use Rattle.dns_zone_parameters.specs.{Keys.key_number, Keys.named_key, Keys.IsKeyName, Steps.NumberSpelled};
 
-use dns_zone_words::{ZoneWord, u16_of};
+use dns_zone_tokens::{ZoneToken, u16_of};
 use std::str;
 
 /// A key of a service parameter, as a zone file names it.
@@ -63,7 +63,7 @@ impl ParameterKey {
     }
 }
 
-// The key that has this name of its own.
+// The key with this name, if it is not `key` and a number.
 fn named(name: &[u8]) -> Option<ParameterKey>
     ensures { result ≡ named_key name.now }
 {
@@ -83,7 +83,7 @@ fn named(name: &[u8]) -> Option<ParameterKey>
     }
 }
 
-// The number behind `key`.
+// The number after `key`.
 fn numbered(name: &[u8]) -> Option<u16>
     ensures some { IfSome result (λ n. NumberSpelled n name.now) }
     ensures none { IfNone result ((n : ℕ) → NumberSpelled n name.now → ⊥) }
@@ -95,12 +95,12 @@ fn numbered(name: &[u8]) -> Option<u16>
     if digits.len() > 1 && digits[0] == b'0' {
         return None;
     }
-    let word = ZoneWord {
+    let token = ZoneToken {
         raw: digits,
         quoted: false,
         joined: false,
     };
-    match u16_of(word, "") {
+    match u16_of(token, "") {
         Ok(number) if number < 65535 => Some(number),
         _ => None,
     }

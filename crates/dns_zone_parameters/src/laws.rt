@@ -1,15 +1,16 @@
-//! Laws that clients may cite: calls without a body, which promise what holds of all words.
+//! Laws that clients may cite: functions without a body, whose contracts say what is true of all tokens.
 
-ghost use Rattle.dns_zone_parameters.specs.Laws.{OneReading, WordsRead, NamesRead, PlainItemsRead};
+ghost use Rattle.dns_zone_parameters.specs.Laws.{OneReading, TokensRead, NamesRead, PlainItemsRead};
 
-/// Words that are service parameters, and lists.
+/// Tokens that are service parameters, and lists.
 pub fn parameters_hold()
-    // Words have one list of octets at most.
+    // Tokens have at most one list of octets.
     ensures one { OneReading }
     // A parameter is read from its name, `=` and its value, in quotes or without.
-    ensures words { WordsRead }
-    // Names of protocols, written with a `\` before each comma and each `\`, and a comma between two, are read as these names.
+    ensures tokens { TokensRead }
+    // Protocol names with a `\` before each comma and each `\`, and with a comma between two names, are read as these
+    // names.
     ensures names { NamesRead }
-    // So are items without a comma and a `\`, as addresses are.
+    // So are items without a comma and without a `\`, such as addresses.
     ensures items { PlainItemsRead }
 {}

@@ -1,4 +1,4 @@
-//! The parameters of a service (SVCB, HTTPS) in a text of a zone file, as octets of the wire.
+//! Service parameters (SVCB, HTTPS) in a text of a zone file, as octets on the wire.
 #![tactic(auto)]
 
 pub mod key;
@@ -9,8 +9,8 @@ mod values;
 mod written;
 
 ghost use Rattle.std.specs.Prelude.{◌≡◌, ◌⊎◌, ◌++◌, map, IfOk, IfErr, OnOk};
-ghost use Rattle.dns_fields.specs.Pieces.{pieces};
-ghost use Rattle.dns_zone_words.specs.Remaining.{PutsAll};
+ghost use Rattle.dns_fields.specs.Tlvs.{tlvs};
+ghost use Rattle.dns_zone_tokens.specs.Remaining.{PutsAll};
 ghost use Rattle.dns_zone_parameters.specs.{Parameters.AreParameters, Steps.ReadsParameters, Views.parameter_value};
 ghost use Rattle.dns_zone_parameters.specs.Faults.{FaultBehind, ParametersFault, twice_text};
 
@@ -18,7 +18,7 @@ use crate::lists::first_fall;
 use crate::parameter::Parameter;
 use crate::written::next_parameter;
 use dns_types::ParseError;
-use dns_zone_words::ZoneWords;
+use dns_zone_tokens::ZoneTokens;
 pub use key::ParameterKey;
 use std::alloc::{AllocError, Global};
 
@@ -52,13 +52,13 @@ use std::alloc::{AllocError, Global};
 /// - [`Memory`](ParseError::Memory): an allocation failed.
 pub fn put_parameters(
     alloc: Global,
-    words: &mut ZoneWords<'_>,
+    tokens: &mut ZoneTokens<'_>,
     octets: &mut Vec<u8>,
 ) -> Result<(), ParseError>
-    ensures puts { PutsAll AreParameters result octets.old.items octets.new.items words.old }
-    ensures why { IfErr result (λ e. (e ≡ ParseError.Memory) ⊎ ParametersFault words.old e) }
+    ensures puts { PutsAll AreParameters result octets.old.items octets.new.items tokens.old }
+    ensures why { IfErr result (λ e. (e ≡ ParseError.Memory) ⊎ ParametersFault tokens.old e) }
 {
-    let mut parameters = parameters_in(alloc, words)?;
+    let mut parameters = parameters_in(alloc, tokens)?;
     parameters.sort_unstable_by_key(|parameter| parameter.number);
     let numbers = numbers_of(alloc, parameters.as_slice())?;
     if let Some(number) = first_fall(numbers.as_slice()) {
@@ -68,7 +68,7 @@ pub fn put_parameters(
     Ok(())
 }
 
-// What is said of a key that comes twice, by its number.
+// The text of the error for a key that comes twice, by its number.
 fn twice_text(key: u16) -> &'static str
     ensures { result.now ≡ twice_text key }
 {
@@ -85,14 +85,14 @@ fn twice_text(key: u16) -> &'static str
     }
 }
 
-// The parameters in the order of the words.
-fn parameters_in(alloc: Global, words: &mut ZoneWords<'_>) -> Result<Vec<Parameter>, ParseError>
-    ensures reads { ReadsParameters (λ v. v.items) result words.old }
-    ensures why { IfErr result (λ e. (e ≡ ParseError.Memory) ⊎ FaultBehind words.old e) }
+// The parameters in the order of the tokens.
+fn parameters_in(alloc: Global, tokens: &mut ZoneTokens<'_>) -> Result<Vec<Parameter>, ParseError>
+    ensures reads { ReadsParameters (λ v. v.items) result tokens.old }
+    ensures why { IfErr result (λ e. (e ≡ ParseError.Memory) ⊎ FaultBehind tokens.old e) }
 {
     let mut parameters = Vec::new(alloc);
-    'words: loop {
-        match next_parameter(alloc, words)? {
+    'tokens: loop {
+        match next_parameter(alloc, tokens)? {
             Some(parameter) => parameters.push(parameter)?,
             None => return Ok(parameters),
         }
@@ -109,9 +109,9 @@ fn numbers_of(alloc: Global, parameters: &[Parameter]) -> Result<Vec<u16>, Alloc
         .collect(alloc)
 }
 
-// Puts key, length and value of each behind octets.
+// Appends key, length and value of each.
 fn put_wire(octets: &mut Vec<u8>, parameters: &[Parameter]) -> Result<(), AllocError>
-    ensures { OnOk result (octets.new.items ≡ octets.old.items ++ pieces (map parameter_value parameters.now)) }
+    ensures { OnOk result (octets.new.items ≡ octets.old.items ++ tlvs (map parameter_value parameters.now)) }
 {
     for parameter in parameters {
         octets.extend_from_slice(&parameter.number.to_be_bytes())?;

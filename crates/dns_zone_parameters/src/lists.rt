@@ -1,14 +1,14 @@
-//! Values that are lists (RFC 9460, 7.1.1, 7.3, 8 and appendix A.1).
+//! Values that are lists (RFC 9460, sections 7.1.1, 7.3 and 8, and appendix A.1).
 
 ghost use Rattle.std.specs.Prelude.{◌≡◌, ◌≤◌, ◌<◌, ◌++◌, ◌⊎◌, ◌↔◌, true, false, IsTrue, IfSome, IfNone, IfErr, OnOk, length};
 ghost use Rattle.std.specs.{List.AllZip, Option.option_copied, List.Sorted.IsStrictlyIncreasing};
-ghost use Rattle.dns_words.specs.Reads.{Decides};
+ghost use Rattle.dns_tokens.specs.Reads.{Decides};
 ghost use Rattle.dns_zone_parameters.specs.Lists.{items_in, IsList, IsKeyList, IsListedKey, unescaped_from, escapes_end_from};
-ghost use Rattle.dns_zone_parameters.specs.Steps.{IsFirstFall, ItemCut, ItemTaken, PushesItem};
+ghost use Rattle.dns_zone_parameters.specs.Steps.{IsFirstFall, DividesItem, ItemTaken, PushesItem};
 
 use crate::key::ParameterKey;
 use dns_types::{Octets, ParseError};
-use dns_zone_words::{ZoneWord, ipv4_of, ipv6_of};
+use dns_zone_tokens::{ZoneToken, ipv4_of, ipv6_of};
 use std::alloc::{AllocError, Global};
 
 /// What the items of a list are.
@@ -96,7 +96,7 @@ fn listed_key(item: &[u8], wrong: &'static str) -> Result<u16, ParseError>
     Ok(number)
 }
 
-// Whether each number is below the next.
+// Whether each number is less than the next.
 fn is_rising(numbers: &[u16]) -> bool
     ensures { IsTrue result ↔ IsStrictlyIncreasing numbers.now }
 {
@@ -117,9 +117,9 @@ pub(crate) fn first_fall(numbers: &[u16]) -> Option<u16>
     None
 }
 
-// The first item of a list, and what stands behind its comma, if one ends it.
+// The first item of a list, and the rest after its comma, if a comma ends it.
 fn first_item(text: &[u8]) -> (&[u8], Option<&[u8]>)
-    ensures cut { ItemCut text.now result.0.now (option_copied result.1) }
+    ensures divided { DividesItem text.now result.0.now (option_copied result.1) }
     ensures shorter { IfSome result.1 (λ rest. length rest.now < length text.now) }
 {
     let len = item_len(text);
@@ -157,7 +157,7 @@ fn push_item(
     ensures reads { PushesItem item text.now result octets.old.items octets.new.items }
     ensures why { IfErr result (λ e. (e ≡ ParseError.Memory) ⊎ (e ≡ ParseError.Message wrong.entry)) }
 {
-    let word = ZoneWord {
+    let token = ZoneToken {
         raw: text,
         quoted: false,
         joined: false,
@@ -165,24 +165,24 @@ fn push_item(
     match item {
         ListItem::Protocol => push_protocol(octets, text, wrong),
         ListItem::Ipv4 => {
-            let address = ipv4_of(word, wrong)?;
+            let address = ipv4_of(token, wrong)?;
             octets.extend_from_slice(&address.octets())?;
             Ok(())
         }
         ListItem::Ipv6 => {
-            let address = ipv6_of(word, wrong)?;
+            let address = ipv6_of(token, wrong)?;
             octets.extend_from_slice(&address.octets())?;
             Ok(())
         }
     }
 }
 
-// Appends the name of a protocol behind its length.
+// Appends the name of a protocol, after its length.
 fn push_protocol(octets: &mut Vec<u8>, text: &[u8], wrong: &'static str) -> Result<(), ParseError>
     ensures reads { PushesItem ListItem.Protocol text.now result octets.old.items octets.new.items }
     ensures why { IfErr result (λ e. (e ≡ ParseError.Memory) ⊎ (e ≡ ParseError.Message wrong.entry)) }
 {
-    let len = match name_len(text) {
+    let len = match protocol_len(text) {
         Some(len) if len > 0 && len < 256 => len as u8,
         _ => return Err(ParseError::Message(wrong)),
     };
@@ -191,8 +191,8 @@ fn push_protocol(octets: &mut Vec<u8>, text: &[u8], wrong: &'static str) -> Resu
     Ok(())
 }
 
-// How many octets the name has that an item means, or `None` where no octet stands behind a `\`.
-fn name_len(item: &[u8]) -> Option<usize>
+// How many octets the name has that an item means. `None` if no octet follows a `\`.
+fn protocol_len(item: &[u8]) -> Option<usize>
     ensures some { IfSome result (λ len. (escapes_end_from false item.now ≡ true) × (len ≡ length (unescaped_from false item.now))) }
     ensures none { IfNone result (escapes_end_from false item.now ≡ false) }
 {
@@ -211,7 +211,7 @@ fn name_len(item: &[u8]) -> Option<usize>
     Some(len)
 }
 
-// Appends what an item means: of a `\` the octet behind it.
+// Appends the octets that an item means: for a `\` the octet after it.
 fn push_name(octets: &mut Vec<u8>, item: &[u8]) -> Result<(), AllocError>
     requires { escapes_end_from false item.now ≡ true }
     ensures { OnOk result (octets.new.items ≡ octets.old.items ++ unescaped_from false item.now) }

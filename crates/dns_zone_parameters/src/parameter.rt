@@ -1,4 +1,4 @@
-//! Service parameters (RFC 9460, 2.2).
+//! Service parameters (RFC 9460, section 2.2).
 
 ghost use Rattle.std.specs.Prelude.{◌<◌, ◌^◌, length};
 

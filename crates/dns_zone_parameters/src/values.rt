@@ -1,8 +1,8 @@
-//! Values of service parameters (RFC 9460, 2.1, 7 and 8; RFC 9461, 5).
+//! Values of service parameters (RFC 9460, sections 2.1, 7 and 8; RFC 9461, section 5).
 
 ghost use Rattle.std.specs.Prelude.{◌≡◌, ◌≢◌, ◌⊎◌, ◌↔◌, IsTrue, IfErr, EachIndex, slice_index};
-ghost use Rattle.dns_words.specs.Reads.{Decides};
-ghost use Rattle.dns_zone_words.specs.Refusals.{Says};
+ghost use Rattle.dns_tokens.specs.Reads.{Decides};
+ghost use Rattle.dns_zone_tokens.specs.Errors.{Says};
 ghost use Rattle.dns_zone_parameters.specs.{Faults.wrong_value, Faults.ValueFault, Steps.HasMeant};
 ghost use Rattle.dns_zone_parameters.specs.Values.{forbids_escapes, HasOctets, IsPort, IsValue};
 
@@ -11,7 +11,7 @@ use crate::lists::{ListItem, key_list_of, list_of};
 use base64::DecodeAllocError;
 use base64::engine::general_purpose::STANDARD;
 use dns_types::{Octets, ParseError};
-use dns_zone_words::{ZoneWord, put_text, u16_of};
+use dns_zone_tokens::{ZoneToken, put_text, u16_of};
 use std::alloc::Global;
 
 const NO_ESCAPE: &str = "`\\` without a meaning in a service parameter";
@@ -31,7 +31,7 @@ pub fn value_of(alloc: Global, key: ParameterKey, text: &[u8]) -> Result<Octets,
     Ok(octets)
 }
 
-// The octets that a value in words stands for, however many.
+// The octets that a value in tokens stands for, of any number.
 fn meant_octets(alloc: Global, key: ParameterKey, text: &[u8]) -> Result<Octets, ParseError>
     ensures reads { Decides (HasMeant key text.now) (λ x. x) result }
     ensures why { IfErr result (λ e. (e ≡ ParseError.Memory) ⊎ ValueFault key text.now e) }
@@ -42,17 +42,17 @@ fn meant_octets(alloc: Global, key: ParameterKey, text: &[u8]) -> Result<Octets,
     if takes_no_escapes(key) {
         return Err(ParseError::Message(wrong_value(key)));
     }
-    let word = ZoneWord {
+    let token = ZoneToken {
         raw: text,
         quoted: true,
         joined: true,
     };
     let mut meant = Vec::with_capacity(alloc, text.len())?;
-    put_text(&mut meant, word, NO_ESCAPE)?;
+    put_text(&mut meant, token, NO_ESCAPE)?;
     octets_of(alloc, key, meant.as_slice())
 }
 
-// Whether no escape may stand in a value of the key.
+// Whether a value of the key may have no escape.
 fn takes_no_escapes(key: ParameterKey) -> bool
     ensures { result ≡ forbids_escapes key }
 {
@@ -63,14 +63,14 @@ fn takes_no_escapes(key: ParameterKey) -> bool
     }
 }
 
-// Whether no `\` stands in the text.
+// Whether the text has no `\`.
 fn has_no_escape(text: &[u8]) -> bool
     ensures { IsTrue result ↔ EachIndex text.now (λ k. slice_index text.now k ≢ 92) }
 {
     text.iter().all(|octet| *octet != b'\\')
 }
 
-// The octets on the wire by the octets of the text.
+// The octets on the wire, of the octets of the text.
 fn octets_of(alloc: Global, key: ParameterKey, text: &[u8]) -> Result<Octets, ParseError>
     ensures reads { Decides (HasOctets key text.now) (λ x. x) result }
     ensures why { IfErr result (λ e. (e ≡ ParseError.Memory) ⊎ Says (wrong_value key) e) }
@@ -89,7 +89,7 @@ fn octets_of(alloc: Global, key: ParameterKey, text: &[u8]) -> Result<Octets, Pa
     }
 }
 
-// What is said of a value that is none of the key.
+// The text of the error for a value that does not have the format of the key.
 fn wrong_value(key: ParameterKey) -> &'static str
     ensures { result.now ≡ wrong_value key }
 {
@@ -106,7 +106,7 @@ fn wrong_value(key: ParameterKey) -> &'static str
     }
 }
 
-// No octets, as no-default-alpn has them.
+// No octets, the value of no-default-alpn.
 fn nothing_of(alloc: Global, text: &[u8], wrong: &'static str) -> Result<Octets, ParseError>
     ensures reads { Decides (HasOctets ParameterKey.NoDefaultAlpn text.now) (λ x. x) result }
     ensures why { IfErr result (λ e. e ≡ ParseError.Message wrong.entry) }
@@ -133,12 +133,12 @@ fn port_of(alloc: Global, text: &[u8], wrong: &'static str) -> Result<Octets, Pa
     ensures reads { Decides (IsPort text.now) (λ x. x) result }
     ensures why { IfErr result (λ e. (e ≡ ParseError.Memory) ⊎ (e ≡ ParseError.Message wrong.entry)) }
 {
-    let word = ZoneWord {
+    let token = ZoneToken {
         raw: text,
         quoted: false,
         joined: false,
     };
-    let port = u16_of(word, wrong)?;
+    let port = u16_of(token, wrong)?;
     Ok(Octets::from_slice(alloc, &port.to_be_bytes())?)
 }
 

@@ -1,21 +1,21 @@
-//! Words that are service parameters (RFC 9460, 2.1).
+//! Tokens that are service parameters (RFC 9460, section 2.1).
 
 ghost use Rattle.std.specs.Prelude.{◌≡◌, ◌≤◌, ◌<◌, ◌⊎◌, [], length, Ok, IfOk, IfErr, IfSome, IfNone, OnErr};
 ghost use Rattle.std.specs.List.{position};
-ghost use Rattle.dns_words.specs.Reads.{Decides};
-ghost use Rattle.dns_zone_words.specs.{ZoneReads.IsCutRefused, Remaining.NoneOfAll, Words.words_at};
+ghost use Rattle.dns_tokens.specs.Reads.{Decides};
+ghost use Rattle.dns_zone_tokens.specs.{ZoneReads.IsUndividedError, Remaining.NoneOfAll, Tokens.tokens_at};
 ghost use Rattle.dns_zone_parameters.specs.{Faults.ParameterFault, Faults.NextFault, Views.parameter_value};
 ghost use Rattle.dns_zone_parameters.specs.Parameters.{is_equals, HasParameter, AreWritten};
-ghost use Rattle.dns_zone_parameters.specs.Steps.{NoQuoted, TookQuoted, TookWritten, IsUncut, ReadsNext};
+ghost use Rattle.dns_zone_parameters.specs.Steps.{NoQuoted, TookQuoted, TookWritten, IsUndivided, ReadsNext};
 
 use crate::key::ParameterKey;
 use crate::parameter::Parameter;
 use crate::values::value_of;
 use dns_types::ParseError;
-use dns_zone_words::{ZoneWord, ZoneWords};
+use dns_zone_tokens::{ZoneToken, ZoneTokens};
 use std::alloc::Global;
 
-const OTHER_WORD: &str = "service parameter in quotes or right behind another word";
+const OTHER_WORD: &str = "service parameter in quotes or directly after another token";
 
 const NO_KEY: &str = "no key of a service parameter";
 
@@ -31,19 +31,19 @@ pub struct Written<'a> {
 /// Takes the next parameter; `None` if no token is left.
 pub fn next_parameter(
     alloc: Global,
-    words: &mut ZoneWords<'_>,
+    tokens: &mut ZoneTokens<'_>,
 ) -> Result<Option<Parameter>, ParseError>
-    ensures reads { ReadsNext result words.old words.new }
-    ensures why { IfErr result (λ e. (e ≡ ParseError.Memory) ⊎ NextFault (words_at words.old) e) }
-    ensures shorter { IfOk result (λ o. IfSome o (λ _. length words.new.text < length words.old.text)) }
+    ensures reads { ReadsNext result tokens.old tokens.new }
+    ensures why { IfErr result (λ e. (e ≡ ParseError.Memory) ⊎ NextFault (tokens_at tokens.old) e) }
+    ensures shorter { IfOk result (λ o. IfSome o (λ _. length tokens.new.text < length tokens.old.text)) }
 {
-    match next_written(words)? {
+    match next_written(tokens)? {
         Some(written) => Ok(Some(parameter_of(alloc, written)?)),
         None => Ok(None),
     }
 }
 
-// The parameter that is written so.
+// The parameter with this name and this text of its value.
 fn parameter_of(alloc: Global, written: Written<'_>) -> Result<Parameter, ParseError>
     ensures reads { Decides (HasParameter written.entry.name.now written.entry.value.now) parameter_value result }
     ensures why { IfErr result (λ e. (e ≡ ParseError.Memory) ⊎ ParameterFault written.entry.name.now written.entry.value.now e) }
@@ -58,21 +58,21 @@ fn parameter_of(alloc: Global, written: Written<'_>) -> Result<Parameter, ParseE
     })
 }
 
-// The next parameter as it is written.
-fn next_written<'a>(words: &mut ZoneWords<'a>) -> Result<Option<Written<'a>>, ParseError>
-    ensures took { IfOk result (λ o. IfSome o (λ w. TookWritten w.name.now w.value.now words.old words.new)) }
-    ensures shorter { IfOk result (λ o. IfSome o (λ _. length words.new.text < length words.old.text)) }
-    ensures end { IfOk result (λ o. IfNone o (words_at words.old ≡ Ok [])) }
-    ensures refused { OnErr result (NoneOfAll AreWritten words.old) }
-    ensures why { IfErr result (NextFault (words_at words.old)) }
+// The name of the next parameter and the text of its value.
+fn next_written<'a>(tokens: &mut ZoneTokens<'a>) -> Result<Option<Written<'a>>, ParseError>
+    ensures took { IfOk result (λ o. IfSome o (λ w. TookWritten w.name.now w.value.now tokens.old tokens.new)) }
+    ensures shorter { IfOk result (λ o. IfSome o (λ _. length tokens.new.text < length tokens.old.text)) }
+    ensures end { IfOk result (λ o. IfNone o (tokens_at tokens.old ≡ Ok [])) }
+    ensures refused { OnErr result (NoneOfAll AreWritten tokens.old) }
+    ensures why { IfErr result (NextFault (tokens_at tokens.old)) }
 {
-    let Some(word) = words.next_word()? else {
+    let Some(token) = tokens.next_token()? else {
         return Ok(None);
     };
-    if word.quoted || word.joined {
+    if token.quoted || token.joined {
         return Err(ParseError::Message(OTHER_WORD));
     }
-    let raw = word.raw;
+    let raw = token.raw;
     let Some(at) = equals_at(raw) else {
         return Ok(Some(Written {
             name: raw,
@@ -87,7 +87,7 @@ fn next_written<'a>(words: &mut ZoneWords<'a>) -> Result<Option<Written<'a>>, Pa
             value: behind,
         }));
     }
-    match quoted_value(words)? {
+    match quoted_value(tokens)? {
         Some(value) => Ok(Some(Written { name, value })),
         None => Ok(Some(Written {
             name,
@@ -96,21 +96,21 @@ fn next_written<'a>(words: &mut ZoneWords<'a>) -> Result<Option<Written<'a>>, Pa
     }
 }
 
-// The next word, where it stands in quotes right behind the word before; else nothing is taken.
-fn quoted_value<'a>(words: &mut ZoneWords<'a>) -> Result<Option<&'a [u8]>, ParseError>
-    ensures took { IfOk result (λ o. IfSome o (λ value. TookQuoted value.now words.old words.new)) }
-    ensures shorter { length words.new.text ≤ length words.old.text }
-    ensures none { IfOk result (λ o. IfNone o (NoQuoted words.old)) }
-    ensures stays { IfOk result (λ o. IfNone o (words.new ≡ words.old)) }
-    ensures refused { OnErr result (IsUncut words.old) }
-    ensures why { IfErr result (IsCutRefused words.old) }
+// The next token, if it is in quotes and directly follows the one before. Otherwise nothing is taken.
+fn quoted_value<'a>(tokens: &mut ZoneTokens<'a>) -> Result<Option<&'a [u8]>, ParseError>
+    ensures took { IfOk result (λ o. IfSome o (λ value. TookQuoted value.now tokens.old tokens.new)) }
+    ensures shorter { length tokens.new.text ≤ length tokens.old.text }
+    ensures none { IfOk result (λ o. IfNone o (NoQuoted tokens.old)) }
+    ensures stays { IfOk result (λ o. IfNone o (tokens.new ≡ tokens.old)) }
+    ensures refused { OnErr result (IsUndivided tokens.old) }
+    ensures why { IfErr result (IsUndividedError tokens.old) }
 {
-    let mut ahead = words.again();
-    match ahead.next_word()? {
-        Some(word) => {
-            if word.quoted && word.joined {
-                *words = ahead;
-                Ok(Some(word.raw))
+    let mut ahead = tokens.again();
+    match ahead.next_token()? {
+        Some(token) => {
+            if token.quoted && token.joined {
+                *tokens = ahead;
+                Ok(Some(token.raw))
             } else {
                 Ok(None)
             }
@@ -119,9 +119,9 @@ fn quoted_value<'a>(words: &mut ZoneWords<'a>) -> Result<Option<&'a [u8]>, Parse
     }
 }
 
-// Where the first `=` of a word stands.
-fn equals_at(word: &[u8]) -> Option<usize>
-    ensures { result ≡ position is_equals word.now }
+// The offset of the first `=` in a token.
+fn equals_at(token: &[u8]) -> Option<usize>
+    ensures { result ≡ position is_equals token.now }
 {
-    word.iter().position(|octet| *octet == b'=')
+    token.iter().position(|octet| *octet == b'=')
 }

@@ -4,5 +4,5 @@ pub mod Marking
 pub mod Once
 pub mod RowLoop
 pub mod TokenFaults
-pub mod TypeWords
-pub mod StringWords
+pub mod TypeTokens
+pub mod StringTokens

@@ -1,75 +1,77 @@
--- Words give at most one list of octets by a row.
+-- Tokens give at most one list of octets by a zone row.
 use Rattle.std.proofs.Common.{◌≡◌, ℕ, true, List, [], ◌∷◌, ◌++◌, drop, find, codes, Option, Some, None, Result, Ok, refl, sym, ap, ◌∙◌, subst, inl}
 use Rattle.std.proofs.Common.{inr}
 use Rattle.std.specs.{List.flat_map, Net.Addr.ipv4_octets, Net.Addr.ipv6_octets, Str.Parse.digits_value}
 use Rattle.std.proofs.NetLemmas.Theorems.{IsIpv4Text_unique, IsIpv6Text_unique}
-use Rattle.dns_fields.specs.{Bitmaps.block, Bitmaps.minimal, Fields.Kind, Fields.Value, Labels.DomainName, Pieces.string as string_octets}
+use Rattle.dns_fields.specs.{Bitmaps.block, Bitmaps.minimal, Fields.Kind, Fields.Value, Labels.DomainName, Tlvs.string as string_octets}
 use Rattle.dns_text.proofs.TtlSteps.{periods_one}
 use Rattle.dns_types.specs.{declared.record_type.RecordType.RecordType, declared.record_type.RecordType.TheVariants.Unknown}
 use Rattle.dns_types.specs.RecordTypes.{number_of, is_named, named_types, record_type_of, type_text, has_name, IsTypeName, IsNumberText, IsTypeText}
 use Rattle.dns_types.proofs.TypeTexts.{reads_name}
-use Rattle.dns_words.specs.Forms.{ttl, ipv4, ipv6}
-use Rattle.dns_zone_words.specs.{Forms.ZoneForm, Forms.bare, Forms.number, Forms.string, Forms.text, NameWords.name, TypeNames.IsZoneType, Words.Word}
+use Rattle.dns_tokens.specs.Forms.{ttl, ipv4, ipv6}
+use Rattle.dns_zone_tokens.specs.{Forms.ZoneForm, Forms.bare, Forms.number, Forms.string, Forms.text, NameTokens.name, TypeNames.IsZoneType, Tokens.Token}
 use Rattle.dns_zone_parameters.proofs.{Items.same_both, OneReading.one_reading}
-use Rattle.dns_zone_words.specs.Mnemonics.{Named, number_named}
+use Rattle.dns_zone_tokens.specs.Mnemonics.{Named, number_named}
 use Rattle.dns_zone_rows.specs.Mnemonics.{IsNamedNumber, named_number}
-use Rattle.dns_zone_rows.specs.Rows.{FieldKind, Number, NamedNumber, Ttl, Ipv4, Ipv6, Name, String, Tag, Octets, RestKind, NoWord, SomeStrings}
+use Rattle.dns_zone_rows.specs.Rows.{FieldKind, Number, NamedNumber, Ttl, Ipv4, Ipv6, Name, String, Tag, Octets, RestKind, NoToken, SomeStrings}
 use Rattle.dns_zone_rows.specs.Rows.{SomeHex, SomeBase64, AnyTypes, AnyParameters, RowShape, Gives, tag, FieldGives, IsTypeNumber, RestGives, FieldsGive}
 use Rattle.dns_zone_rows.specs.Rows.{RowGives}
 
--- ---- one word
+-- ---- one token
 
--- a word has at most one value of the form
+-- a token has at most one value of the form
 record Once {k : Kind} (form : ZoneForm k) : Type 0 where
-  one : (word : Word) (v w : Value k) → form.is v word → form.is w word → v ≡ w
+  one : (token : Token) (v w : Value k) → form.is v token → form.is w token → v ≡ w
 
-gives_once : {k : Kind} {form : ZoneForm k} {written : Value k → List ℕ} {a b : List ℕ} {word : Word} → Once form → Gives form written a word → Gives form written b word → a ≡ b
-gives_once {written = written} {word = word} once x y = x.same ∙ ap written (once.one word x.value y.value x.is y.is) ∙ sym y.same
+gives_once : {k : Kind} {form : ZoneForm k} {written : Value k → List ℕ} {a b : List ℕ} {token : Token} → Once form → Gives form written a token
+    → Gives form written b token → a ≡ b
+gives_once {written = written} {token = token} once x y = x.same ∙ ap written (once.one token x.value y.value x.is y.is) ∙ sym y.same
 
 number_once : (w : ℕ) → Once (number w)
-number_once w = record { one = λ word v n x y. x.0.value ∙ sym y.0.value }
+number_once w = record { one = λ token v n x y. x.0.value ∙ sym y.0.value }
 
-by_name_once : (w : ℕ) (named : Option ℕ) (word : Word) (v n : ℕ) → IsNamedNumber w named v word → IsNamedNumber w named n word → v ≡ n
-by_name_once w (Some value) word v n x y = x.1 ∙ sym y.1
-by_name_once w None word v n x y = (number_once w).one word v n x y
+by_name_once : (w : ℕ) (named : Option ℕ) (token : Token) (v n : ℕ) → IsNamedNumber w named v token → IsNamedNumber w named n token → v ≡ n
+by_name_once w (Some value) token v n x y = x.1 ∙ sym y.1
+by_name_once w None token v n x y = (number_once w).one token v n x y
 
 named_once : (w : ℕ) (table : List Named) → Once (named_number w table)
-named_once w table = record { one = λ word v n x y. by_name_once w (number_named table word.octets) word v n x y }
+named_once w table = record { one = λ token v n x y. by_name_once w (number_named table token.octets) token v n x y }
 
 ttl_once : (most : ℕ) → Once (bare (ttl most))
-ttl_once most = record { one = λ word v n x y. periods_one x.1.0.sum y.1.0.sum }
+ttl_once most = record { one = λ token v n x y. periods_one x.1.0.sum y.1.0.sum }
 
 ipv4_once : Once (bare ipv4)
-ipv4_once = record { one = λ word v w x y. x.1.2 ∙ ap ipv4_octets (IsIpv4Text_unique word.octets x.1.0 y.1.0 x.1.1 y.1.1) ∙ sym y.1.2 }
+ipv4_once = record { one = λ token v w x y. x.1.2 ∙ ap ipv4_octets (IsIpv4Text_unique token.octets x.1.0 y.1.0 x.1.1 y.1.1) ∙ sym y.1.2 }
 
 ipv6_once : Once (bare ipv6)
-ipv6_once = record { one = λ word v w x y. x.1.2 ∙ ap ipv6_octets (IsIpv6Text_unique word.octets x.1.0 y.1.0 x.1.1 y.1.1) ∙ sym y.1.2 }
+ipv6_once = record { one = λ token v w x y. x.1.2 ∙ ap ipv6_octets (IsIpv6Text_unique token.octets x.1.0 y.1.0 x.1.1 y.1.1) ∙ sym y.1.2 }
 
 same_name : (o : Option DomainName) (v w : DomainName) → o ≡ Some v → o ≡ Some w → v ≡ w
 same_name o v w e f = cc
 
 name_once : (origin : Option DomainName) → Once (name origin)
-name_once origin = record { one = λ word v w x y. same_name _ v w x.named y.named }
+name_once origin = record { one = λ token v w x y. same_name _ v w x.named y.named }
 
 string_once : Once string
-string_once = record { one = λ word v w x y. x.0.value ∙ sym y.0.value }
+string_once = record { one = λ token v w x y. x.0.value ∙ sym y.0.value }
 
 text_once : Once text
-text_once = record { one = λ word v w x y. x.value ∙ sym y.value }
+text_once = record { one = λ token v w x y. x.value ∙ sym y.value }
 
 tag_once : Once tag
-tag_once = record { one = λ word v w x y. x.value ∙ sym y.value }
+tag_once = record { one = λ token v w x y. x.value ∙ sym y.value }
 
-field_once : (origin : Option DomainName) (field : FieldKind) (a b : List ℕ) (word : Word) → FieldGives origin field a word → FieldGives origin field b word → a ≡ b
-field_once origin (Number w) a b word x y = gives_once (number_once w) x y
-field_once origin (NamedNumber w table) a b word x y = gives_once (named_once w table) x y
-field_once origin Ttl a b word x y = gives_once (ttl_once 4294967295) x y
-field_once origin Ipv4 a b word x y = gives_once ipv4_once x y
-field_once origin Ipv6 a b word x y = gives_once ipv6_once x y
-field_once origin Name a b word x y = gives_once (name_once origin) x y
-field_once origin String a b word x y = gives_once string_once x y
-field_once origin Tag a b word x y = gives_once tag_once x y
-field_once origin Octets a b word x y = gives_once text_once x y
+field_once : (origin : Option DomainName) (field : FieldKind) (a b : List ℕ) (token : Token) → FieldGives origin field a token
+    → FieldGives origin field b token → a ≡ b
+field_once origin (Number w) a b token x y = gives_once (number_once w) x y
+field_once origin (NamedNumber w table) a b token x y = gives_once (named_once w table) x y
+field_once origin Ttl a b token x y = gives_once (ttl_once 4294967295) x y
+field_once origin Ipv4 a b token x y = gives_once ipv4_once x y
+field_once origin Ipv6 a b token x y = gives_once ipv6_once x y
+field_once origin Name a b token x y = gives_once (name_once origin) x y
+field_once origin String a b token x y = gives_once string_once x y
+field_once origin Tag a b token x y = gives_once tag_once x y
+field_once origin Octets a b token x y = gives_once text_once x y
 
 -- ---- types of records
 
@@ -104,32 +106,34 @@ zone_type_once octets t u (inr a) (inr b) =
     let same : a.number ≡ b.number = let e = sym a.listed ∙ b.listed in cc e in
     a.value ∙ ap record_type_of same ∙ sym b.value
 
-number_type_once : (word : Word) (n m : ℕ) → IsTypeNumber n word → IsTypeNumber m word → n ≡ m
-number_type_once word n m x y = x.number ∙ ap number_of (zone_type_once word.octets x.record_type y.record_type x.is.text y.is.text) ∙ sym y.number
+number_type_once : (token : Token) (n m : ℕ) → IsTypeNumber n token → IsTypeNumber m token → n ≡ m
+number_type_once token n m x y = x.number ∙ ap number_of (zone_type_once token.octets x.record_type y.record_type x.is.text y.is.text) ∙ sym y.number
 
--- ---- all words that are left
+-- ---- all remaining tokens
 
 same_ok : {E : Type 0} (r : Result (List ℕ) E) (a b : List ℕ) → r ≡ Ok a → r ≡ Ok b → a ≡ b
 same_ok r a b e f = cc
 
-rest_once : (rest : RestKind) (a b : List ℕ) (words : List Word) → RestGives rest a words → RestGives rest b words → a ≡ b
-rest_once NoWord a b words x y = x.1 ∙ sym y.1
-rest_once SomeStrings a b words x y = x.1.same ∙ ap (flat_map string_octets) (same_both (λ w s. string.is s w) string_once.one words x.1.strings y.1.strings x.1.are y.1.are) ∙ sym y.1.same
-rest_once SomeHex a b words x y = same_ok _ a b x.1.digits y.1.digits
-rest_once SomeBase64 a b words x y = same_ok _ a b x.1.digits y.1.digits
-rest_once AnyTypes a b words x y = x.same ∙ ap (λ (ns : List ℕ). flat_map block (minimal ns)) (same_both (λ w n. IsTypeNumber n w) number_type_once words x.numbers y.numbers x.are y.are) ∙ sym y.same
-rest_once AnyParameters a b words x y = one_reading words a b x y
+rest_once : (rest : RestKind) (a b : List ℕ) (tokens : List Token) → RestGives rest a tokens → RestGives rest b tokens → a ≡ b
+rest_once NoToken a b tokens x y = x.1 ∙ sym y.1
+rest_once SomeStrings a b tokens x y =
+    x.1.same ∙ ap (flat_map string_octets) (same_both (λ w s. string.is s w) string_once.one tokens x.1.strings y.1.strings x.1.are y.1.are) ∙ sym y.1.same
+rest_once SomeHex a b tokens x y = same_ok _ a b x.1.digits y.1.digits
+rest_once SomeBase64 a b tokens x y = same_ok _ a b x.1.digits y.1.digits
+rest_once AnyTypes a b tokens x y = x.same ∙ ap (λ (ns : List ℕ). flat_map block (minimal ns)) (same_both (λ w n. IsTypeNumber n w) number_type_once tokens x.numbers y.numbers x.are y.are) ∙ sym y.same
+rest_once AnyParameters a b tokens x y = one_reading tokens a b x y
 
--- ---- rows
+-- ---- zone rows
 
-fields_once : (origin : Option DomainName) (fields : List FieldKind) (rest : RestKind) (a b : List ℕ) (words : List Word)
-    → FieldsGive origin fields rest a words → FieldsGive origin fields rest b words → a ≡ b
-fields_once origin [] rest a b words x y = rest_once rest a b words x y
+fields_once : (origin : Option DomainName) (fields : List FieldKind) (rest : RestKind) (a b : List ℕ) (tokens : List Token)
+    → FieldsGive origin fields rest a tokens → FieldsGive origin fields rest b tokens → a ≡ b
+fields_once origin [] rest a b tokens x y = rest_once rest a b tokens x y
 fields_once origin (field ∷ fields) rest a b [] x y = absurd x
-fields_once origin (field ∷ fields) rest a b (word ∷ words) x y =
-    let first : x.front ≡ y.front = field_once origin field x.front y.front word x.first y.first in
-    let others : x.behind ≡ y.behind = fields_once origin fields rest x.behind y.behind words x.others y.others in
+fields_once origin (field ∷ fields) rest a b (token ∷ tokens) x y =
+    let first : x.front ≡ y.front = field_once origin field x.front y.front token x.first y.first in
+    let others : x.behind ≡ y.behind = fields_once origin fields rest x.behind y.behind tokens x.others y.others in
     x.same ∙ ap (λ (s : List ℕ). s ++ x.behind) first ∙ ap (λ (s : List ℕ). y.front ++ s) others ∙ sym y.same
 
-pub row_once : (origin : Option DomainName) (row : RowShape) (a b : List ℕ) (words : List Word) → RowGives origin row a words → RowGives origin row b words → a ≡ b
-row_once origin row a b words x y = fields_once origin row.fields row.rest a b words x.fields y.fields
+pub row_once : (origin : Option DomainName) (zone_row : RowShape) (a b : List ℕ) (tokens : List Token) → RowGives origin zone_row a tokens
+    → RowGives origin zone_row b tokens → a ≡ b
+row_once origin zone_row a b tokens x y = fields_once origin zone_row.fields zone_row.rest a b tokens x.fields y.fields

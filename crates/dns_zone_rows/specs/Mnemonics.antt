@@ -1,27 +1,27 @@
--- Names of numbers in words: of types of certificates (RFC 4398, 2.1) and of algorithms (RFC 4034, A.1).
+-- Numbers that tokens have by name: certificate types (RFC 4398, 2.1) and algorithms (RFC 4034, A.1).
 use Rattle.std.specs.Prelude.{◌≡◌, ◌⊎◌, ℕ, true, false, List, [], ◌∷◌, Option, Some, None, codes}
 use Rattle.dns_fields.specs.Fields.{Number}
-use Rattle.dns_zone_words.specs.{Forms.ZoneForm, Forms.number, Mnemonics.Named, Mnemonics.named, Mnemonics.number_named, Words.Word}
+use Rattle.dns_zone_tokens.specs.{Forms.ZoneForm, Forms.number, Mnemonics.Named, Mnemonics.named, Mnemonics.number_named, Tokens.Token}
 
--- a word without quotes that is a name is its number; any other word is a number of so many octets
-abbrev pub IsNamedNumber : ℕ → Option ℕ → ℕ → Word → Type 0
-IsNamedNumber octets (Some value) n word = (word.quoted ≡ false) × (n ≡ value)
-IsNamedNumber octets None n word = (number octets).is n word
+-- a token without quotes that is a name is its number; any other token is a number of so many octets
+abbrev pub IsNamedNumber : ℕ → Option ℕ → ℕ → Token → Type 0
+IsNamedNumber octets (Some value) n token = (token.quoted ≡ false) × (n ≡ value)
+IsNamedNumber octets None n token = (number octets).is n token
 
 -- a name of the table, or a number of so many octets
 abbrev pub named_number : (octets : ℕ) → List Named → ZoneForm (Number octets)
-named_number octets table = record { is = λ n word. IsNamedNumber octets (number_named table word.octets) n word }
+named_number octets table = record { is = λ n token. IsNamedNumber octets (number_named table token.octets) n token }
 
--- ---- one word
+-- ---- one token
 
--- the word, without quotes, is a name of this number
-pub record IsByName (table : List Named) (value : ℕ) (word : Word) : Type 0 where
-  pub bare : word.quoted ≡ false
-  pub listed : number_named table word.octets ≡ Some value
+-- the token, without quotes, is a name of this number
+pub record IsByName (table : List Named) (value : ℕ) (token : Token) : Type 0 where
+  pub bare : token.quoted ≡ false
+  pub listed : number_named table token.octets ≡ Some value
 
--- the word stands in quotes, or is none of the names
-abbrev pub IsNotByName : List Named → Word → Type 0
-IsNotByName table word = (word.quoted ≡ true) ⊎ (number_named table word.octets ≡ None)
+-- the token is in quotes, or is none of the names
+abbrev pub IsNotByName : List Named → Token → Type 0
+IsNotByName table token = (token.quoted ≡ true) ⊎ (number_named table token.octets ≡ None)
 
 -- ---- the tables
 

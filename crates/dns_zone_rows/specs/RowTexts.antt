@@ -1,14 +1,15 @@
--- What errors say of each field of each type of record: its name, and a text for each thing that may be wrong with its token.
+-- The texts of errors about each field of each record type: the field's name, and a text for each thing that may be
+-- wrong with its token.
 use Rattle.std.specs.Prelude.{◌≡◌, ◌<◌, ℕ, suc, length, slice_get, List, [], ◌∷◌, ◌++◌, map, codes, Option, Some, None}
 use Rattle.dns_types.specs.declared.record_type.RecordType.{RecordType}
 use Rattle.dns_types.specs.declared.record_type.RecordType.TheVariants as types
-use Rattle.dns_zone_words.specs.FieldTexts.{field_texts, string_texts, name_texts, hex_texts, number_called, ttl_called, address_called}
-use Rattle.dns_zone_words.specs.FieldTexts.{text_called, string_called, name_called, base64_called, hex_called, named}
-use Rattle.dns_zone_rows.specs.{declared.row.ZoneField.ZoneField, declared.row.ZoneRest.ZoneRest, declared.row.ZoneRow.ZoneRow}
-use Rattle.dns_zone_rows.specs.declared.row.ZoneField.TheVariants as field
-use Rattle.dns_zone_rows.specs.declared.row.ZoneRest.TheVariants as rest
+use Rattle.dns_zone_tokens.specs.FieldTexts.{field_texts, string_texts, name_texts, hex_texts, number_called, ttl_called, address_called}
+use Rattle.dns_zone_tokens.specs.FieldTexts.{text_called, string_called, name_called, base64_called, hex_called, named}
+use Rattle.dns_zone_rows.specs.{declared.zone_row.ZoneField.ZoneField, declared.zone_row.ZoneRest.ZoneRest, declared.zone_row.ZoneRow.ZoneRow}
+use Rattle.dns_zone_rows.specs.declared.zone_row.ZoneField.TheVariants as field
+use Rattle.dns_zone_rows.specs.declared.zone_row.ZoneRest.TheVariants as rest
 
--- ---- the texts of the code's row
+-- ---- the texts of the code's zone row
 
 abbrev pub texts_of_field : ZoneField → List (List ℕ)
 texts_of_field (field.U8 f) = field_texts f
@@ -22,7 +23,7 @@ texts_of_field (field.String f) = string_texts f
 texts_of_field (field.Tag f) = field_texts f
 texts_of_field (field.CertType f) = field_texts f
 texts_of_field (field.Algorithm f) = field_texts f
-texts_of_field (field.Text f) = field_texts f
+texts_of_field (field.RawText f) = field_texts f
 
 abbrev pub texts_of_rest : ZoneRest → List (List ℕ)
 texts_of_rest (rest.Nothing surplus) = surplus.now ∷ []
@@ -30,29 +31,29 @@ texts_of_rest (rest.Strings f) = string_texts f
 texts_of_rest (rest.Hex missing f) = missing.now ∷ hex_texts f
 texts_of_rest (rest.Base64 f) = field_texts f
 texts_of_rest (rest.Types f) = field_texts f
--- service parameters have texts of their own, which no row gives
+-- service parameters have texts of their own, which no zone row gives
 texts_of_rest rest.Parameters = []
 
 -- one list of texts for each field, and one for the rest
 abbrev pub row_texts : ZoneRow → List (List (List ℕ))
-row_texts row = map texts_of_field row.fields.now ++ texts_of_rest row.rest ∷ []
+row_texts zone_row = map texts_of_field zone_row.fields.now ++ texts_of_rest zone_row.rest ∷ []
 
 -- the text is the first of these
 abbrev pub IsFirstOf : List ℕ → List (List ℕ) → Type 0
 IsFirstOf text [] = ⊥
 IsFirstOf text (first ∷ others) = text ≡ first
 
--- the row's field with this index, of those that are one token, has this name, which is the first of its texts
-pub record HasFieldAt (row : ZoneRow) (name : List ℕ) (index : ℕ) : Type 0 where
+-- the zone row's field with this index, of those that are one token, has this name, which is the first of its texts
+pub record HasFieldAt (zone_row : ZoneRow) (name : List ℕ) (index : ℕ) : Type 0 where
   pub field : ZoneField
-  pub at : slice_get row.fields.now index ≡ Some field
+  pub at : slice_get zone_row.fields.now index ≡ Some field
   pub named : IsFirstOf name (texts_of_field field)
 
 -- ---- the table
 
 -- a token after the last field
 abbrev pub no_more : List (List ℕ)
-no_more = codes "surplus word behind the record data" ∷ []
+no_more = codes "surplus token after the RDATA" ∷ []
 
 abbrev pub digits_called : List ℕ → List (List ℕ)
 digits_called name = name ∷ hex_called name
@@ -69,13 +70,13 @@ certificate_texts =
     ∷ digits_called (codes "certificate association data")
     ∷ []
 
--- what errors say of each field of a type, in the order of the fields
+-- the texts of errors about each field of a type, in the order of the fields
 abbrev pub texts_of : RecordType → Option (List (List (List ℕ)))
 texts_of types.A = Some (address_called (codes "A address") ∷ no_more ∷ [])
 texts_of types.AAAA = Some (address_called (codes "AAAA address") ∷ no_more ∷ [])
 texts_of types.CAA = Some (
     number_called (codes "CAA flags")
-    ∷ named (codes "CAA tag") (codes "no word of 1 to 255 octets in ")
+    ∷ named (codes "CAA tag") (codes "not 1 to 255 octets in ")
     ∷ text_called (codes "CAA value")
     ∷ no_more
     ∷ [])
@@ -134,7 +135,8 @@ texts_of types.TLSA = Some certificate_texts
 texts_of types.TXT = Some (string_called (codes "TXT data") ∷ [])
 texts_of record_type = None
 
--- The type's field with this index, of those that are one token, has this name. The last texts of a type are those of the rest.
+-- The type's field with this index, of those that are one token, has this name. The last texts of a type are those of
+-- the rest.
 pub record IsFieldOf (t : RecordType) (name : List ℕ) (index : ℕ) : Type 0 where
   pub texts : List (List (List ℕ))
   pub of_type : texts_of t ≡ Some texts

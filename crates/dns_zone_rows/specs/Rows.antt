@@ -1,17 +1,17 @@
--- Rows of fields: which octets the words of a record's data give (RFC 1035, 5.1), as they are sent, names whole and with
--- their letters.
+-- Zone rows: which octets the tokens of RDATA give (RFC 1035, 5.1), as on the wire, names uncompressed with case
+-- preserved.
 use Rattle.std.specs.Prelude.{◌≡◌, ◌≢◌, ℕ, ◌≤◌, false, List, [], ◌∷◌, ◌++◌, length, Option}
 use Rattle.std.specs.{List.AllZip, List.flat_map, Int.bytes_high_first}
-use Rattle.dns_fields.specs.{Bitmaps.block, Bitmaps.minimal, Labels.DomainName, Pieces.string as string_octets}
-use Rattle.dns_fields.specs.Fields.{Kind, Value, Text}
+use Rattle.dns_fields.specs.{Bitmaps.block, Bitmaps.minimal, Labels.DomainName, Tlvs.string as string_octets}
+use Rattle.dns_fields.specs.Fields.{Kind, Value, CharacterString}
 use Rattle.dns_types.specs.{RecordTypes.number_of, declared.record_type.RecordType.RecordType}
-use Rattle.dns_words.specs.Forms.{ttl, ipv4, ipv6}
-use Rattle.dns_zone_words.specs.{NameWords.name, NameWords.name_octets, Mnemonics.Named, Remaining.AreHex, Remaining.AreBase64, Remaining.AreStrings, Words.Word}
-use Rattle.dns_zone_words.specs.Forms.{ZoneForm, bare, number, string, text, IsType}
+use Rattle.dns_tokens.specs.Forms.{ttl, ipv4, ipv6}
+use Rattle.dns_zone_tokens.specs.{NameTokens.name, NameTokens.name_octets, Mnemonics.Named, Remaining.AreHex, Remaining.AreBase64, Remaining.AreStrings, Tokens.Token}
+use Rattle.dns_zone_tokens.specs.Forms.{ZoneForm, bare, number, string, text, IsType}
 use Rattle.dns_zone_parameters.specs.Parameters.{AreParameters}
 use Rattle.dns_zone_rows.specs.Mnemonics.{named_number}
 
--- a field that is one word
+-- a field that is one token
 pub data FieldKind : Type 0 where
   -- an unsigned number of so many octets, the highest first
   Number : ℕ → FieldKind
@@ -21,19 +21,19 @@ pub data FieldKind : Type 0 where
   Ttl : FieldKind
   Ipv4 : FieldKind
   Ipv6 : FieldKind
-  -- labels, and a 0 behind them
+  -- labels, and a 0 after them
   Name : FieldKind
-  -- at most 255 octets behind their length
+  -- a length and at most 255 octets
   String : FieldKind
-  -- the same of a word without quotes and `\` (RFC 8659, 4.1)
+  -- the same of a token without quotes and `\` (RFC 8659, 4.1)
   Tag : FieldKind
   -- octets of any number
   Octets : FieldKind
 
--- what all words behind these fields are
+-- what all tokens after these fields are
 pub data RestKind : Type 0 where
-  -- no word
-  NoWord : RestKind
+  -- no token
+  NoToken : RestKind
   -- one string or more
   SomeStrings : RestKind
   -- hexadecimal digits
@@ -45,31 +45,32 @@ pub data RestKind : Type 0 where
   -- parameters of a service, none or more, in any order (RFC 9460, 2.1)
   AnyParameters : RestKind
 
--- a record's data in words
+-- RDATA in tokens
 pub record RowShape : Type 0 where
   pub fields : List FieldKind
   pub rest : RestKind
 
--- ---- one word
+-- ---- one token
 
--- the word has a value of the form, whose octets these are
-pub record Gives {k : Kind} (form : ZoneForm k) (written : Value k → List ℕ) (octets : List ℕ) (word : Word) : Type 0 where
+-- the token has a value of the form, whose octets these are
+pub record Gives {k : Kind} (form : ZoneForm k) (written : Value k → List ℕ) (octets : List ℕ)
+    (token : Token) : Type 0 where
   pub value : Value k
-  pub is : form.is value word
+  pub is : form.is value token
   pub same : octets ≡ written value
 
--- a word of 1 to 255 octets, without quotes, as it stands
-pub record IsTag (octets : List ℕ) (word : Word) : Type 0 where
-  pub bare : word.quoted ≡ false
-  pub some : 1 ≤ length word.octets
-  pub most : length word.octets ≤ 255
-  pub value : octets ≡ word.octets
+-- a token of 1 to 255 octets, without quotes, as it is
+pub record IsTag (octets : List ℕ) (token : Token) : Type 0 where
+  pub bare : token.quoted ≡ false
+  pub some : 1 ≤ length token.octets
+  pub most : length token.octets ≤ 255
+  pub value : octets ≡ token.octets
 
-abbrev pub tag : ZoneForm Text
+abbrev pub tag : ZoneForm CharacterString
 tag = record { is = IsTag }
 
--- the octets that a word gives for a field; a name is completed by the origin
-abbrev pub FieldGives : Option DomainName → FieldKind → List ℕ → Word → Type 0
+-- the octets that a token gives for a field; the origin completes a name
+abbrev pub FieldGives : Option DomainName → FieldKind → List ℕ → Token → Type 0
 FieldGives origin (Number w) = Gives (number w) (bytes_high_first w)
 FieldGives origin (NamedNumber w table) = Gives (named_number w table) (bytes_high_first w)
 FieldGives origin Ttl = Gives (bare (ttl 4294967295)) (bytes_high_first 4)
@@ -80,42 +81,42 @@ FieldGives origin String = Gives string string_octets
 FieldGives origin Tag = Gives tag string_octets
 FieldGives origin Octets = Gives text (λ s. s)
 
--- ---- all words that are left
+-- ---- all remaining tokens
 
--- the words are strings, each behind its length
-pub record StringsGive (octets : List ℕ) (words : List Word) : Type 0 where
+-- the tokens are strings, each after its length
+pub record StringsGive (octets : List ℕ) (tokens : List Token) : Type 0 where
   pub strings : List (List ℕ)
-  pub are : AreStrings strings words
+  pub are : AreStrings strings tokens
   pub same : octets ≡ flat_map string_octets strings
 
--- the word is a type of this number
-pub record IsTypeNumber (n : ℕ) (word : Word) : Type 0 where
+-- the token is a type with this number
+pub record IsTypeNumber (n : ℕ) (token : Token) : Type 0 where
   pub record_type : RecordType
-  pub is : IsType record_type word
+  pub is : IsType record_type token
   pub number : n ≡ number_of record_type
 
--- each word is a type of this number
-abbrev pub AreTypes : List ℕ → List Word → Type 0
-AreTypes numbers words = AllZip (λ word n. IsTypeNumber n word) words numbers
+-- each token is a type with this number
+abbrev pub AreTypes : List ℕ → List Token → Type 0
+AreTypes numbers tokens = AllZip (λ token n. IsTypeNumber n token) tokens numbers
 
--- the words are types, and the octets the shortest bitmap of them
-pub record TypesGive (octets : List ℕ) (words : List Word) : Type 0 where
+-- the tokens are types, and the octets the shortest bitmap of them
+pub record TypesGive (octets : List ℕ) (tokens : List Token) : Type 0 where
   pub numbers : List ℕ
-  pub are : AreTypes numbers words
+  pub are : AreTypes numbers tokens
   pub same : octets ≡ flat_map block (minimal numbers)
 
--- the octets that all words which are left give
-abbrev pub RestGives : RestKind → List ℕ → List Word → Type 0
-RestGives NoWord octets words = (words ≡ []) × (octets ≡ [])
-RestGives SomeStrings octets words = (words ≢ []) × StringsGive octets words
-RestGives SomeHex octets words = (words ≢ []) × AreHex octets words
-RestGives SomeBase64 octets words = (words ≢ []) × AreBase64 octets words
-RestGives AnyTypes octets words = TypesGive octets words
-RestGives AnyParameters octets words = AreParameters octets words
+-- the octets that all remaining tokens give
+abbrev pub RestGives : RestKind → List ℕ → List Token → Type 0
+RestGives NoToken octets tokens = (tokens ≡ []) × (octets ≡ [])
+RestGives SomeStrings octets tokens = (tokens ≢ []) × StringsGive octets tokens
+RestGives SomeHex octets tokens = (tokens ≢ []) × AreHex octets tokens
+RestGives SomeBase64 octets tokens = (tokens ≢ []) × AreBase64 octets tokens
+RestGives AnyTypes octets tokens = TypesGive octets tokens
+RestGives AnyParameters octets tokens = AreParameters octets tokens
 
--- ---- rows
+-- ---- zone rows
 
--- octets of one kind, and octets of another behind them
+-- octets of one kind, and octets of another after them
 pub record InTwo (First Behind : List ℕ → Type 0) (octets : List ℕ) : Type 0 where
   pub front : List ℕ
   pub behind : List ℕ
@@ -123,13 +124,14 @@ pub record InTwo (First Behind : List ℕ → Type 0) (octets : List ℕ) : Type
   pub first : First front
   pub others : Behind behind
 
--- the octets that words give: a word for each field, and the words behind them
-abbrev pub FieldsGive : Option DomainName → List FieldKind → RestKind → List ℕ → List Word → Type 0
-FieldsGive origin [] rest octets words = RestGives rest octets words
+-- the octets that tokens give: a token for each field, and the tokens after them
+abbrev pub FieldsGive : Option DomainName → List FieldKind → RestKind → List ℕ → List Token → Type 0
+FieldsGive origin [] rest octets tokens = RestGives rest octets tokens
 FieldsGive origin (field ∷ fields) rest octets [] = ⊥
-FieldsGive origin (field ∷ fields) rest octets (word ∷ words) =
-    InTwo (λ front. FieldGives origin field front word) (λ behind. FieldsGive origin fields rest behind words) octets
+FieldsGive origin (field ∷ fields) rest octets (token ∷ tokens) =
+    InTwo (λ front. FieldGives origin field front token) (λ behind. FieldsGive origin fields rest behind tokens) octets
 
--- the octets that the words give by the row
-pub record RowGives (origin : Option DomainName) (row : RowShape) (octets : List ℕ) (words : List Word) : Type 0 where
-  pub fields : FieldsGive origin row.fields row.rest octets words
+-- the octets that the tokens give by the zone row
+pub record RowGives (origin : Option DomainName) (zone_row : RowShape) (octets : List ℕ)
+    (tokens : List Token) : Type 0 where
+  pub fields : FieldsGive origin zone_row.fields zone_row.rest octets tokens

@@ -1,24 +1,25 @@
-//! Where the token is that an error is about.
+//! Which token an error is about.
 
 ghost use Rattle.std.specs.Prelude.{ℕ, ◌≤◌, length, IfSome, IfNone};
 ghost use Rattle.dns_zone_rows.specs.TokenFaults.{IsTokenAtFault};
 
-use crate::table::row_of;
+use crate::table::zone_row_of;
 use dns_types::{ParseError, RecordType};
-use dns_zone_words::token_span;
+use dns_zone_tokens::token_span;
 use std::ops::Range;
 
 /// The offsets at which the token that an error is about starts and ends in the text, its quotes included. Call it with
 /// the type and the text that `from_zone_text` of `dns_rdata_zone` was called with, and its error. Allocates nothing.
 ///
-/// The token is found by the name of the error's field ([`ParseError::field`]): it is the token with the index that this
-/// field has in the type's row. `None` if there is no such token:
+/// The token is found by the name of the error's field ([`ParseError::field`]): it is the token with the index that
+/// this field has in the type's zone row. `None` if there is no such token:
 ///
-/// - The error is about no field: the text is not cut into tokens, there is a token too many, or it is about the octets.
+/// - The error is about no field: the text cannot be divided into tokens, there is a token too many, or it is about the
+///   octets.
 /// - The field's token is missing.
-/// - The field is a list at the end of the row, whose tokens the error does not tell apart: the strings of TXT, the types
-///   of CSYNC, hexadecimal digits, base64 and service parameters.
-/// - The text is in the form of unknown data, `\#`, a length and octets.
+/// - The field is a list at the end of the zone row, whose tokens the error does not tell apart: the strings of TXT,
+///   the types of CSYNC, hexadecimal digits, base64 and service parameters.
+/// - The text is in the unknown-data form, `\#`, a length and octets.
 ///
 /// ```rust
 /// if let Some(token) = token_at_fault(record_type, text.as_bytes(), error) {
@@ -35,7 +36,7 @@ pub fn token_at_fault(
     ensures none { IfNone result ((span : ℕ × ℕ) → IsTokenAtFault record_type text.now error.now span → ⊥) }
 {
     let name = error.field()?;
-    let row = row_of(record_type)?;
-    let index = row.field_index(name)?;
+    let zone_row = zone_row_of(record_type)?;
+    let index = zone_row.field_index(name)?;
     token_span(text, index)
 }

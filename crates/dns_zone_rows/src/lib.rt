@@ -1,4 +1,4 @@
-//! Record data in zone files: rows of fields, and the octets that the words of a text give by them.
+//! RDATA in zone files: zone rows of fields, and the octets that the tokens of a text give by them.
 #![tactic(auto)]
 
 mod faults;
@@ -8,12 +8,12 @@ pub mod mnemonics;
 pub mod names;
 pub mod reading;
 mod remaining;
-pub mod row;
 pub mod table;
 mod types;
+pub mod zone_row;
 
-pub use dns_zone_words::Mnemonic;
+pub use dns_zone_tokens::Mnemonic;
 pub use faults::token_at_fault;
 pub use reading::row_octets;
-pub use row::{ZoneField, ZoneRest, ZoneRow};
-pub use table::row_of;
+pub use table::zone_row_of;
+pub use zone_row::{ZoneField, ZoneRest, ZoneRow};

@@ -1,13 +1,13 @@
-//! Names of numbers in words.
+//! Numbers that tokens have by name.
 
 ghost use Rattle.std.specs.Prelude.{◌≡◌, IfErr, IfSome, IfNone};
 ghost use Rattle.dns_zone_rows.specs.Mnemonics.{named_number, cert_types, algorithms, IsByName, IsNotByName};
-ghost use Rattle.dns_zone_words.specs.{Mnemonics.named_values, Views.word_value, Words.words_at, Words.behind_first};
-ghost use Rattle.dns_zone_words.specs.ZoneReads.{ReadsAs, ReadsFirst, WhyNoField, WrongWord};
+ghost use Rattle.dns_zone_tokens.specs.{Mnemonics.named_values, Views.token_value, Tokens.tokens_at, Tokens.behind_first};
+ghost use Rattle.dns_zone_tokens.specs.ZoneReads.{ReadsAs, ReadsFirst, WhyNoField, WrongToken};
 
 use dns_types::ParseError;
-use dns_zone_words::{
-    Field, Mnemonic, ZoneWord, ZoneWords, named, number_named, some_word, u8_of, u16_of,
+use dns_zone_tokens::{
+    Field, Mnemonic, ZoneToken, ZoneTokens, named, number_named, some_token, u8_of, u16_of,
 };
 
 static CERT_TYPES: [Mnemonic; 10] = [
@@ -64,59 +64,59 @@ pub fn algorithm_names() -> &'static [Mnemonic]
     &ALGORITHMS
 }
 
-// The number that a word without quotes stands for by its name.
+// The number that a token without quotes has by name.
 #[inline]
-fn number_by_name(word: ZoneWord<'_>, names: &[Mnemonic]) -> Option<u16>
-    ensures some { IfSome result (λ value. IsByName (named_values names.now) value (word_value word.entry)) }
-    ensures none { IfNone result (IsNotByName (named_values names.now) (word_value word.entry)) }
+fn number_by_name(token: ZoneToken<'_>, names: &[Mnemonic]) -> Option<u16>
+    ensures some { IfSome result (λ value. IsByName (named_values names.now) value (token_value token.entry)) }
+    ensures none { IfNone result (IsNotByName (named_values names.now) (token_value token.entry)) }
 {
-    if word.quoted {
+    if token.quoted {
         return None;
     }
-    number_named(names, word.raw)
+    number_named(names, token.raw)
 }
 
 /// Reads a certificate type, by its name or by a number of 16 bits, without quotes. Any other token gives
 /// [`Message`](ParseError::Message) with the text `wrong`. Allocates nothing.
-pub fn cert_type_of(word: ZoneWord<'_>, wrong: &'static str) -> Result<u16, ParseError>
-    ensures reads { ReadsAs (named_number 2 cert_types) (λ n. n) result (word_value word.entry) }
-    ensures why { IfErr result (WrongWord (named_number 2 cert_types) (ParseError.Message wrong.entry) (word_value word.entry)) }
+pub fn cert_type_of(token: ZoneToken<'_>, wrong: &'static str) -> Result<u16, ParseError>
+    ensures reads { ReadsAs (named_number 2 cert_types) (λ n. n) result (token_value token.entry) }
+    ensures why { IfErr result (WrongToken (named_number 2 cert_types) (ParseError.Message wrong.entry) (token_value token.entry)) }
 {
-    match number_by_name(word, cert_type_names()) {
+    match number_by_name(token, cert_type_names()) {
         Some(value) => Ok(value),
-        None => u16_of(word, wrong),
+        None => u16_of(token, wrong),
     }
 }
 
 /// Reads a DNSSEC algorithm, by its name or by a number of 8 bits, as `cert_type_of` does.
-pub fn algorithm_of(word: ZoneWord<'_>, wrong: &'static str) -> Result<u8, ParseError>
-    ensures reads { ReadsAs (named_number 1 algorithms) (λ n. n) result (word_value word.entry) }
-    ensures why { IfErr result (WrongWord (named_number 1 algorithms) (ParseError.Message wrong.entry) (word_value word.entry)) }
+pub fn algorithm_of(token: ZoneToken<'_>, wrong: &'static str) -> Result<u8, ParseError>
+    ensures reads { ReadsAs (named_number 1 algorithms) (λ n. n) result (token_value token.entry) }
+    ensures why { IfErr result (WrongToken (named_number 1 algorithms) (ParseError.Message wrong.entry) (token_value token.entry)) }
 {
-    match number_by_name(word, algorithm_names()) {
+    match number_by_name(token, algorithm_names()) {
         Some(value) => Ok(value as u8),
-        None => u8_of(word, wrong),
+        None => u8_of(token, wrong),
     }
 }
 
 /// Reads a certificate type (`cert_type_of`) from the next token, which is taken even if this returns an error.
 #[inline]
-pub fn next_cert_type(words: &mut ZoneWords<'_>, field: Field) -> Result<u16, ParseError>
-    ensures reads { ReadsFirst (named_number 2 cert_types) (λ n. n) result words.old words.new }
-    ensures why { IfErr result (WhyNoField (named_number 2 cert_types) field words.old) }
-    ensures behind { words_at words.new ≡ behind_first (words_at words.old) }
+pub fn next_cert_type(tokens: &mut ZoneTokens<'_>, field: Field) -> Result<u16, ParseError>
+    ensures reads { ReadsFirst (named_number 2 cert_types) (λ n. n) result tokens.old tokens.new }
+    ensures why { IfErr result (WhyNoField (named_number 2 cert_types) field tokens.old) }
+    ensures behind { tokens_at tokens.new ≡ behind_first (tokens_at tokens.old) }
 {
-    let word = some_word(words, field.name)?;
-    cert_type_of(word, field.wrong)
+    let token = some_token(tokens, field.name)?;
+    cert_type_of(token, field.wrong)
 }
 
 /// Reads a DNSSEC algorithm (`algorithm_of`) from the next token, as `next_cert_type` does.
 #[inline]
-pub fn next_algorithm(words: &mut ZoneWords<'_>, field: Field) -> Result<u8, ParseError>
-    ensures reads { ReadsFirst (named_number 1 algorithms) (λ n. n) result words.old words.new }
-    ensures why { IfErr result (WhyNoField (named_number 1 algorithms) field words.old) }
-    ensures behind { words_at words.new ≡ behind_first (words_at words.old) }
+pub fn next_algorithm(tokens: &mut ZoneTokens<'_>, field: Field) -> Result<u8, ParseError>
+    ensures reads { ReadsFirst (named_number 1 algorithms) (λ n. n) result tokens.old tokens.new }
+    ensures why { IfErr result (WhyNoField (named_number 1 algorithms) field tokens.old) }
+    ensures behind { tokens_at tokens.new ≡ behind_first (tokens_at tokens.old) }
 {
-    let word = some_word(words, field.name)?;
-    algorithm_of(word, field.wrong)
+    let token = some_token(tokens, field.name)?;
+    algorithm_of(token, field.wrong)
 }

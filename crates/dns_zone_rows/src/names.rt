@@ -3,7 +3,7 @@
 ghost use Rattle.std.specs.Prelude.{ℕ, ◌<◌, IfSome, IfNone};
 ghost use Rattle.dns_zone_rows.specs.RowTexts.{IsFirstOf, HasFieldAt, texts_of_field};
 
-use crate::row::{ZoneField, ZoneRow};
+use crate::zone_row::{ZoneField, ZoneRow};
 
 impl ZoneField {
     /// The field's name, as errors have it: `MX preference`.
@@ -20,7 +20,7 @@ impl ZoneField {
             | ZoneField::Tag(field)
             | ZoneField::CertType(field)
             | ZoneField::Algorithm(field)
-            | ZoneField::Text(field) => field.name,
+            | ZoneField::RawText(field) => field.name,
             ZoneField::Name(field) => field.name,
             ZoneField::String(field) => field.name,
         }

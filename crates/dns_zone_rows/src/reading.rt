@@ -1,21 +1,21 @@
-//! Record data of a zone file as octets.
+//! RDATA of a zone file as octets.
 
 ghost use Rattle.std.specs.Prelude.{◌≡◌, ◌⊎◌, IfErr};
 ghost use Rattle.std.specs.Option.{option_copied};
-ghost use Rattle.dns_zone_words.specs.Remaining.{ReadsAll};
+ghost use Rattle.dns_zone_tokens.specs.Remaining.{ReadsAll};
 ghost use Rattle.dns_zone_rows.specs.{RowFaults.row_value, RowFaults.RowFault, Rows.RowGives};
 
 use crate::fields::add_field;
 use crate::remaining::add_rest;
-use crate::row::ZoneRow;
+use crate::zone_row::ZoneRow;
 use dns_names_wire::Name;
 use dns_types::{Octets, ParseError};
-use dns_zone_words::ZoneWords;
+use dns_zone_tokens::ZoneTokens;
 use std::alloc::Global;
 
-/// Reads all remaining tokens as the fields of a row and returns their octets, one field after the other, as on the
-/// wire, with names uncompressed and their case preserved. The origin completes names that do not end with a dot, and
-/// `@` is the origin. Allocates for the octets, and for a time for each name, string, hexadecimal and base64 field.
+/// Reads all remaining tokens as the fields of a zone row and returns their octets, one field after the other, as on
+/// the wire, with names uncompressed and their case preserved. The origin completes names that do not end with a dot,
+/// and `@` is the origin. Allocates for the octets, and for a time for each name, string, hexadecimal and base64 field.
 ///
 /// # Errors
 ///
@@ -27,19 +27,19 @@ use std::alloc::Global;
 /// - [`Memory`](ParseError::Memory): an allocation failed.
 pub fn row_octets(
     alloc: Global,
-    words: &mut ZoneWords<'_>,
+    tokens: &mut ZoneTokens<'_>,
     origin: Option<&Name>,
-    row: &ZoneRow,
+    zone_row: &ZoneRow,
 ) -> Result<Octets, ParseError>
-    ensures reads { ReadsAll (RowGives (option_copied origin.entry) (row_value row.now)) (λ x. x) result words.old }
-    ensures why { IfErr result (λ e. (e ≡ ParseError.Memory) ⊎ RowFault (option_copied origin.entry) row.now words.old e) }
+    ensures reads { ReadsAll (RowGives (option_copied origin.entry) (row_value zone_row.now)) (λ x. x) result tokens.old }
+    ensures why { IfErr result (λ e. (e ≡ ParseError.Memory) ⊎ RowFault (option_copied origin.entry) zone_row.now tokens.old e) }
 {
-    // A name or a string that stands bare and alone gives an octet more than it has letters.
-    let letters = words.octets_left();
+    // A single name or string without quotes gives one octet more than it has characters.
+    let letters = tokens.octets_left();
     let mut octets = Vec::with_capacity(alloc, letters.saturating_add(letters.min(1)))?;
-    for field in row.fields {
-        add_field(words, origin, field, &mut octets)?;
+    for field in zone_row.fields {
+        add_field(tokens, origin, field, &mut octets)?;
     }
-    add_rest(alloc, words, &row.rest, &mut octets)?;
+    add_rest(alloc, tokens, &zone_row.rest, &mut octets)?;
     Ok(Octets::from_vec(octets))
 }

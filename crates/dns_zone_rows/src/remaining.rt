@@ -1,70 +1,70 @@
-//! What all words behind the fields of a row are.
+//! What all tokens after the fields of a zone row are.
 
 ghost use Rattle.std.specs.Prelude.{◌≡◌, ◌≢◌, ◌≤◌, ◌⊎◌, ◌++◌, [], All, length, Ok, IfErr, OnOk, OnErr};
 ghost use Rattle.std.specs.List.{flat_map};
-ghost use Rattle.dns_fields.specs.Pieces.{string as string_octets};
-ghost use Rattle.dns_zone_words.specs.{Forms.StringFault, Words.words_at, ZoneReads.LacksFirst};
-ghost use Rattle.dns_zone_words.specs.Remaining.{AmongFault, HexFault, Base64Fault, PutsAll};
+ghost use Rattle.dns_fields.specs.Tlvs.{string as string_octets};
+ghost use Rattle.dns_zone_tokens.specs.{Forms.StringFault, Tokens.tokens_at, ZoneReads.LacksFirst};
+ghost use Rattle.dns_zone_tokens.specs.Remaining.{AmongFault, HexFault, Base64Fault, PutsAll};
 ghost use Rattle.dns_zone_parameters.specs.Faults.{ParametersFault};
 ghost use Rattle.dns_zone_rows.specs.RowFaults.{rest_kind_of, SurplusFault, RestFault};
-ghost use Rattle.dns_zone_rows.specs.Rows.{NoWord, SomeStrings, SomeHex, SomeBase64, AnyParameters, RestGives};
+ghost use Rattle.dns_zone_rows.specs.Rows.{NoToken, SomeStrings, SomeHex, SomeBase64, AnyParameters, RestGives};
 
 use crate::fields::add_octets;
-use crate::row::ZoneRest;
 use crate::types::add_types;
+use crate::zone_row::ZoneRest;
 use dns_types::ParseError;
 use dns_zone_parameters::put_parameters;
-use dns_zone_words::{
-    Field, HexField, StringField, ZoneWords, all_base64, all_hex, no_more, put_string, some_word,
+use dns_zone_tokens::{
+    Field, HexField, StringField, ZoneTokens, all_base64, all_hex, no_more, put_string, some_token,
 };
 use std::alloc::Global;
 
-// Takes all words that are left and puts the octets that they give behind the others.
+// Takes all remaining tokens and appends the octets that they give.
 pub(crate) fn add_rest(
     alloc: Global,
-    words: &mut ZoneWords<'_>,
+    tokens: &mut ZoneTokens<'_>,
     rest: &ZoneRest,
     octets: &mut Vec<u8>,
 ) -> Result<(), ParseError>
-    ensures adds { PutsAll (RestGives (rest_kind_of rest.now)) result octets.old.items octets.new.items words.old }
-    ensures why { IfErr result (λ e. (e ≡ ParseError.Memory) ⊎ RestFault rest.now words.old e) }
+    ensures adds { PutsAll (RestGives (rest_kind_of rest.now)) result octets.old.items octets.new.items tokens.old }
+    ensures why { IfErr result (λ e. (e ≡ ParseError.Memory) ⊎ RestFault rest.now tokens.old e) }
 {
     match rest {
-        ZoneRest::Nothing(surplus) => add_nothing(words, *surplus, octets),
-        ZoneRest::Strings(field) => add_strings(words, field, octets),
-        ZoneRest::Hex(missing, field) => add_hex(alloc, words, *missing, field, octets),
-        ZoneRest::Base64(field) => add_base64(alloc, words, *field, octets),
-        ZoneRest::Types(field) => add_types(alloc, words, *field, octets),
-        ZoneRest::Parameters => add_parameters(alloc, words, octets),
+        ZoneRest::Nothing(surplus) => add_nothing(tokens, *surplus, octets),
+        ZoneRest::Strings(field) => add_strings(tokens, field, octets),
+        ZoneRest::Hex(missing, field) => add_hex(alloc, tokens, *missing, field, octets),
+        ZoneRest::Base64(field) => add_base64(alloc, tokens, *field, octets),
+        ZoneRest::Types(field) => add_types(alloc, tokens, *field, octets),
+        ZoneRest::Parameters => add_parameters(alloc, tokens, octets),
     }
 }
 
-// No word may be left. As `add_rest`, and so are those below.
+// Fails if a token is left; otherwise as `add_rest`. So are the functions below.
 fn add_nothing(
-    words: &mut ZoneWords<'_>,
+    tokens: &mut ZoneTokens<'_>,
     surplus: &'static str,
     octets: &mut Vec<u8>,
 ) -> Result<(), ParseError>
-    ensures adds { PutsAll (RestGives NoWord) result octets.old.items octets.new.items words.old }
-    ensures why { IfErr result (λ e. (e ≡ ParseError.Memory) ⊎ SurplusFault (ParseError.Message surplus.entry) words.old e) }
+    ensures adds { PutsAll (RestGives NoToken) result octets.old.items octets.new.items tokens.old }
+    ensures why { IfErr result (λ e. (e ≡ ParseError.Memory) ⊎ SurplusFault (ParseError.Message surplus.entry) tokens.old e) }
 {
     let _octets = octets.len();
-    no_more(words, surplus)
+    no_more(tokens, surplus)
 }
 
 fn add_strings(
-    words: &mut ZoneWords<'_>,
+    tokens: &mut ZoneTokens<'_>,
     field: &StringField,
     octets: &mut Vec<u8>,
 ) -> Result<(), ParseError>
-    ensures adds { PutsAll (RestGives SomeStrings) result octets.old.items octets.new.items words.old }
-    ensures why { IfErr result (λ e. (e ≡ ParseError.Memory) ⊎ LacksFirst (ParseError.MissingToken field.now.name) words.old e ⊎ AmongFault (StringFault field.now) words.old e) }
+    ensures adds { PutsAll (RestGives SomeStrings) result octets.old.items octets.new.items tokens.old }
+    ensures why { IfErr result (λ e. (e ≡ ParseError.Memory) ⊎ LacksFirst (ParseError.MissingToken field.now.name) tokens.old e ⊎ AmongFault (StringFault field.now) tokens.old e) }
 {
-    let first = some_word(words, field.name)?;
+    let first = some_token(tokens, field.name)?;
     put_string(octets, first, field)?;
-    'words: loop {
-        match words.next_word()? {
-            Some(word) => put_string(octets, word, field)?,
+    'tokens: loop {
+        match tokens.next_token()? {
+            Some(token) => put_string(octets, token, field)?,
             None => return Ok(()),
         }
     }
@@ -72,50 +72,50 @@ fn add_strings(
 
 fn add_hex(
     alloc: Global,
-    words: &mut ZoneWords<'_>,
+    tokens: &mut ZoneTokens<'_>,
     missing: &'static str,
     field: &HexField,
     octets: &mut Vec<u8>,
 ) -> Result<(), ParseError>
-    ensures adds { PutsAll (RestGives SomeHex) result octets.old.items octets.new.items words.old }
-    ensures why { IfErr result (λ e. (e ≡ ParseError.Memory) ⊎ LacksFirst (ParseError.MissingToken missing.entry) words.old e ⊎ HexFault field.now words.old e) }
+    ensures adds { PutsAll (RestGives SomeHex) result octets.old.items octets.new.items tokens.old }
+    ensures why { IfErr result (λ e. (e ≡ ParseError.Memory) ⊎ LacksFirst (ParseError.MissingToken missing.entry) tokens.old e ⊎ HexFault field.now tokens.old e) }
 {
-    ask_some(words, missing)?;
-    let data = all_hex(alloc, words, field)?;
+    ask_some(tokens, missing)?;
+    let data = all_hex(alloc, tokens, field)?;
     add_octets(octets, data.as_slice())
 }
 
 fn add_base64(
     alloc: Global,
-    words: &mut ZoneWords<'_>,
+    tokens: &mut ZoneTokens<'_>,
     field: Field,
     octets: &mut Vec<u8>,
 ) -> Result<(), ParseError>
-    ensures adds { PutsAll (RestGives SomeBase64) result octets.old.items octets.new.items words.old }
-    ensures why { IfErr result (λ e. (e ≡ ParseError.Memory) ⊎ LacksFirst (ParseError.MissingToken field.name) words.old e ⊎ Base64Fault (ParseError.Message field.wrong) words.old e) }
+    ensures adds { PutsAll (RestGives SomeBase64) result octets.old.items octets.new.items tokens.old }
+    ensures why { IfErr result (λ e. (e ≡ ParseError.Memory) ⊎ LacksFirst (ParseError.MissingToken field.name) tokens.old e ⊎ Base64Fault (ParseError.Message field.wrong) tokens.old e) }
 {
-    ask_some(words, field.name)?;
-    let data = all_base64(alloc, words, field.wrong)?;
+    ask_some(tokens, field.name)?;
+    let data = all_base64(alloc, tokens, field.wrong)?;
     add_octets(octets, data.as_slice())
 }
 
 fn add_parameters(
     alloc: Global,
-    words: &mut ZoneWords<'_>,
+    tokens: &mut ZoneTokens<'_>,
     octets: &mut Vec<u8>,
 ) -> Result<(), ParseError>
-    ensures adds { PutsAll (RestGives AnyParameters) result octets.old.items octets.new.items words.old }
-    ensures why { IfErr result (λ e. (e ≡ ParseError.Memory) ⊎ ParametersFault words.old e) }
+    ensures adds { PutsAll (RestGives AnyParameters) result octets.old.items octets.new.items tokens.old }
+    ensures why { IfErr result (λ e. (e ≡ ParseError.Memory) ⊎ ParametersFault tokens.old e) }
 {
-    put_parameters(alloc, words, octets)
+    put_parameters(alloc, tokens, octets)
 }
 
-// That a word is left. Takes none.
+// Fails if no token is left. Takes none.
 #[inline]
-fn ask_some(words: &ZoneWords<'_>, missing: &'static str) -> Result<(), ParseError>
-    ensures some { OnOk result (words_at words.now ≢ Ok []) }
-    ensures refused { IfErr result (LacksFirst (ParseError.MissingToken missing.entry) words.now) }
+fn ask_some(tokens: &ZoneTokens<'_>, missing: &'static str) -> Result<(), ParseError>
+    ensures some { OnOk result (tokens_at tokens.now ≢ Ok []) }
+    ensures refused { IfErr result (LacksFirst (ParseError.MissingToken missing.entry) tokens.now) }
 {
-    some_word(&mut words.again(), missing)?;
+    some_token(&mut tokens.again(), missing)?;
     Ok(())
 }

@@ -1,19 +1,19 @@
-//! The row of each type of record.
+//! The zone row of each type of record.
 
 ghost use Rattle.std.specs.Prelude.{◌≡◌, ◌∷◌, ◌++◌, [], map, Some};
 ghost use Rattle.std.specs.Option.{option_map};
-ghost use Rattle.dns_zone_rows.specs.{RowFaults.kind_of, RowFaults.rest_kind_of, RowFaults.row_value, RowTable.row, RowTable.row_of, Rows.NoWord};
+ghost use Rattle.dns_zone_rows.specs.{RowFaults.kind_of, RowFaults.rest_kind_of, RowFaults.row_value, RowTable.zone_row, RowTable.zone_row_of, Rows.NoToken};
 ghost use Rattle.dns_zone_rows.specs.RowTexts.{no_more, row_texts, texts_of, texts_of_field, texts_of_rest};
 
-use crate::row::{ZoneField, ZoneRest, ZoneRow};
+use crate::zone_row::{ZoneField, ZoneRest, ZoneRow};
+use dns_tokens::{number_field, time_field};
 use dns_types::RecordType;
-use dns_words::{number_field, time_field};
-use dns_zone_words::{
+use dns_zone_tokens::{
     Field, HexField, StringField, address_field, base64_field, hex_field, name_field, string_field,
     text_field,
 };
 
-const SURPLUS: &str = "surplus word behind the record data";
+const SURPLUS: &str = "surplus token after the RDATA";
 
 const CERT_DATA: Field = base64_field!("CERT data");
 
@@ -42,9 +42,9 @@ static CAA: [ZoneField; 3] = [
     ZoneField::U8(number_field!("CAA flags")),
     ZoneField::Tag(Field {
         name: "CAA tag",
-        wrong: "no word of 1 to 255 octets in CAA tag token",
+        wrong: "not 1 to 255 octets in CAA tag token",
     }),
-    ZoneField::Text(text_field!("CAA value")),
+    ZoneField::RawText(text_field!("CAA value")),
 ];
 
 static CERT: [ZoneField; 3] = [
@@ -81,7 +81,7 @@ static NAPTR: [ZoneField; 6] = [
 
 static NS: [ZoneField; 1] = [ZoneField::Name(name_field!("NS name"))];
 
-// Records that have no fields of one word.
+// Records that have no fields of one token.
 static NO_FIELDS: [ZoneField; 0] = [];
 
 static PTR: [ZoneField; 1] = [ZoneField::Name(name_field!("PTR name"))];
@@ -121,10 +121,11 @@ static TLSA: [ZoneField; 3] = [
     ZoneField::U8(number_field!("matching type")),
 ];
 
-/// Returns the row of a type; `None` if a zone file has only the form of unknown data for it (RFC 3597, section 5).
-pub fn row_of(record_type: RecordType) -> Option<ZoneRow>
-    ensures rows { option_map row_value result ≡ row_of record_type }
-    // What errors say of its fields.
+/// Returns the zone row of a type; `None` if a zone file has only the unknown-data form for it (RFC 3597, section
+/// 5).
+pub fn zone_row_of(record_type: RecordType) -> Option<ZoneRow>
+    ensures zone_rows { option_map row_value result ≡ zone_row_of record_type }
+    // The texts of errors about its fields.
     ensures texts { option_map row_texts result ≡ texts_of record_type }
 {
     match record_type {
@@ -152,19 +153,19 @@ pub fn row_of(record_type: RecordType) -> Option<ZoneRow>
     }
 }
 
-// The row of fields with no word behind them.
+// The zone row of fields that no token follows.
 #[inline]
 fn fields_alone(fields: &'static [ZoneField]) -> Option<ZoneRow>
-    ensures rows { option_map row_value result ≡ row (map kind_of fields.now) NoWord }
+    ensures zone_rows { option_map row_value result ≡ zone_row (map kind_of fields.now) NoToken }
     ensures texts { option_map row_texts result ≡ Some (map texts_of_field fields.now ++ no_more ∷ []) }
 {
     fields_and(fields, ZoneRest::Nothing(SURPLUS))
 }
 
-// The row of fields, and words behind them.
+// The zone row of fields that other tokens follow.
 #[inline]
 fn fields_and(fields: &'static [ZoneField], rest: ZoneRest) -> Option<ZoneRow>
-    ensures rows { option_map row_value result ≡ row (map kind_of fields.now) (rest_kind_of rest) }
+    ensures zone_rows { option_map row_value result ≡ zone_row (map kind_of fields.now) (rest_kind_of rest) }
     ensures texts { option_map row_texts result ≡ Some (map texts_of_field fields.now ++ texts_of_rest rest ∷ []) }
 {
     Some(ZoneRow { fields, rest })

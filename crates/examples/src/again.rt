@@ -4,11 +4,11 @@ ghost use Rattle.std.specs.Prelude.{◌≡◌, true, IfOk};
 
 use anyhow::Result;
 use dns_rdata::{BinDecoder, BinEncodable, BinEncoder, RData, RecordType, Restrict};
-use dns_rdata_laws::windows_hold;
+use dns_rdata_laws::regions_hold;
 use held_data::Held;
 use std::alloc::Global;
 
-/// Reads data at the front of a message, emits it as a message of its own, reads that again, and answers whether both
+/// Reads data at the front of a message, emits it as a message of its own, reads that again, and returns whether both
 /// values are equal, which they always are.
 pub fn reads_again(
     alloc: Global,
@@ -18,7 +18,7 @@ pub fn reads_again(
 ) -> Result<bool>
     ensures { IfOk result (λ same. same ≡ true) }
 {
-    windows_hold();
+    regions_hold();
     let mut decoder = BinDecoder::new(alloc, message);
     let first = Held(RData::read(&mut decoder, record_type, Restrict::new(length))?);
     let mut octets = Vec::new(alloc);

@@ -1,5 +1,5 @@
 //! The library as its users call it: a message that is written and read again, and record data read, emitted, parsed
-//! and compared. The examples in the library's comments stand here, so that they are proved and run.
+//! and compared. The examples in the library's comments are here, so that they are proved and run.
 #![tactic(auto)]
 
 mod again;
@@ -60,7 +60,7 @@ fn print_record(rt: &impl Print, record: &RData) -> Result<()> {
     Ok(())
 }
 
-// Records of three types, of which one stands twice.
+// Records of three types, of which one is twice.
 fn some_records(alloc: Global) -> Result<HeldList> {
     let origin = Name::from_ascii(alloc, "example.com.")?;
     let mut records = HeldList(Vec::new(alloc));

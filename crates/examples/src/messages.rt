@@ -13,7 +13,7 @@ use std::alloc::Global;
 // The class of the internet (RFC 1035, 3.2.4).
 const IN: u16 = 1;
 
-/// Appends a record: owner, type, class, time to live, and the data behind its length (RFC 1035, 4.1.3).
+/// Appends a record: owner, type, class, time to live, and the data after its length (RFC 1035, 4.1.3).
 fn emit_record(
     encoder: &mut BinEncoder<'_>,
     owner: &Name,
@@ -41,8 +41,8 @@ fn emit_address(encoder: &mut BinEncoder<'_>, owner: &Name) -> ProtoResult<()> {
     emit_record(encoder, owner, 300, &address.0)
 }
 
-/// An alias and the address of its host, behind a header (RFC 1035, 4.1.1). The second owner and the end of the
-/// alias's data are pointers to names that stand already.
+/// An alias and the address of its host, after a header (RFC 1035, 4.1.1). The second owner and the end of the
+/// alias's data are pointers to names that are in the message already.
 pub fn write_message(alloc: Global, octets: &mut Vec<u8>) -> ProtoResult<()>
     requires { octets.old.items ≡ [] }
 {
@@ -66,7 +66,7 @@ pub fn count_answers(alloc: Global, message: &[u8]) -> Result<u16, DecodeError> 
     Ok(answers)
 }
 
-/// Prints the records behind the header, as many as it says.
+/// Prints the records after the header, as many as it says.
 pub fn print_records(rt: &(impl AllocGlobal + Print), message: &[u8]) -> Result<()> {
     let answers = count_answers(rt.alloc(), message)?;
     let mut decoder = BinDecoder::new(rt.alloc(), message);

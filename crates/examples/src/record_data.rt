@@ -53,7 +53,7 @@ pub fn host_of(data: &RData) -> Option<&Name> {
     }
 }
 
-/// Puts record data in the order of its canonical octets, and drops what stands twice.
+/// Puts record data in the order of its canonical octets, and drops what is twice.
 pub fn sort_records(records: &mut Vec<RData>) {
     records.sort_unstable();
     records.dedup();
@@ -72,7 +72,7 @@ pub fn octets_of(alloc: Global, data: &RData, octets: &mut Vec<u8>) -> ProtoResu
     Ok(())
 }
 
-/// Fills a buffer with the first canonical octets, and answers how many there were.
+/// Fills a buffer with the first canonical octets, and returns how many there were.
 pub fn canonical_start(data: &RData, buffer: &mut [u8]) -> usize {
     data.canonical_octets().copy_to(buffer)
 }

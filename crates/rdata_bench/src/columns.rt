@@ -25,10 +25,10 @@ const COPIES: u64 = 8;
 
 /// Record data in a message, equal values of it and as many others, and what is written into.
 #[derive(Drop)]
-pub struct Row {
+pub struct Sample {
     record_type: RecordType,
     message: Vec<u8>,
-    place: usize,
+    offset: usize,
     length: u16,
     values: Vec<Held>,
     others: Vec<Held>,
@@ -39,20 +39,20 @@ pub struct Row {
     compares: bool,
 }
 
-impl Row {
-    /// The row of what stands at a place of the message.
+impl Sample {
+    /// The sample of the RDATA at an offset of the message.
     pub fn new(
         alloc: Global,
         record_type: RecordType,
         message: Vec<u8>,
-        place: usize,
+        offset: usize,
         length: u16,
         compares: bool,
-    ) -> Result<Row> {
-        let mut row = Row {
+    ) -> Result<Sample> {
+        let mut sample = Sample {
             record_type,
             message,
-            place,
+            offset,
             length,
             values: Vec::new(alloc),
             others: Vec::new(alloc),
@@ -62,12 +62,16 @@ impl Row {
             compares,
         };
         for _ in 0..COPIES {
-            let (value, other, next) = (row.read(alloc)?, row.read(alloc)?, row.next_value(alloc)?);
-            row.values.push(value)?;
-            row.others.push(other)?;
-            row.nexts.push(next)?;
+            let (value, other, next) = (
+                sample.read(alloc)?,
+                sample.read(alloc)?,
+                sample.next_value(alloc)?,
+            );
+            sample.values.push(value)?;
+            sample.others.push(other)?;
+            sample.nexts.push(next)?;
         }
-        Ok(row)
+        Ok(sample)
     }
 
     // Another value, that of the message with the last octet changed that can be.
@@ -102,38 +106,38 @@ impl Row {
 
     fn read_from(&self, alloc: Global, message: &[u8]) -> std::result::Result<Held, DecodeError> {
         let mut decoder = BinDecoder::new(alloc, message);
-        let _before = decoder.read_slice(self.place)?;
+        let _before = decoder.read_slice(self.offset)?;
         Held::read(&mut decoder, self.record_type, self.length)
     }
 }
 
-fn reads(alloc: Global, row: &Row, passes: u64) -> Result<()> {
+fn reads(alloc: Global, sample: &Sample, passes: u64) -> Result<()> {
     let times = passes.saturating_mul(COPIES);
-    let message = row.message.as_slice();
+    let message = sample.message.as_slice();
     let all = measured::reads(
         alloc,
         message,
-        row.place,
-        row.record_type,
-        row.length,
+        sample.offset,
+        sample.record_type,
+        sample.length,
         times,
     );
     anyhow::ensure!(all, "not read");
     Ok(())
 }
 
-fn reads_compared(alloc: Global, row: &Row, passes: u64) -> Result<()> {
+fn reads_compared(alloc: Global, sample: &Sample, passes: u64) -> Result<()> {
     for _ in 0..passes {
-        for other in &row.others {
-            anyhow::ensure!(row.read(alloc)?.0 == other.0, "read otherwise");
+        for other in &sample.others {
+            anyhow::ensure!(sample.read(alloc)?.0 == other.0, "read otherwise");
         }
     }
     Ok(())
 }
 
 #[inline(never)]
-fn emits(alloc: Global, row: &mut Row, passes: u64) -> Result<()> {
-    let Row { values, octets, .. } = row;
+fn emits(alloc: Global, sample: &mut Sample, passes: u64) -> Result<()> {
+    let Sample { values, octets, .. } = sample;
     let mut left = passes;
     for _ in 0..passes {
         if left == 0 {
@@ -155,8 +159,8 @@ fn emits(alloc: Global, row: &mut Row, passes: u64) -> Result<()> {
 }
 
 #[inline(never)]
-fn emits_fresh(alloc: Global, row: &mut Row, passes: u64) -> Result<()> {
-    let Row { values, octets, .. } = row;
+fn emits_fresh(alloc: Global, sample: &mut Sample, passes: u64) -> Result<()> {
+    let Sample { values, octets, .. } = sample;
     for _ in 0..passes {
         for value in values.iter() {
             octets.clear();
@@ -168,8 +172,8 @@ fn emits_fresh(alloc: Global, row: &mut Row, passes: u64) -> Result<()> {
 }
 
 #[inline(never)]
-fn prints(row: &mut Row, passes: u64) -> Result<()> {
-    let Row { values, text, .. } = row;
+fn prints(sample: &mut Sample, passes: u64) -> Result<()> {
+    let Sample { values, text, .. } = sample;
     for _ in 0..passes {
         for value in values.iter() {
             text.clear();
@@ -185,8 +189,8 @@ fn prints(row: &mut Row, passes: u64) -> Result<()> {
 
 // The texts of a zone file, of OPT too.
 #[inline(never)]
-fn prints_zone_texts(row: &mut Row, passes: u64) -> Result<()> {
-    let Row { values, text, .. } = row;
+fn prints_zone_texts(sample: &mut Sample, passes: u64) -> Result<()> {
+    let Sample { values, text, .. } = sample;
     for _ in 0..passes {
         for value in values.iter() {
             text.clear();
@@ -197,18 +201,18 @@ fn prints_zone_texts(row: &mut Row, passes: u64) -> Result<()> {
 }
 
 #[inline(never)]
-fn clones(row: &Row, passes: u64) -> Result<()> {
+fn clones(sample: &Sample, passes: u64) -> Result<()> {
     for _ in 0..passes {
-        for value in &row.values {
+        for value in &sample.values {
             anyhow::ensure!(measured::clones(&value.0), "not cloned");
         }
     }
     Ok(())
 }
 
-fn clones_compared(row: &Row, passes: u64) -> Result<()> {
+fn clones_compared(sample: &Sample, passes: u64) -> Result<()> {
     for _ in 0..passes {
-        for value in &row.values {
+        for value in &sample.values {
             anyhow::ensure!(value.copy()?.0 == value.0, "cloned otherwise");
         }
     }
@@ -216,9 +220,9 @@ fn clones_compared(row: &Row, passes: u64) -> Result<()> {
 }
 
 #[inline(never)]
-fn equals(row: &Row, passes: u64) -> Result<()> {
+fn equals(sample: &Sample, passes: u64) -> Result<()> {
     for _ in 0..passes {
-        for (value, other) in row.values.iter().zip(row.others.iter()) {
+        for (value, other) in sample.values.iter().zip(sample.others.iter()) {
             anyhow::ensure!(value.0 == other.0, "values that are not equal");
         }
     }
@@ -249,33 +253,33 @@ fn orders(values: &[Held], others: &[Held], passes: u64) -> Result<()> {
 
 // Copies all canonical octets.
 #[inline(never)]
-fn copies(row: &Row, passes: u64) -> Result<()> {
+fn copies(sample: &Sample, passes: u64) -> Result<()> {
     let mut buffer = [0u8; 512];
     for _ in 0..passes {
-        for value in &row.values {
+        for value in &sample.values {
             let count = value.0.canonical_octets().copy_to(&mut buffer);
-            anyhow::ensure!(count > 0 || row.length == 0, "no octets");
+            anyhow::ensure!(count > 0 || sample.length == 0, "no octets");
         }
     }
     Ok(())
 }
 
 /// One column: so many rounds of the call.
-pub fn column(alloc: Global, row: &mut Row, name: &str, rounds: u64) -> Result<()> {
+pub fn column(alloc: Global, sample: &mut Sample, name: &str, rounds: u64) -> Result<()> {
     let passes = rounds / COPIES;
     match name {
-        "read" if row.compares => reads_compared(alloc, row, passes),
-        "clone" if row.compares => clones_compared(row, passes),
-        "read" => reads(alloc, row, passes),
-        "emit" => emits(alloc, row, passes),
-        "fresh" => emits_fresh(alloc, row, passes),
-        "print" => prints(row, passes),
-        "zone" => prints_zone_texts(row, passes),
-        "clone" => clones(row, passes),
-        "equal" => equals(row, passes),
-        "cmp" => orders(row.values.as_slice(), row.others.as_slice(), passes),
-        "next" => orders(row.values.as_slice(), row.nexts.as_slice(), passes),
-        "canonical" => copies(row, passes),
+        "read" if sample.compares => reads_compared(alloc, sample, passes),
+        "clone" if sample.compares => clones_compared(sample, passes),
+        "read" => reads(alloc, sample, passes),
+        "emit" => emits(alloc, sample, passes),
+        "fresh" => emits_fresh(alloc, sample, passes),
+        "print" => prints(sample, passes),
+        "zone" => prints_zone_texts(sample, passes),
+        "clone" => clones(sample, passes),
+        "equal" => equals(sample, passes),
+        "cmp" => orders(sample.values.as_slice(), sample.others.as_slice(), passes),
+        "next" => orders(sample.values.as_slice(), sample.nexts.as_slice(), passes),
+        "canonical" => copies(sample, passes),
         _ => Ok(()),
     }
 }
@@ -283,14 +287,14 @@ pub fn column(alloc: Global, row: &mut Row, name: &str, rounds: u64) -> Result<(
 /// The tenths of a nanosecond of one call in the quickest part of the rounds.
 pub fn least(
     rt: &(impl Clock + AllocGlobal),
-    row: &mut Row,
+    sample: &mut Sample,
     name: &str,
     rounds: u64,
 ) -> Result<u128> {
     let part = rounds / PARTS / COPIES * COPIES;
     let mut least = u128::MAX;
     for _ in 0..PARTS {
-        let (_, time) = timed!(rt, column(rt.alloc(), row, name, part)?);
+        let (_, time) = timed!(rt, column(rt.alloc(), sample, name, part)?);
         least = least.min(time.as_nanos().saturating_mul(10) / u128::from(part.max(1)));
     }
     Ok(least)

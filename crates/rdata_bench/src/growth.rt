@@ -3,7 +3,7 @@
 //! Each line has a curve, a size and the nanoseconds of an octet, tabs between: where they stay the same the time is linear,
 //! and where they double with the size it is a square.
 
-use crate::columns::{Row, least};
+use crate::columns::{Sample, least};
 use crate::names::{write, zone};
 use anyhow::Result;
 use dns_rdata::{Name, RDataEncoding, RecordType};
@@ -33,17 +33,17 @@ fn print_line(
     Ok(())
 }
 
-// The time of a column of a row.
-fn print_row(
+// The time of a column of a sample.
+fn print_sample(
     rt: &(impl AllocGlobal + Clock + Print),
     curve: &str,
     column: &str,
     size: usize,
-    row: &mut Row,
+    sample: &mut Sample,
 ) -> Result<()> {
-    let octets = row.len();
+    let octets = sample.len();
     let rounds = 2_000_000 / (octets as u64).max(1) + 80;
-    let tenths = least(rt, row, column, rounds)?;
+    let tenths = least(rt, sample, column, rounds)?;
     print_line(rt, curve, size, tenths, octets)
 }
 
@@ -89,30 +89,30 @@ fn of_one_hash(alloc: Global, count: usize) -> Result<Vec<Name>> {
 }
 
 // A name, and pointers each to the one before; the data is the last.
-fn pointers(alloc: Global, count: usize) -> Result<Row> {
+fn pointers(alloc: Global, count: usize) -> Result<Sample> {
     let mut message = Vec::from_slice(alloc, b"\x01a\x00")?;
     let mut target = 0usize;
     for _ in 0..count {
-        let place = message.len();
+        let offset = message.len();
         message.extend_from_slice(&(49152 + target % 16384).to_be_bytes()[6..])?;
-        target = place;
+        target = offset;
     }
-    Row::new(alloc, RecordType::NS, message, target, 2, false)
+    Sample::new(alloc, RecordType::NS, message, target, 2, false)
 }
 
 // So many strings of 255 octets.
-fn strings(alloc: Global, count: usize) -> Result<Row> {
+fn strings(alloc: Global, count: usize) -> Result<Sample> {
     let mut message = Vec::new(alloc);
     for _ in 0..count {
         message.push(255u8)?;
         message.extend_from_slice([97u8; 255].as_slice())?;
     }
     let length = u16::try_from(message.len()).unwrap_or(u16::MAX);
-    Row::new(alloc, RecordType::TXT, message, 0, length, false)
+    Sample::new(alloc, RecordType::TXT, message, 0, length, false)
 }
 
 // A bitmap of so many windows, each of 32 octets.
-fn windows(alloc: Global, count: usize) -> Result<Row> {
+fn windows(alloc: Global, count: usize) -> Result<Sample> {
     let mut message = Vec::from_slice(alloc, [0u8; 6].as_slice())?;
     for number in 0..count {
         message.push((number % 256) as u8)?;
@@ -120,7 +120,7 @@ fn windows(alloc: Global, count: usize) -> Result<Row> {
         message.extend_from_slice([0x5au8; 32].as_slice())?;
     }
     let length = u16::try_from(message.len()).unwrap_or(u16::MAX);
-    Row::new(alloc, RecordType::CSYNC, message, 0, length, false)
+    Sample::new(alloc, RecordType::CSYNC, message, 0, length, false)
 }
 
 /// Prints the curves.
@@ -135,19 +135,19 @@ pub fn print_growth(rt: &(impl AllocGlobal + Clock + Print)) -> Result<()> {
         print_names(rt, "names of one hash written", names.as_slice())?;
     }
     for count in [10usize, 100, 1000, 8000] {
-        let mut row = pointers(alloc, count)?;
-        print_row(rt, "pointers read", "read", count, &mut row)?;
+        let mut sample = pointers(alloc, count)?;
+        print_sample(rt, "pointers read", "read", count, &mut sample)?;
     }
     for count in [1usize, 16, 64, 255] {
-        let mut row = strings(alloc, count)?;
-        print_row(rt, "strings read", "read", count, &mut row)?;
-        print_row(rt, "strings emitted", "fresh", count, &mut row)?;
+        let mut sample = strings(alloc, count)?;
+        print_sample(rt, "strings read", "read", count, &mut sample)?;
+        print_sample(rt, "strings emitted", "fresh", count, &mut sample)?;
     }
     for count in [1usize, 16, 64, 256] {
-        let mut row = windows(alloc, count)?;
-        print_row(rt, "windows read", "read", count, &mut row)?;
-        print_row(rt, "windows emitted", "fresh", count, &mut row)?;
-        print_row(rt, "windows compared", "equal", count, &mut row)?;
+        let mut sample = windows(alloc, count)?;
+        print_sample(rt, "windows read", "read", count, &mut sample)?;
+        print_sample(rt, "windows emitted", "fresh", count, &mut sample)?;
+        print_sample(rt, "windows compared", "equal", count, &mut sample)?;
     }
     Ok(())
 }

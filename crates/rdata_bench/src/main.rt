@@ -33,9 +33,9 @@ mod parsing;
 mod sorting;
 
 use anyhow::{Context, Result};
-use columns::{Row, column, least};
+use columns::{Sample, column, least};
 use held_data::record_type;
-use parsing::{measure_text, parses, text_row};
+use parsing::{measure_text, parses, text_sample};
 use std::alloc::Global;
 use std::io;
 use std::io::BufRead;
@@ -54,23 +54,27 @@ const COLUMNS: [&str; 10] = [
     "canonical",
 ];
 
-fn read_row(alloc: Global, line: &str, compares: bool) -> Result<Row> {
+fn read_sample(alloc: Global, line: &str, compares: bool) -> Result<Sample> {
     let mut words = line.split_whitespace();
     let record_type = record_type(words.next().context("a type")?)?;
-    let place = words.next().context("a place")?.parse::<usize>()?;
+    let offset = words.next().context("an offset")?.parse::<usize>()?;
     let length = words.next().context("a length")?.parse::<u16>()?;
     let octets = match words.next().context("octets")? {
         "-" => "",
         digits => digits,
     };
     let message = hex::decode(alloc, octets)?;
-    Row::new(alloc, record_type, message, place, length, compares)
+    Sample::new(alloc, record_type, message, offset, length, compares)
 }
 
-fn measure(rt: &(impl Clock + AllocGlobal + Print), row: &mut Row, rounds: u64) -> Result<()> {
-    print!(rt; "{}", row.record_type())?;
+fn measure(
+    rt: &(impl Clock + AllocGlobal + Print),
+    sample: &mut Sample,
+    rounds: u64,
+) -> Result<()> {
+    print!(rt; "{}", sample.record_type())?;
     for name in COLUMNS {
-        let tenths = least(rt, row, name, rounds)?;
+        let tenths = least(rt, sample, name, rounds)?;
         print!(rt; "\t{}.{}", tenths / 10, tenths % 10)?;
     }
     println!(rt; "")?;
@@ -91,7 +95,7 @@ fn main(rt: HostRuntime) -> Result<()> {
         ("options", Some(count)) => options::measure_options(&rt, count.parse::<u16>()?),
         ("parse", Some(rounds)) => measure_texts(&rt, rounds.parse::<u64>()?),
         ("names", Some(rounds)) => names::measure_names(&rt, rounds.parse::<u32>()?),
-        (rounds, None) => measure_rows(&rt, rounds.parse::<u64>()?),
+        (rounds, None) => measure_samples(&rt, rounds.parse::<u64>()?),
         (rounds, Some(name)) => {
             let compares = args.next().is_some();
             take_column(&rt, rounds.parse::<u64>()?, name.as_str(), compares)
@@ -99,15 +103,15 @@ fn main(rt: HostRuntime) -> Result<()> {
     }
 }
 
-fn measure_rows(rt: &HostRuntime, rounds: u64) -> Result<()> {
+fn measure_samples(rt: &HostRuntime, rounds: u64) -> Result<()> {
     print!(rt; "type")?;
     for name in COLUMNS {
         print!(rt; "\t{name}")?;
     }
     println!(rt; "")?;
     for line in io::BufReader::new(rt.alloc(), rt.reader())?.lines(rt.alloc()) {
-        let mut row = read_row(rt.alloc(), line?.as_str(), false)?;
-        measure(rt, &mut row, rounds)?;
+        let mut sample = read_sample(rt.alloc(), line?.as_str(), false)?;
+        measure(rt, &mut sample, rounds)?;
     }
     Ok(())
 }
@@ -118,11 +122,11 @@ fn take_column(rt: &HostRuntime, rounds: u64, name: &str, compares: bool) -> Res
     for line in io::BufReader::new(rt.alloc(), rt.reader())?.lines(rt.alloc()) {
         let line = line?;
         if is_zone || name == "parse" {
-            let (record_type, text) = text_row(line.as_str())?;
+            let (record_type, text) = text_sample(line.as_str())?;
             parses(rt.alloc(), record_type, text, is_zone, rounds)?;
         } else {
-            let mut row = read_row(rt.alloc(), line.as_str(), compares)?;
-            column(rt.alloc(), &mut row, name, rounds)?;
+            let mut sample = read_sample(rt.alloc(), line.as_str(), compares)?;
+            column(rt.alloc(), &mut sample, name, rounds)?;
         }
     }
     Ok(())

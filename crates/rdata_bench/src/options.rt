@@ -70,7 +70,7 @@ impl Body {
     }
 }
 
-// So many options: their order, what they hold, whether they stand in that order from the last one on, and whether the one
+// So many options: their order, what they hold, whether they are in that order from the last one on, and whether the one
 // that comes last in rising order has another code.
 #[derive(Drop)]
 struct Options<'a> {
@@ -110,8 +110,8 @@ impl Options<'_> {
         let mut left = self.differs;
         let mut octets = Vec::new(alloc);
         for i in 0..self.count {
-            let place = if self.turned { self.count - 1 - i } else { i };
-            let number = self.number(place);
+            let index = if self.turned { self.count - 1 - i } else { i };
+            let number = self.number(index);
             let is_last = left && number == greatest;
             left = left && !is_last;
             self.body.write(number, is_last, &mut octets)?;

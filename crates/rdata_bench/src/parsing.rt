@@ -10,7 +10,7 @@ use std::rt::Clock;
 use std::time::Instant;
 
 /// The type and the text of a line `TYPE TEXT`.
-pub fn text_row(line: &str) -> Result<(RecordType, &str)> {
+pub fn text_sample(line: &str) -> Result<(RecordType, &str)> {
     let (kind, text) = line.split_once(' ').context("a type and a text")?;
     Ok((kind.parse::<RecordType>()?, text))
 }
@@ -71,7 +71,7 @@ pub fn measure_text(
     line: &str,
     rounds: u64,
 ) -> Result<()> {
-    let (record_type, text) = text_row(line)?;
+    let (record_type, text) = text_sample(line)?;
     print!(rt; "{record_type}\t")?;
     measure_form(rt, record_type, text, false, rounds)?;
     print!(rt; "\t")?;

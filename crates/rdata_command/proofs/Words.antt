@@ -30,8 +30,9 @@ pub type_read : (w : List ℕ) (r : Result RecordType DecodeError) → ReadsType
 type_read w (Ok t) h none = inr h.0
 type_read w (Err e) h none = λ t is. ⊎_elim (λ (k : (n : ℕ) × IsDecimalWord w n × (n < 65536) × (t ≡ record_type_of n)). none k.0 k.1 k.2) (λ k. h.1 t k) is
 
--- three elements, four and five, each by its place
-pub three_items : {X : Type 0} (xs : List X) (a b c : X) → 3 ≤ length xs → length xs < 4 → a ≡ get_or xs 0 a → b ≡ get_or xs 1 b → c ≡ get_or xs 2 c → xs ≡ a ∷ b ∷ c ∷ []
+-- three elements, four and five, each by its offset
+pub three_items : {X : Type 0} (xs : List X) (a b c : X) → 3 ≤ length xs → length xs < 4 → a ≡ get_or xs 0 a → b ≡ get_or xs 1 b → c ≡ get_or xs 2 c
+    → xs ≡ a ∷ b ∷ c ∷ []
 three_items [] a b c h k _ _ _ = absurd (omega arith)
 three_items (v ∷ []) a b c h k _ _ _ = absurd (omega arith)
 three_items (v ∷ w ∷ []) a b c h k _ _ _ = absurd (omega arith)
@@ -55,14 +56,14 @@ ReadWords words a b c d = words ≡ codes "read" ∷ a ∷ b ∷ c ∷ d ∷ []
 
 module _ {words : List (List ℕ)} {a b c d : List ℕ} (is : ReadWords words a b c d) where
   same_words : {t : RecordType} {p n : ℕ} {m : List ℕ} (k : Asks words t p n m)
-      → (k.type_word ≡ a) × (k.place_word ≡ b) × (k.length_word ≡ c) × (k.octets_word ≡ d)
-  same_words k = let e : ReadWords words k.type_word k.place_word k.length_word k.octets_word = k.spelled in (cc, cc, cc, cc)
+      → (k.type_word ≡ a) × (k.offset_word ≡ b) × (k.length_word ≡ c) × (k.octets_word ≡ d)
+  same_words k = let e : ReadWords words k.type_word k.offset_word k.length_word k.octets_word = k.spelled in (cc, cc, cc, cc)
 
   pub no_type : ((t : RecordType) → ¬ (IsTypeWord a t)) → NoRequest words
   no_type none = record { none = λ t p n m k. none t (subst (λ (w : List ℕ). IsTypeWord w t) (same_words k).0 k.type_is) }
 
-  pub no_place : ((p : ℕ) → ¬ (IsDecimalWord b p)) → NoRequest words
-  no_place none = record { none = λ t p n m k. none p (subst (λ (w : List ℕ). IsDecimalWord w p) (same_words k).1 k.place_is) }
+  pub no_offset : ((p : ℕ) → ¬ (IsDecimalWord b p)) → NoRequest words
+  no_offset none = record { none = λ t p n m k. none p (subst (λ (w : List ℕ). IsDecimalWord w p) (same_words k).1 k.offset_is) }
 
   pub no_length : ((n : ℕ) → IsDecimalWord c n → n < 65536 → ⊥) → NoRequest words
   no_length none = record { none = λ t p n m k. none n (subst (λ (w : List ℕ). IsDecimalWord w n) (same_words k).2 k.length_is) k.short }

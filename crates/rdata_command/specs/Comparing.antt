@@ -39,7 +39,7 @@ pub record HasOrder (t : RecordType) (left right : List ℕ) (o : Ordering) : Ty
   pub other_fills : Fills right 0 (length right) t other
   pub order : o ≡ rdata_cmp value other
 
--- values fill both messages, and their order came behind what was written before
+-- values fill both messages, and their order came after what was written before
 pub record PrintedOrder (t : RecordType) (left right : List ℕ) (before after : Option (List ℕ)) : Type 0 where
   pub order : Ordering
   pub has_order : HasOrder t left right order
@@ -49,7 +49,7 @@ pub record PrintedOrder (t : RecordType) (left right : List ℕ) (before after :
 abbrev pub NoOrder : RecordType → List ℕ → List ℕ → Type 0
 NoOrder t left right = NoValue left 0 (length left) t ⊎ NoValue right 0 (length right) t
 
--- the words ask for the order of two values, and it came behind what was written before
+-- the words ask for the order of two values, and it came after what was written before
 pub record PrintsOrder (words : List (List ℕ)) (before after : Option (List ℕ)) : Type 0 where
   pub type : RecordType
   pub left : List ℕ

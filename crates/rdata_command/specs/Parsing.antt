@@ -3,7 +3,7 @@ use Rattle.std.specs.Prelude.{◌≡◌, ◌≢◌, ◌⊎◌, ℕ, Option, List
 use Rattle.std.specs.Io.KnownBytes.{Appends}
 use Rattle.dns_text.specs.TextWords.{NoTextWords}
 use Rattle.dns_types.specs.declared.record_type.RecordType.{RecordType}
-use Rattle.dns_rdata.specs.{declared.record_data.RData.RData, DataWords.IsDataText, DataWords.GivesNone}
+use Rattle.dns_rdata.specs.{declared.record_data.RData.RData, DataTokens.IsDataText, DataTokens.GivesNone}
 use Rattle.rdata_command.specs.{Request.IsTypeWord, Report.IsReport}
 
 -- `parse TYPE TEXT`: the data of a record of this type, in this text
@@ -24,7 +24,7 @@ NotParse words = (a b : List ℕ) → words ≢ codes "parse" ∷ a ∷ b ∷ []
 abbrev pub NoDataText : RecordType → List ℕ → Type 0
 NoDataText t text = NoTextWords text ⊎ GivesNone t text
 
--- the text is of a value, and its lines came behind what was written before
+-- the text is of a value, and its lines came after what was written before
 pub record PrintedText (t : RecordType) (text : List ℕ) (before after : Option (List ℕ)) : Type 0 where
   pub value : RData
   pub is_text : IsDataText t text value
@@ -32,7 +32,7 @@ pub record PrintedText (t : RecordType) (text : List ℕ) (before after : Option
   pub report : IsReport t value lines
   pub appended : Appends before after lines
 
--- the words ask for a text of a value, and its lines came behind what was written before
+-- the words ask for a text of a value, and its lines came after what was written before
 pub record PrintsText (words : List (List ℕ)) (before after : Option (List ℕ)) : Type 0 where
   pub type : RecordType
   pub text : List ℕ

@@ -5,7 +5,7 @@ use Rattle.hex.specs.Hex.{encode_lower}
 use Rattle.dns_fields.specs.declared.RDataEncoding.TheVariants.{StandardRecord}
 use Rattle.dns_types.specs.{declared.error.ProtoError.ProtoError, declared.record_type.RecordType.RecordType, RecordTypes.number_of}
 use Rattle.dns_types.specs.declared.error.ProtoError.TheVariants.{Memory}
-use Rattle.dns_names_wire.specs.{State.Writing, Words.Appended, Words.Stopped}
+use Rattle.dns_names_wire.specs.{State.Writing, Terms.Appended, Terms.Stopped}
 use Rattle.dns_rdata.specs.{declared.record_data.RData.RData, Texts.data_text}
 use Rattle.dns_rdata.specs.Data.{Fills, NoValue, fields_of, mode_for, data_octets}
 use Rattle.rdata_command.specs.Request.{Asks}
@@ -34,7 +34,7 @@ pub record EmitsFresh (v : RData) (octets : List ℕ) : Type 0 where
   pub appended : Appended (mode_for StandardRecord v) (fresh target) (fields_of v).kinds (fields_of v).values after
   pub same : after.octets ≡ octets
 
--- a fresh encoder refuses the value, and not for memory
+-- a fresh encoder rejects the value, and not for memory
 pub record EmitsNothing (v : RData) : Type 0 where
   pub target : ℕ
   pub after : Writing
@@ -43,7 +43,8 @@ pub record EmitsNothing (v : RData) : Type 0 where
   pub stopped : Stopped error (fresh target) (fields_of v).kinds (fields_of v).values after
 
 abbrev pub IsEmittedText : RData → List ℕ → Type 0
-IsEmittedText v text = ((octets : List ℕ) × EmitsFresh v octets × (text ≡ octets_text octets)) ⊎ (EmitsNothing v × (text ≡ codes "none"))
+IsEmittedText v text =
+    ((octets : List ℕ) × EmitsFresh v octets × (text ≡ octets_text octets)) ⊎ (EmitsNothing v × (text ≡ codes "none"))
 
 -- four lines: the number of the type, the value's text, its canonical octets, and its octets from a fresh encoder
 pub record IsReport (t : RecordType) (v : RData) (lines : List ℕ) : Type 0 where
@@ -53,7 +54,7 @@ pub record IsReport (t : RecordType) (v : RData) (lines : List ℕ) : Type 0 whe
       ++ ((10 ∷ codes "text ") ++ (printed_text v ++ ((10 ∷ codes "canonical ") ++ (octets_text (data_octets v)
       ++ ((10 ∷ codes "emitted ") ++ (emitted ++ (10 ∷ []))))))))
 
--- a value fills the octets, and its lines came behind what was written before
+-- a value fills the octets, and its lines came after what was written before
 pub record Printed (m : List ℕ) (p n : ℕ) (t : RecordType) (before after : Option (List ℕ)) : Type 0 where
   pub value : RData
   pub fills : Fills m p n t value
@@ -61,20 +62,20 @@ pub record Printed (m : List ℕ) (p n : ℕ) (t : RecordType) (before after : O
   pub report : IsReport t value lines
   pub appended : Appends before after lines
 
--- the words ask for data that a value fills, and its lines came behind what was written before
+-- the words ask for data that a value fills, and its lines came after what was written before
 pub record PrintsValue (words : List (List ℕ)) (before after : Option (List ℕ)) : Type 0 where
   pub type : RecordType
-  pub place : ℕ
+  pub offset : ℕ
   pub size : ℕ
   pub message : List ℕ
-  pub asks : Asks words type place size message
-  pub printed : Printed message place size type before after
+  pub asks : Asks words type offset size message
+  pub printed : Printed message offset size type before after
 
 -- the words ask for data that no value fills
 pub record RefusesValue (words : List (List ℕ)) : Type 0 where
   pub type : RecordType
-  pub place : ℕ
+  pub offset : ℕ
   pub size : ℕ
   pub message : List ℕ
-  pub asks : Asks words type place size message
-  pub none : NoValue message place size type
+  pub asks : Asks words type offset size message
+  pub none : NoValue message offset size type

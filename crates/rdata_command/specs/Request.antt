@@ -24,12 +24,12 @@ IsOctetsWord word octets = ((word ≡ codes "-") × (octets ≡ [])) ⊎ ((word 
 -- `read TYPE PLACE LENGTH OCTETS`: the data of a record of this type, in the n octets of the message from p
 pub record Asks (words : List (List ℕ)) (t : RecordType) (p n : ℕ) (m : List ℕ) : Type 0 where
   pub type_word : List ℕ
-  pub place_word : List ℕ
+  pub offset_word : List ℕ
   pub length_word : List ℕ
   pub octets_word : List ℕ
-  pub spelled : words ≡ codes "read" ∷ type_word ∷ place_word ∷ length_word ∷ octets_word ∷ []
+  pub spelled : words ≡ codes "read" ∷ type_word ∷ offset_word ∷ length_word ∷ octets_word ∷ []
   pub type_is : IsTypeWord type_word t
-  pub place_is : IsDecimalWord place_word p
+  pub offset_is : IsDecimalWord offset_word p
   pub length_is : IsDecimalWord length_word n
   pub octets_are : IsOctetsWord octets_word m
   pub inside : p ≤ length m

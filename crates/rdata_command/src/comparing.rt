@@ -1,7 +1,7 @@
 //! The command `cmp`: the order of two records' data.
 
 ghost use Rattle.std.specs.Prelude.{◌≡◌, ◌⊎◌, ◌<◌, [], ◌∷◌, codes, length as size, IfOk, IfErr, MatchOption};
-ghost use Rattle.dns_names_wire.specs.Words.{UnlessMemory};
+ghost use Rattle.dns_names_wire.specs.Terms.{UnlessMemory};
 ghost use Rattle.std.specs.Io.KnownBytes.{Appends};
 ghost use Rattle.rdata_command.specs.Request.{texts};
 ghost use Rattle.rdata_command.specs.Comparing.{NotCompare, AsksOrder, NoOrderRequest, HasOrder, PrintedOrder, NoOrder, order_line};
@@ -24,7 +24,7 @@ pub struct Pair {
     pub right: Vec<u8>,
 }
 
-// The three words behind the command `cmp`.
+// The three words after the command `cmp`.
 fn order_words(words: &[String]) -> Option<(&str, &str, &str)>
     ensures { MatchOption result (NotCompare (texts words.now))
         (λ w. texts words.now ≡ codes "cmp" ∷ w.0.now ∷ w.1.now ∷ w.2.now ∷ []) }

@@ -4,7 +4,7 @@ ghost use Rattle.std.specs.Prelude.{◌≡◌, ◌≢◌, ◌⊎◌, [], ◌∷�
 ghost use Rattle.std.specs.Io.KnownBytes.{Appends};
 ghost use Rattle.rdata_command.specs.Request.{texts};
 ghost use Rattle.rdata_command.specs.Parsing.{NotParse, AsksText, NoTextRequest, PrintedText, NoDataText};
-ghost use Rattle.dns_rdata.specs.DataWords.{IsDataText};
+ghost use Rattle.dns_rdata.specs.DataTokens.{IsDataText};
 
 use crate::report::{lines, reject, say};
 use crate::request::record_type;
@@ -13,7 +13,7 @@ use held_data::Held;
 use std::alloc::Global;
 use std::io;
 
-// The two words behind the command `parse`.
+// The two words after the command `parse`.
 fn parse_words(words: &[String]) -> Option<(&str, &str)>
     ensures { MatchOption result (NotParse (texts words.now))
         (λ w. texts words.now ≡ codes "parse" ∷ w.0.now ∷ w.1.now ∷ []) }

@@ -1,9 +1,9 @@
-//! The answer to a request.
+//! The result of a request.
 
 ghost use Rattle.std.specs.Prelude.{◌≡◌, ◌≢◌, ◌≤◌, ◌<◌, ◌⊎◌, ℕ, List, [], codes, length as size, string_bytes, IfOk, IfErr, OnOk, MatchOption};
 ghost use Rattle.std.specs.Io.KnownBytes.{Appends};
 ghost use Rattle.dns_types.specs.declared.error.DecodeError.{DecodeError as DecodeErrorValue};
-ghost use Rattle.dns_names_wire.specs.Words.{UnlessMemory};
+ghost use Rattle.dns_names_wire.specs.Terms.{UnlessMemory};
 ghost use Rattle.dns_rdata.specs.Data.{Fills, NoValue, data_octets};
 ghost use Rattle.rdata_command.specs.Report.{EmitsFresh, EmitsNothing, IsEmittedText, IsReport, Printed, printed_text, octets_text};
 
@@ -15,20 +15,20 @@ use held_data::Held;
 use std::alloc::{AllocError, Global};
 use std::{fmt, io};
 
-// Reads the data of a record at a place of a message.
+// Reads the data of a record at an offset of a message.
 fn value_at(
     alloc: Global,
     message: &[u8],
-    place: usize,
+    offset: usize,
     record_type: RecordType,
     length: u16,
 ) -> Result<RData, DecodeError>
-    requires { place ≤ size message.now }
-    ensures found { IfOk result (λ v. Fills message.now place length record_type v) }
-    ensures refused { IfErr result (λ e. UnlessMemory e (NoValue message.now place length record_type)) }
+    requires { offset ≤ size message.now }
+    ensures found { IfOk result (λ v. Fills message.now offset length record_type v) }
+    ensures refused { IfErr result (λ e. UnlessMemory e (NoValue message.now offset length record_type)) }
 {
     let mut decoder = BinDecoder::new(alloc, message);
-    let _before = decoder.read_slice(place)?;
+    let _before = decoder.read_slice(offset)?;
     RData::read(&mut decoder, record_type, Restrict::new(length))
 }
 
@@ -36,15 +36,15 @@ fn value_at(
 pub fn read_at(
     alloc: Global,
     message: &[u8],
-    place: usize,
+    offset: usize,
     record_type: RecordType,
     length: u16,
 ) -> Result<Held, DecodeError>
-    requires { place ≤ size message.now }
-    ensures found { IfOk result (λ v. Fills message.now place length record_type v.0) }
-    ensures refused { IfErr result (λ e. UnlessMemory e (NoValue message.now place length record_type)) }
+    requires { offset ≤ size message.now }
+    ensures found { IfOk result (λ v. Fills message.now offset length record_type v.0) }
+    ensures refused { IfErr result (λ e. UnlessMemory e (NoValue message.now offset length record_type)) }
 {
-    Ok(Held(value_at(alloc, message, place, record_type, length)?))
+    Ok(Held(value_at(alloc, message, offset, record_type, length)?))
 }
 
 // Writes the octets of a value to an empty vector.
@@ -59,7 +59,7 @@ fn emit_to(alloc: Global, octets: &mut Vec<u8>, value: &RData) -> Result<(), Pro
     outcome
 }
 
-// The octets of a value at the front of a message; none where it is refused for another cause than memory.
+// The octets of a value at the front of a message; none where it is rejected for another cause than memory.
 fn emitted(alloc: Global, value: &RData) -> Result<Option<Vec<u8>>, AllocError>
     ensures { IfOk result (λ found. MatchOption found (EmitsNothing value.now) (λ octets. EmitsFresh value.now octets.items)) }
 {
@@ -162,18 +162,18 @@ pub fn serve<W: io::Write, E: io::Write>(
     out: &mut W,
     err: &mut E,
 ) -> u8
-    requires { request.now.place ≤ size request.now.message.items }
+    requires { request.now.offset ≤ size request.now.message.items }
     ensures status { (result ≡ 0) ⊎ (result ≡ 1) ⊎ (result ≡ 3) ⊎ (result ≡ 4) }
-    ensures printed { result ≡ 0 → Printed request.now.message.items request.now.place request.now.length request.now.record_type (W.contents out.old)
+    ensures printed { result ≡ 0 → Printed request.now.message.items request.now.offset request.now.length request.now.record_type (W.contents out.old)
         (W.contents out.new) }
-    ensures refused { result ≡ 1 → NoValue request.now.message.items request.now.place request.now.length request.now.record_type
+    ensures refused { result ≡ 1 → NoValue request.now.message.items request.now.offset request.now.length request.now.record_type
         × Appends (W.contents out.old) (W.contents out.new) (codes "refused\n") }
     ensures memory { result ≡ 3 → Appends (W.contents out.old) (W.contents out.new) (codes "memory\n") }
 {
     let outcome = read_at(
         alloc,
         request.message.as_slice(),
-        request.place,
+        request.offset,
         request.record_type,
         request.length,
     );

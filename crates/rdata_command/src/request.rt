@@ -15,7 +15,7 @@ pub struct Request {
     /// The message.
     pub message: Vec<u8>,
     /// The offset of the RDATA in the message.
-    pub place: usize,
+    pub offset: usize,
     /// RDLENGTH.
     pub length: u16,
 }
@@ -64,12 +64,12 @@ pub fn octets(alloc: Global, word: &str) -> Result<Option<Vec<u8>>, AllocError>
     }
 }
 
-// The four words behind the command `read`.
+// The four words after the command `read`.
 fn read_words(words: &[String]) -> Option<(&str, &str, &str, &str)>
     ensures { MatchOption result (NotRead (texts words.now))
         (λ w. texts words.now ≡ codes "read" ∷ w.0.now ∷ w.1.now ∷ w.2.now ∷ w.3.now ∷ []) }
 {
-    let [command, record_type, place, length, octets] = words else {
+    let [command, record_type, offset, length, octets] = words else {
         return None;
     };
     if command.as_str() != "read" {
@@ -77,7 +77,7 @@ fn read_words(words: &[String]) -> Option<(&str, &str, &str, &str)>
     }
     Some((
         record_type.as_str(),
-        place.as_str(),
+        offset.as_str(),
         length.as_str(),
         octets.as_str(),
     ))
@@ -86,15 +86,15 @@ fn read_words(words: &[String]) -> Option<(&str, &str, &str, &str)>
 /// Reads the request from the arguments, all of them before any RDATA. Fails only if an allocation fails.
 pub fn parse(alloc: Global, words: &[String]) -> Result<Option<Request>, AllocError>
     ensures { IfOk result (λ found. MatchOption found (NoRequest (texts words.now))
-        (λ r. Asks (texts words.now) r.record_type r.place r.length r.message.items)) }
+        (λ r. Asks (texts words.now) r.record_type r.offset r.length r.message.items)) }
 {
-    let Some((type_word, place_word, length_word, octets_word)) = read_words(words) else {
+    let Some((type_word, offset_word, length_word, octets_word)) = read_words(words) else {
         return Ok(None);
     };
     let Some(record_type) = record_type(type_word) else {
         return Ok(None);
     };
-    let Some(place) = number(place_word) else {
+    let Some(offset) = number(offset_word) else {
         return Ok(None);
     };
     let Some(length) = short_number(length_word) else {
@@ -103,14 +103,14 @@ pub fn parse(alloc: Global, words: &[String]) -> Result<Option<Request>, AllocEr
     let Some(message) = octets(alloc, octets_word)? else {
         return Ok(None);
     };
-    let place = place as usize;
-    if place > message.len() {
+    let offset = offset as usize;
+    if offset > message.len() {
         return Ok(None);
     }
     Ok(Some(Request {
         record_type,
         message,
-        place,
+        offset,
         length,
     }))
 }

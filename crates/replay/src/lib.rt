@@ -1,4 +1,4 @@
-//! Replays a file of lines whose answers are known. A line is fields with a tab between each two, in which `\n` stands for
+//! Replays a file of lines whose returns are known. A line is fields with a tab between each two, in which `\n` is
 //! a line end, `\r` for a carriage return, `\t` for a tab and `\\` for a backslash. An empty line says nothing, nor does
 //! one that begins with `#`.
 #![tactic(auto)]

@@ -23,7 +23,7 @@ pub fn octets(alloc: Global, word: &str) -> Result<Vec<u8>> {
     Ok(all)
 }
 
-/// What stands before and behind the colon of a word.
+/// What is before and after the colon of a word.
 pub fn parts(word: &str) -> Result<(&str, &str)> {
     word.split_once(':').context("a word has no colon")
 }

@@ -12,7 +12,7 @@
 //!
 //! A line that cannot be used has the result `refused: ` and the reason, and the next line follows. If one token of
 //! TEXT is at fault, `, at octet ` and the offset in the line at which this token starts follow the reason. At the end
-//! of the input the exit status is 1 if some line was refused, and 0 otherwise. Only if memory runs out, or if standard
+//! of the input the exit status is 1 if some line was rejected, and 0 otherwise. Only if memory runs out, or if standard
 //! input or output fails, the program ends earlier: with status 1, and without a result for the line.
 #![tactic(auto)]
 
@@ -35,7 +35,7 @@ const NO_OCTETS: &str = "no hexadecimal digits of octets";
 
 const OUTSIDE: &str = "offset after the end of the message";
 
-// Writes the result of a line that cannot be used; the value says that it was refused.
+// Writes the result of a line that cannot be used; the value says that it was rejected.
 fn refuse<W: Write>(out: &mut W, reason: &str) -> Result<bool> {
     writeln!(out, "refused: {reason}")?;
     Ok(true)
@@ -60,7 +60,7 @@ fn first_word(line: &[u8]) -> (&[u8], &[u8]) {
     (&line[..len], &line[len..])
 }
 
-// Writes the result of a line `TYPE PLACE LENGTH OCTETS`, and returns whether it is refused.
+// Writes the result of a line `TYPE PLACE LENGTH OCTETS`, and returns whether it is rejected.
 fn write_text<W: Write>(alloc: Global, line: &[u8], out: &mut W) -> Result<bool> {
     let Ok(line) = str::from_utf8(line) else {
         return refuse(out, "octets that are not UTF-8");
@@ -69,7 +69,7 @@ fn write_text<W: Write>(alloc: Global, line: &[u8], out: &mut W) -> Result<bool>
     let Some(kind) = type_of(words.next().unwrap_or("").as_bytes()) else {
         return refuse(out, NO_TYPE);
     };
-    let Ok(place) = words.next().unwrap_or("").parse::<usize>() else {
+    let Ok(offset) = words.next().unwrap_or("").parse::<usize>() else {
         return refuse(out, NO_PLACE);
     };
     let Ok(length) = words.next().unwrap_or("").parse::<u16>() else {
@@ -79,27 +79,27 @@ fn write_text<W: Write>(alloc: Global, line: &[u8], out: &mut W) -> Result<bool>
         return refuse(out, NO_OCTETS);
     };
     if words.next().is_some() {
-        return refuse(out, "surplus word after the octets");
+        return refuse(out, "surplus token after the octets");
     }
     let message = match hex::decode(alloc, octets.trim_matches('-')) {
         Ok(message) => message,
         Err(FromHexError::OutOfMemory) => bail!("out of memory"),
         Err(_) => return refuse(out, NO_OCTETS),
     };
-    write_data(alloc, message.as_slice(), place, kind, length, out)
+    write_data(alloc, message.as_slice(), offset, kind, length, out)
 }
 
 // Writes the text of RDATA in a message, and returns whether there is none.
 fn write_data<W: Write>(
     alloc: Global,
     message: &[u8],
-    place: usize,
+    offset: usize,
     kind: RecordType,
     length: u16,
     out: &mut W,
 ) -> Result<bool> {
     let mut decoder = BinDecoder::new(alloc, message);
-    if decoder.read_slice(place).is_err() {
+    if decoder.read_slice(offset).is_err() {
         return refuse(out, OUTSIDE);
     }
     match Held::read(&mut decoder, kind, length) {
@@ -115,7 +115,7 @@ fn write_data<W: Write>(
     }
 }
 
-// Writes why a text is refused, which follows `before` octets of its line. A type without fields here has the form of
+// Writes why a text is rejected, which follows `before` octets of its line. A type without fields here has the form of
 // unknown data alone.
 fn refuse_text<W: Write>(
     out: &mut W,
@@ -135,7 +135,7 @@ fn refuse_text<W: Write>(
     Ok(true)
 }
 
-// Writes the result of a line `TYPE TEXT`, and returns whether it is refused.
+// Writes the result of a line `TYPE TEXT`, and returns whether it is rejected.
 fn write_octets<W: Write>(
     alloc: Global,
     line: &[u8],

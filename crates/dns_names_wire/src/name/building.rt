@@ -4,7 +4,7 @@ ghost use Rattle.std.specs.Prelude.{◌≡◌, ◌≤◌, ◌<◌, map, drop, le
 ghost use Rattle.std.specs.Option.{option_copied};
 ghost use Rattle.dns_fields.specs.Labels.{DomainName, IsName};
 ghost use Rattle.dns_labels.specs.Labels.{labels_of, name_of, AreNameOctets};
-ghost use Rattle.dns_names_wire.specs.NameValues.{IsTextRefusal, IsParsed, with_label, joined_name, completed, qualified, in_lowercase, parent_name};
+ghost use Rattle.dns_names_wire.specs.NameValues.{IsTextError, IsParsed, with_label, joined_name, completed, qualified, in_lowercase, parent_name};
 
 use crate::name::Name;
 use dns_labels::{NameError, NameOctets, building};
@@ -20,7 +20,7 @@ impl Name {
     /// - [`Memory`](ProtoError::Memory): an allocation failed.
     pub fn from_labels(alloc: Global, labels: &[&[u8]]) -> ProtoResult<Name>
         ensures ok { IfOk result (λ x. x ≡ qualified (map (λ label. label.now) labels.now)) }
-        ensures refused { IfErr result (λ e. IsTextRefusal e (IsName (qualified (map (λ label. label.now) labels.now)) → ⊥)) }
+        ensures refused { IfErr result (λ e. IsTextError e (IsName (qualified (map (λ label. label.now) labels.now)) → ⊥)) }
     {
         match join_labels(alloc, labels) {
             Ok(octets) => Ok(Name::from_octets(NameOctets::from_vec(octets), true)),
@@ -33,7 +33,7 @@ impl Name {
     /// [`from_labels`](Name::from_labels).
     pub fn append_label(self, label: &[u8]) -> ProtoResult<Name>
         ensures ok { IfOk result (λ x. x ≡ with_label self label.now) }
-        ensures refused { IfErr result (λ e. IsTextRefusal e (IsName (with_label self label.now) → ⊥)) }
+        ensures refused { IfErr result (λ e. IsTextError e (IsName (with_label self label.now) → ⊥)) }
     {
         let Name { octets, is_fqdn } = self;
         let mut octets = octets.into_vec()?;
@@ -52,7 +52,7 @@ impl Name {
     /// - [`Memory`](ProtoError::Memory): an allocation failed.
     pub fn append_name(self, other: &Name) -> ProtoResult<Name>
         ensures ok { IfOk result (λ x. x ≡ joined_name self other.now) }
-        ensures refused { IfErr result (λ e. IsTextRefusal e (IsName (joined_name self other.now) → ⊥)) }
+        ensures refused { IfErr result (λ e. IsTextError e (IsName (joined_name self other.now) → ⊥)) }
     {
         let Name { octets, .. } = self;
         let mut octets = octets.into_vec()?;
@@ -66,17 +66,17 @@ impl Name {
     /// The labels of both names, fully qualified. Fails as [`append_name`](Name::append_name).
     pub fn append_domain(self, domain: &Name) -> ProtoResult<Name>
         ensures ok { IfOk result (λ x. x ≡ qualified (joined_name self domain.now).labels) }
-        ensures refused { IfErr result (λ e. IsTextRefusal e (IsName (joined_name self domain.now) → ⊥)) }
+        ensures refused { IfErr result (λ e. IsTextError e (IsName (joined_name self domain.now) → ⊥)) }
     {
         let mut name = self.append_name(domain)?;
         name.set_fqdn(true);
         Ok(name)
     }
 
-    // A relative name gets labels and mark of the origin, where there is one.
+    // Appends the labels of the origin to a relative name, and takes over whether it is fully qualified.
     fn complete(self, origin: Option<&Name>) -> ProtoResult<Name>
         ensures ok { IfOk result (λ x. x ≡ completed self (option_copied origin.entry)) }
-        ensures refused { IfErr result (λ e. IsTextRefusal e (IsName (completed self (option_copied origin.entry)) → ⊥)) }
+        ensures refused { IfErr result (λ e. IsTextError e (IsName (completed self (option_copied origin.entry)) → ⊥)) }
     {
         if self.is_fqdn() {
             return Ok(self);
@@ -96,7 +96,7 @@ impl Name {
     /// - [`Memory`](ProtoError::Memory): an allocation failed.
     pub fn parse(alloc: Global, text: &str, origin: Option<&Name>) -> ProtoResult<Name>
         ensures found { IfOk result (λ x. IsParsed text.now (option_copied origin.entry) x) }
-        ensures refused { IfErr result (λ e. IsTextRefusal e ((x : DomainName) → IsParsed text.now (option_copied origin.entry) x → ⊥)) }
+        ensures refused { IfErr result (λ e. IsTextError e ((x : DomainName) → IsParsed text.now (option_copied origin.entry) x → ⊥)) }
     {
         Name::from_str(alloc, text)?.complete(origin)
     }
@@ -121,7 +121,7 @@ impl Name {
     }
 }
 
-// The octets behind the first label.
+// The octets after the first label.
 pub(super) fn without_first(octets: &[u8]) -> &[u8]
     requires { AreNameOctets octets.now }
     ensures labels { labels_of result.now ≡ drop 1 (labels_of octets.now) }
@@ -134,7 +134,7 @@ pub(super) fn without_first(octets: &[u8]) -> &[u8]
     &octets[octets[0] as usize + 1..]
 }
 
-// The octets of labels, one behind the other.
+// The octets of labels, one after the other.
 fn join_labels(alloc: Global, labels: &[&[u8]]) -> Result<Vec<u8>, NameError>
     ensures ok { IfOk result (λ octets. labels_of octets.items ≡ map (λ label. label.now) labels.now) }
     ensures octets { IfOk result (λ octets. AreNameOctets octets.items) }

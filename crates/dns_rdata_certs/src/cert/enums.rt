@@ -4,7 +4,7 @@ ghost use Rattle.std.specs.Prelude.{◌≡◌, refl, IfErr, OnErr, Some};
 ghost use Rattle.std.specs.Hash as fed;
 ghost use Rattle.dns_rdata_base.specs.Numbered.{numbered_eq, numbered_cmp, numbered_partial_cmp, numbered_hash, NumberedAt};
 ghost use Rattle.dns_rdata_base.proofs.NumberedLaws.{numbered_equiv, numbered_partial, numbered_total, numbered_order, numbered_ties, numbered_alike};
-ghost use Rattle.dns_names_wire.specs.Words.{ReadsBy, LacksOctets, IsCut};
+ghost use Rattle.dns_names_wire.specs.Terms.{ReadsBy, LacksOctets, IsTruncated};
 ghost use Rattle.dns_rdata_certs.specs.Enums.{cert_type_number, cert_type_variant, cert_type_of, cert_type_text, cert_algorithm_number};
 ghost use Rattle.dns_rdata_certs.specs.Enums.{cert_algorithm_variant, cert_algorithm_of, cert_algorithm_text};
 
@@ -91,12 +91,12 @@ impl CertType {
         u16::from(self)
     }
 
-    // The place in the declaration.
+    // The rank in the declaration.
     #[inline]
     fn variant(self) -> u8
         ensures { result ≡ cert_type_variant self }
     {
-        cert_types!(place_of, (self))
+        cert_types!(rank_of, (self))
     }
 }
 
@@ -157,9 +157,10 @@ impl Ord for CertType {
 impl BinDecodable for CertType {
     ghost stands = { NumberedAt 2 cert_type_number cert_type_of };
 
-    ghost refuses = { IsCut 2 };
+    ghost refuses = { IsTruncated 2 };
 
-    /// Reads the number in two octets, the higher one first. Where fewer are left, it is refused, and takes none.
+    /// Reads the number in two octets, the higher one first. If fewer are left, this returns
+    /// [`InsufficientBytes`](DecodeError::InsufficientBytes) and reads none.
     #[inline]
     fn read(decoder: &mut BinDecoder<'_>) -> Result<CertType, DecodeError>
         ensures reads { ReadsBy (NumberedAt 2 cert_type_number cert_type_of) result decoder.old decoder.new }
@@ -277,12 +278,12 @@ impl Algorithm {
         u8::from(self)
     }
 
-    // The place in the declaration.
+    // The rank in the declaration.
     #[inline]
     fn variant(self) -> u8
         ensures { result ≡ cert_algorithm_variant self }
     {
-        algorithms!(place_of, (self))
+        algorithms!(rank_of, (self))
     }
 }
 
@@ -343,9 +344,10 @@ impl Ord for Algorithm {
 impl BinDecodable for Algorithm {
     ghost stands = { NumberedAt 1 cert_algorithm_number cert_algorithm_of };
 
-    ghost refuses = { IsCut 1 };
+    ghost refuses = { IsTruncated 1 };
 
-    /// Reads the number in one octet. Where none is left, it is refused, and takes none.
+    /// Reads the number in one octet. If none is left, this returns
+    /// [`InsufficientBytes`](DecodeError::InsufficientBytes).
     #[inline]
     fn read(decoder: &mut BinDecoder<'_>) -> Result<Algorithm, DecodeError>
         ensures reads { ReadsBy (NumberedAt 1 cert_algorithm_number cert_algorithm_of) result decoder.old decoder.new }

@@ -66,12 +66,12 @@ impl Algorithm {
         u8::from(self)
     }
 
-    // The place in the declaration.
+    // The rank in the declaration.
     #[inline]
     fn variant(self) -> u8
         ensures { result ≡ sshfp_algorithm_variant self }
     {
-        algorithms!(place_of, (self))
+        algorithms!(rank_of, (self))
     }
 }
 

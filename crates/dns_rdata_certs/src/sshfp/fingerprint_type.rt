@@ -57,12 +57,12 @@ impl FingerprintType {
         u8::from(self)
     }
 
-    // The place in the declaration.
+    // The rank in the declaration.
     #[inline]
     fn variant(self) -> u8
         ensures { result ≡ fingerprint_type_variant self }
     {
-        types!(place_of, (self))
+        types!(rank_of, (self))
     }
 }
 

@@ -66,12 +66,12 @@ impl CertUsage {
         u8::from(self)
     }
 
-    // The place in the declaration.
+    // The rank in the declaration.
     #[inline]
     fn variant(self) -> u8
         ensures { result ≡ cert_usage_variant self }
     {
-        usages!(place_of, (self))
+        usages!(rank_of, (self))
     }
 }
 
@@ -178,12 +178,12 @@ impl Selector {
         u8::from(self)
     }
 
-    // The place in the declaration.
+    // The rank in the declaration.
     #[inline]
     fn variant(self) -> u8
         ensures { result ≡ selector_variant self }
     {
-        parts!(place_of, (self))
+        parts!(rank_of, (self))
     }
 }
 
@@ -295,12 +295,12 @@ impl Matching {
         u8::from(self)
     }
 
-    // The place in the declaration.
+    // The rank in the declaration.
     #[inline]
     fn variant(self) -> u8
         ensures { result ≡ matching_variant self }
     {
-        ways!(place_of, (self))
+        ways!(rank_of, (self))
     }
 }
 

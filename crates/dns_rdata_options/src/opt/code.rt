@@ -1,7 +1,7 @@
 //! The codes of EDNS options (RFC 6891, 9).
 
-ghost use Rattle.std.specs.Prelude.{◌≡◌, ◌++◌, refl};
-ghost use Rattle.std.specs.{Cmp.partial_equiv_from_equiv, Cmp.partial_order_from_agreeing_total, Cmp.Rules.hashing, Ordering.as_partial_cmp};
+ghost use Rattle.std.specs.Prelude.{◌≡◌, ◌++◌, ◌<◌, refl};
+ghost use Rattle.std.specs.{Cmp.partial_equiv_from_equiv, Cmp.partial_order_from_agreeing_total, Cmp.Rules.hashing, Ordering.as_partial_cmp, Ordering.nat_cmp};
 ghost use Rattle.std.specs.Hash as fed;
 ghost use Rattle.std.proofs.Common.{rules};
 ghost use Rattle.dns_rdata_base.specs.Numbered.{numbered_eq, numbered_cmp};
@@ -102,7 +102,48 @@ impl EdnsCode {
         u16::from(self)
     }
 
-    // The place in the declaration.
+    /// Compares the numbers. The records with most options are in order of codes without a name, so that case is inlined
+    /// and all others are a call.
+    #[inline(always)]
+    pub(crate) fn cmp_number(self, other: EdnsCode) -> Ordering
+        ensures numbers { result ≡ nat_cmp (edns_code_number self) (edns_code_number other) }
+        ensures first { edns_code_number self < 65536 }
+        ensures second { edns_code_number other < 65536 }
+    {
+        if let (EdnsCode::Unknown(number), EdnsCode::Unknown(another)) = (self, other) {
+            return number.cmp(&another);
+        }
+        self.cmp_named_number(other)
+    }
+
+    #[inline(never)]
+    fn cmp_named_number(self, other: EdnsCode) -> Ordering
+        ensures numbers { result ≡ nat_cmp (edns_code_number self) (edns_code_number other) }
+        ensures first { edns_code_number self < 65536 }
+        ensures second { edns_code_number other < 65536 }
+    {
+        u16::from(self).cmp(&u16::from(other))
+    }
+
+    // Compares the variants, as `cmp_number`.
+    #[inline(always)]
+    fn cmp_variant(self, other: EdnsCode) -> Ordering
+        ensures { result ≡ nat_cmp (edns_code_variant self) (edns_code_variant other) }
+    {
+        if let (EdnsCode::Unknown(_), EdnsCode::Unknown(_)) = (self, other) {
+            return Ordering::Equal;
+        }
+        self.cmp_named_variant(other)
+    }
+
+    #[inline(never)]
+    fn cmp_named_variant(self, other: EdnsCode) -> Ordering
+        ensures { result ≡ nat_cmp (edns_code_variant self) (edns_code_variant other) }
+    {
+        self.variant().cmp(&other.variant())
+    }
+
+    // The rank in the declaration.
     #[inline]
     fn variant(self) -> u8
         ensures { result ≡ edns_code_variant self }
@@ -180,12 +221,12 @@ impl Ord for EdnsCode {
 
     ghost matches_eq = { numbered_ties edns_code_number edns_code_variant };
 
-    #[inline]
+    #[inline(always)]
     fn cmp(&self, other: &EdnsCode) -> Ordering {
-        let numbers = u16::from(*self).cmp(&u16::from(*other));
+        let numbers = self.cmp_number(*other);
         if numbers.is_ne() {
             return numbers;
         }
-        self.variant().cmp(&other.variant())
+        self.cmp_variant(*other)
     }
 }

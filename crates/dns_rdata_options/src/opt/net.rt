@@ -89,7 +89,7 @@ pub(crate) fn masked_address(addr: IpAddr, bits: u8) -> IpAddr
     }
 }
 
-// Sets the bits behind so many to 0.
+// Clears the bits after so many.
 #[tactic(auto, using(crate::proofs::Masks::masked_all))]
 fn mask_octets(octets: &mut [u8], bits: u8)
     ensures { octets.new ≡ masked_octets bits octets.old }

@@ -1,7 +1,7 @@
 //! The payload of an NSID option (RFC 5001, 2.3).
 
 ghost use Rattle.std.specs.Prelude.{◌≡◌, ◌⊎◌, ◌<◌, ◌≤◌, All, length, IfOk, IfErr};
-ghost use Rattle.dns_names_wire.specs.Words.{IsMessage};
+ghost use Rattle.dns_names_wire.specs.Terms.{IsMessage};
 
 use dns_names_wire::{DecodeError, Octets, ProtoError};
 use std::alloc::{AllocError, Global};

@@ -1,10 +1,10 @@
 //! Options that are read one after the other.
 
 ghost use Rattle.std.specs.Prelude.{◌≡◌, ◌⊎◌, ◌+◌, ◌≤◌, ◌<◌, ℕ, List, Some, length as list_length, IfOk, IfErr, IfSome, OnOk};
-ghost use Rattle.dns_fields.specs.{Octets.At, Pieces.Numbered, Pieces.pieces, Pieces.ArePieces};
-ghost use Rattle.dns_names_wire.specs.Words.{ReadsTo};
-ghost use Rattle.dns_rdata_options.specs.{EdnsCode.edns_code_of, EdnsOption.IsOptionRefusal, OptionReads.ReadsPiece, OptionReads.KeptOption};
-ghost use Rattle.dns_rdata_options.specs.OPT.{opt_shape, opt_fields, IsReadOpt, IsOptRefusal};
+ghost use Rattle.dns_fields.specs.{Octets.At, Tlvs.Numbered, Tlvs.tlvs, Tlvs.AreTlvs};
+ghost use Rattle.dns_names_wire.specs.Terms.{ReadsTo};
+ghost use Rattle.dns_rdata_options.specs.{EdnsCode.edns_code_of, EdnsOption.IsOptionError, OptionReads.ReadsTlv, OptionReads.KeptOption};
+ghost use Rattle.dns_rdata_options.specs.OPT.{opt_shape, opt_fields, IsReadOpt, IsOptError};
 
 use crate::opt::OPT;
 use crate::opt::code::EdnsCode;
@@ -19,36 +19,36 @@ const SUBNET: u16 = 8;
 // or not all there.
 pub(crate) fn count_options(octets: &[u8], length: usize) -> Option<usize>
     // Whole options fill the length, and this is their number.
-    ensures there { IfSome result (λ n. (read : List (Numbered (List ℕ))) × At octets.now 0 (pieces read) length × ArePieces read × (n ≡ list_length read)) }
-    ensures counted { (read : List (Numbered (List ℕ))) → At octets.now 0 (pieces read) length → ArePieces read → result ≡ Some (list_length read) }
+    ensures there { IfSome result (λ n. (read : List (Numbered (List ℕ))) × At octets.now 0 (tlvs read) length × AreTlvs read × (n ≡ list_length read)) }
+    ensures counted { (read : List (Numbered (List ℕ))) → At octets.now 0 (tlvs read) length → AreTlvs read → result ≡ Some (list_length read) }
 {
     if octets.len() < length {
         return None;
     }
     let mut count = 0;
-    let mut place = 0;
-    while place < length {
-        if octets.len() < place + 4 {
+    let mut offset = 0;
+    while offset < length {
+        if octets.len() < offset + 4 {
             return None;
         }
-        place += 4 + u16::from_be_bytes([octets[place + 2], octets[place + 3]]) as usize;
+        offset += 4 + u16::from_be_bytes([octets[offset + 2], octets[offset + 3]]) as usize;
         count += 1;
     }
-    if place == length { Some(count) } else { None }
+    if offset == length { Some(count) } else { None }
 }
 
 // Code and octets of the next option. `None` where the record ends inside it.
 #[tactic(auto, using(dns_names_wire::proofs::FieldReads::took_number))]
-fn next_piece<'a>(
+fn next_tlv<'a>(
     decoder: &mut BinDecoder<'a>,
     start: usize,
     length: u16,
 ) -> Result<Option<(u16, &'a [u8])>, DecodeError>
     requires behind { start ≤ decoder.old.index }
     requires before { decoder.old.index < start + length }
-    ensures { ReadsPiece (λ x. (x.0, x.1.now)) start length result decoder.old decoder.new }
+    ensures { ReadsTlv (λ x. (x.0, x.1.now)) start length result decoder.old decoder.new }
 {
-    let _place = decoder.index();
+    let _offset = decoder.index();
     let end = start + length as usize;
     let code = decoder.read_u16()?.unverified();
     if decoder.index() == end {
@@ -92,7 +92,7 @@ fn keep_option(
     octets: &[u8],
 ) -> Result<(), DecodeError>
     ensures kept { OnOk result (KeptOption keeps number octets.now options.old.items options.new.items) }
-    ensures refused { IfErr result (λ e. (e ≡ DecodeError.Memory) ⊎ IsOptionRefusal (edns_code_of number) octets.now e) }
+    ensures refused { IfErr result (λ e. (e ≡ DecodeError.Memory) ⊎ IsOptionError (edns_code_of number) octets.now e) }
 {
     if keeps {
         let code = EdnsCode::from(number);
@@ -110,7 +110,7 @@ fn keep_option(
 pub(crate) fn read_options(decoder: &mut BinDecoder<'_>, length: u16) -> Result<OPT, DecodeError>
     ensures fields { ReadsTo opt_shape (λ _. Unit {0}) length opt_fields result decoder.old decoder.new }
     ensures read { IfOk result IsReadOpt }
-    ensures refused { IfErr result (λ e. IsOptRefusal length decoder.old e decoder.new) }
+    ensures refused { IfErr result (λ e. IsOptError length decoder.old e decoder.new) }
 {
     let start = decoder.index();
     let end = start + length as usize;
@@ -118,8 +118,8 @@ pub(crate) fn read_options(decoder: &mut BinDecoder<'_>, length: u16) -> Result<
     let count = count_options(decoder.unread().unverified(), length as usize);
     let keeps = count.is_some();
     let mut options = Vec::with_capacity(alloc, count.unwrap_or(0))?;
-    'pieces: while decoder.index() < end {
-        match next_piece(decoder, start, length)? {
+    'tlvs: while decoder.index() < end {
+        match next_tlv(decoder, start, length)? {
             Some((number, octets)) => keep_option(&mut options, keeps, number, octets)?,
             None => return Ok(OPT::new(Vec::new(alloc))),
         }

@@ -1,10 +1,10 @@
 //! The subnet of a client (RFC 7871, 6).
 
 ghost use Rattle.std.specs.Prelude.{◌≡◌, ◌+◌, ◌<◌, ◌≤◌, ◌/◌, ◌⊎◌, IfSome, IfNone, Bool, false, length, drop, take, Result, IfOk, IfErr, OnErr};
-ghost use Rattle.dns_fields.specs.Pieces.{option_octets, IsEmittableOption, IsAddress, Subnet as SubnetValue};
-ghost use Rattle.dns_names_wire.specs.Words.{ReadsBy, EmitsFitting, IsMessage};
+ghost use Rattle.dns_fields.specs.Tlvs.{option_octets, IsEmittableOption, IsAddress, Subnet as SubnetValue};
+ghost use Rattle.dns_names_wire.specs.Terms.{ReadsBy, EmitsFitting, IsMessage};
 ghost use Rattle.dns_rdata_options.specs.{IpNet.masked_address};
-ghost use Rattle.dns_rdata_options.specs.ClientSubnet.{subnet_value, SubnetAt, NoSubnet, IsSubnetRefusal, ReadsSubnet, prefix_octets, family_octets};
+ghost use Rattle.dns_rdata_options.specs.ClientSubnet.{subnet_value, SubnetAt, NoSubnet, IsSubnetError, ReadsSubnet, prefix_octets, family_octets};
 ghost use Rattle.dns_rdata_options.specs.ClientSubnet.{address_of, address_octets, family_of, padded, IsFamily};
 
 use crate::opt::net::{IpNet, masked_address};
@@ -185,7 +185,7 @@ fn octets_of_family(family: u16) -> Option<usize>
 #[tactic(auto, using(crate::proofs::Subnets::family_first))]
 fn read_front(octets: &[u8]) -> Result<(ClientSubnet, usize), DecodeError>
     ensures read { IfOk result (λ x. SubnetAt octets.now 0 x.0 x.1) }
-    ensures refused { IfErr result (λ e. IsSubnetRefusal octets.now e) }
+    ensures refused { IfErr result (λ e. IsSubnetError octets.now e) }
 {
     if octets.len() < 2 {
         return Err(DecodeError::InsufficientBytes);
@@ -211,7 +211,7 @@ fn read_front(octets: &[u8]) -> Result<(ClientSubnet, usize), DecodeError>
 impl BinDecodable for ClientSubnet {
     ghost stands = { SubnetAt };
 
-    ghost refuses = { λ old e _. IsSubnetRefusal (drop old.index old.message) e };
+    ghost refuses = { λ old e _. IsSubnetError (drop old.index old.message) e };
 
     /// Reads a subnet and leaves what follows it. Octets of the address that are not sent are 0.
     ///
@@ -225,7 +225,7 @@ impl BinDecodable for ClientSubnet {
     /// - [`InsufficientBytes`](DecodeError::InsufficientBytes): the message ends first.
     fn read(decoder: &mut BinDecoder<'_>) -> Result<ClientSubnet, DecodeError>
         ensures reads { ReadsBy SubnetAt result decoder.old decoder.new }
-        ensures refused { IfErr result (λ e. IsSubnetRefusal (drop decoder.old.index decoder.old.message) e) }
+        ensures refused { IfErr result (λ e. IsSubnetError (drop decoder.old.index decoder.old.message) e) }
         ensures unchanged { OnErr result (decoder.new ≡ decoder.old) }
     {
         let _start = decoder.index();

@@ -1,10 +1,10 @@
 //! The protocols of a service.
 
 ghost use Rattle.std.specs.Prelude.{◌≡◌, ◌↔◌, ℕ, List, drop, length, map, IfErr, IfOk, IsTrue, IsUtf8};
-ghost use Rattle.dns_fields.specs.{Fields.Texts, Fields.Field, Pieces.Names};
+ghost use Rattle.dns_fields.specs.{Fields.CharacterStrings, Fields.Field, Tlvs.Names};
 ghost use Rattle.std.specs.String.{string_bytes};
-ghost use Rattle.dns_names_wire.specs.Words.{ReadsBy};
-ghost use Rattle.dns_rdata_service.specs.SvcParamValue.{alpn_value, AlpnAt, IsValueRefusal, EmitsValue};
+ghost use Rattle.dns_names_wire.specs.Terms.{ReadsBy};
+ghost use Rattle.dns_rdata_service.specs.SvcParamValue.{alpn_value, AlpnAt, IsValueError, EmitsValue};
 
 use crate::items::Items;
 use bstr::BStr;
@@ -49,7 +49,7 @@ impl Alpn {
 impl BinDecodable for Alpn {
     ghost stands = { AlpnAt };
 
-    ghost refuses = { λ old e _. IsValueRefusal Names (drop old.index old.message) e };
+    ghost refuses = { λ old e _. IsValueError Names (drop old.index old.message) e };
 
     /// Reads names to the end of the decoder's octets. Allocates once for the list, and once for each name of more than
     /// 16 octets.
@@ -62,7 +62,7 @@ impl BinDecodable for Alpn {
     #[tactic(auto, using(crate::proofs::ValueReads::each_more, crate::proofs::ValueReads::names_read, crate::proofs::ValueReads::names_missing, crate::proofs::ValueReads::text_behind))]
     fn read(decoder: &mut BinDecoder<'_>) -> Result<Alpn, DecodeError>
         ensures reads { ReadsBy AlpnAt result decoder.old decoder.new }
-        ensures refused { IfErr result (λ e. IsValueRefusal Names (drop decoder.old.index decoder.old.message) e) }
+        ensures refused { IfErr result (λ e. IsValueError Names (drop decoder.old.index decoder.old.message) e) }
     {
         if decoder.len() == 0 {
             return Err(DecodeError::SvcParamMissingValue);
@@ -88,15 +88,15 @@ pub(super) fn is_text(octets: &[u8]) -> bool
     str::from_utf8(octets).is_ok()
 }
 
-// How many strings begin in the octets. Where strings fill the octets, this is their number.
+// How many strings begin in the octets. If strings fill the octets, this is their number.
 #[tactic(auto, using(dns_rdata_base::proofs::TextLists::counts_all))]
 fn strings_in(octets: &[u8]) -> usize
-    ensures { (names : List (List ℕ)) → Field octets.now 0 Texts names (length octets.now) → result ≡ length names }
+    ensures { (names : List (List ℕ)) → Field octets.now 0 CharacterStrings names (length octets.now) → result ≡ length names }
 {
     let mut count = 0;
-    let mut place = 0;
-    while place < octets.len() {
-        place += 1 + octets[place] as usize;
+    let mut offset = 0;
+    while offset < octets.len() {
+        offset += 1 + octets[offset] as usize;
         count += 1;
     }
     count

@@ -1,4 +1,4 @@
-//! Service parameters that are put into a record, or taken out of it, one by one.
+//! Service parameters that are inserted into a record, or removed from it, one by one.
 
 ghost use Rattle.std.specs.Prelude.{◌≡◌, ◌≢◌, ◌⊎◌, ◌≤◌, ◌+◌, ◌++◌, ◌∷◌, ℕ, List, drop, length, take, Some, None, IfErr, IfOk, IsTrue, OnErr, OnOk, if◌then◌else◌};
 ghost use Rattle.dns_rdata_service.specs.{Parameters.Parameter, SVCB.number_of_parameter, SVCB.value_at, SvcParamKey.key_number};
@@ -66,7 +66,7 @@ impl SVCB {
     #[tactic(auto, using(crate::proofs::Changes::inserted_finds, crate::proofs::Changes::inserted_others, crate::proofs::Changes::inserted_rises))]
     pub fn insert_as(&mut self, key: SvcParamKey, value: SvcParamValue) -> Result<(), AllocError>
         ensures inserted { OnOk result (self.new.svc_params ≡ inserted (key, value) self.old.svc_params) }
-        // The key has the value, and every other key what it had.
+        // The key has the value, and every other key has its earlier one.
         ensures found { OnOk result (value_at (key_number key) self.new.svc_params ≡ Some value) }
         ensures others { OnOk result ((n : ℕ) → n ≢ key_number key → value_at n self.new.svc_params ≡ value_at n self.old.svc_params) }
         ensures rises { OnOk result (RisesIn self.old.svc_params → RisesIn self.new.svc_params) }
@@ -74,7 +74,7 @@ impl SVCB {
         ensures priority { self.new.svc_priority ≡ self.old.svc_priority }
         ensures target { self.new.target_name ≡ self.old.target_name }
     {
-        let (at, replaces) = place_for(self.svc_params.as_slice(), key.number());
+        let (at, replaces) = index_for(self.svc_params.as_slice(), key.number());
         let alloc = self.svc_params.allocator();
         let params = mem::replace(&mut self.svc_params, Items::new(alloc));
         let mut params = params.into_vec();
@@ -98,9 +98,9 @@ impl SVCB {
     }
 }
 
-// Where a parameter with a key of this number goes, and whether it replaces the one that is there.
-#[tactic(auto, using(crate::proofs::Changes::placed_last, crate::proofs::Changes::placed_before, crate::proofs::Changes::placed_there))]
-fn place_for(params: &[Parameter], number: u16) -> (usize, bool)
+// The index at which a parameter with this key number is inserted, and whether it replaces the one that is there.
+#[tactic(auto, using(crate::proofs::Changes::inserted_last, crate::proofs::Changes::inserted_before, crate::proofs::Changes::inserted_there))]
+fn index_for(params: &[Parameter], number: u16) -> (usize, bool)
     ensures within { result.0 ≤ length params.now }
     ensures taken { IsTrue result.1 → result.0 + 1 ≤ length params.now }
     ensures there { (p : Parameter) → number_of_parameter p ≡ number
@@ -117,7 +117,7 @@ fn place_for(params: &[Parameter], number: u16) -> (usize, bool)
     (at, false)
 }
 
-// Puts a parameter at an index, in the place of the one that is there or before it.
+// Puts a parameter at an index: it replaces the one that is there, or goes before it.
 fn put_at(
     params: &mut Vec<Parameter>,
     at: usize,

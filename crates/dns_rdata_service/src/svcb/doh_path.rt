@@ -1,8 +1,8 @@
 //! The path of DNS queries over HTTPS.
 
 ghost use Rattle.std.specs.{Prelude.◌≡◌, Prelude.drop, Prelude.IfErr, Prelude.IfOk, String.string_bytes};
-ghost use Rattle.dns_names_wire.specs.Words.{ReadsBy};
-ghost use Rattle.dns_rdata_service.specs.SvcParamValue.{doh_path_value, DohPathAt, IsPathRefusal, EmitsValue};
+ghost use Rattle.dns_names_wire.specs.Terms.{ReadsBy};
+ghost use Rattle.dns_rdata_service.specs.SvcParamValue.{doh_path_value, DohPathAt, IsPathError, EmitsValue};
 
 use crate::svcb::alpn::is_text;
 use crate::svcb::unknown::emit_octets;
@@ -30,13 +30,13 @@ impl DohPath {
 impl BinDecodable for DohPath {
     ghost stands = { DohPathAt };
 
-    ghost refuses = { λ old e _. IsPathRefusal (drop old.index old.message) e };
+    ghost refuses = { λ old e _. IsPathError (drop old.index old.message) e };
 
     /// Reads to the end of the decoder's octets. Returns [`Utf8`](DecodeError::Utf8) if they are not UTF-8.
     #[inline]
     fn read(decoder: &mut BinDecoder<'_>) -> Result<DohPath, DecodeError>
         ensures reads { ReadsBy DohPathAt result decoder.old decoder.new }
-        ensures refused { IfErr result (IsPathRefusal (drop decoder.old.index decoder.old.message)) }
+        ensures refused { IfErr result (IsPathError (drop decoder.old.index decoder.old.message)) }
     {
         let left = decoder.len();
         let path = decoder.read_slice(left)?.unverified();

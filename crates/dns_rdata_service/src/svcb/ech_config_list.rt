@@ -1,32 +1,32 @@
 //! A configuration of Encrypted ClientHello.
 
 ghost use Rattle.std.specs.Prelude.{◌≡◌, drop, IfErr, IfOk};
-ghost use Rattle.dns_fields.specs.Pieces.{AnyOctets};
-ghost use Rattle.dns_names_wire.specs.Words.{ReadsBy};
-ghost use Rattle.dns_rdata_service.specs.SvcParamValue.{ech_value, EchConfigListAt, IsValueRefusal, EmitsValue};
+ghost use Rattle.dns_fields.specs.Tlvs.{AnyOctets};
+ghost use Rattle.dns_names_wire.specs.Terms.{ReadsBy};
+ghost use Rattle.dns_rdata_service.specs.SvcParamValue.{ech_value, EchConfigListAt, IsValueError, EmitsValue};
 
 use crate::svcb::unknown::emit_octets;
 use dns_names_wire::{
     BinDecodable, BinDecoder, BinEncodable, BinEncoder, DecodeError, Octets, ProtoError,
 };
-use dns_words::Base64Text;
+use dns_tokens::Base64Text;
 use std::alloc::AllocError;
 use std::fmt;
 
-/// The ECHConfigList of a service for Encrypted ClientHello, with its length in front (RFC 9848): any octets.
+/// The ECHConfigList of a service for Encrypted ClientHello, which begins with its length (RFC 9848): any octets.
 #[derive(Drop, PartialEq, Eq, Hash)]
 pub struct EchConfigList(pub Octets);
 
 impl BinDecodable for EchConfigList {
     ghost stands = { EchConfigListAt };
 
-    ghost refuses = { λ old e _. IsValueRefusal AnyOctets (drop old.index old.message) e };
+    ghost refuses = { λ old e _. IsValueError AnyOctets (drop old.index old.message) e };
 
     /// Reads to the end of the decoder's octets. Allocates once.
     #[inline]
     fn read(decoder: &mut BinDecoder<'_>) -> Result<EchConfigList, DecodeError>
         ensures reads { ReadsBy EchConfigListAt result decoder.old decoder.new }
-        ensures refused { IfErr result (λ e. IsValueRefusal AnyOctets (drop decoder.old.index decoder.old.message) e) }
+        ensures refused { IfErr result (λ e. IsValueError AnyOctets (drop decoder.old.index decoder.old.message) e) }
     {
         let left = decoder.len();
         let octets = decoder.read_vec(left)?.unverified();

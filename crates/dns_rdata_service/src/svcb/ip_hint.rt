@@ -1,7 +1,7 @@
 //! Addresses of a service.
 
 ghost use Rattle.std.specs.{Prelude.◌≡◌, Prelude.◌⊎◌, Prelude.◌∷◌, Prelude.IfOk, Prelude.IfErr, List.AllZip};
-ghost use Rattle.dns_names_wire.specs.Words.{Extends};
+ghost use Rattle.dns_names_wire.specs.Terms.{Extends};
 ghost use Rattle.dns_rdata_service.specs.Hints.{ReadsEach, RefusedBehind, EmitsEach};
 
 use crate::items::Items;
@@ -54,7 +54,7 @@ impl<T: BinEncodable> BinEncodable for IpHint<T> {
     }
 }
 
-// Appends values one behind the other.
+// Appends values one after the other.
 #[inline]
 #[tactic(auto, using(crate::proofs::EachEmits::emits_refused, crate::proofs::EachEmits::extends_on))]
 pub(super) fn emit_each<T: BinEncodable>(

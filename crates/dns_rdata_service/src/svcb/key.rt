@@ -1,13 +1,13 @@
-//! The keys of service parameters (RFC 9460, 14.3.2; RFC 9461, 5).
+//! The keys of service parameters (RFC 9460, section 14.3.2; RFC 9461, section 5).
 
 ghost use Rattle.std.specs.Prelude.{◌≡◌, ◌≢◌, ℕ, refl, IfErr, MatchOption, OnErr};
 ghost use Rattle.std.specs.Hash as fed;
 ghost use Rattle.dns_rdata_base.specs.Numbered.{NumberedAt, numbered_eq, numbered_cmp, numbered_partial_cmp, numbered_hash};
 ghost use Rattle.dns_rdata_base.proofs.NumberedLaws.{numbered_equiv, numbered_partial, numbered_total, numbered_order, numbered_ties, numbered_alike};
 ghost use Rattle.dns_fields.specs.Fields.{Number};
-ghost use Rattle.dns_names_wire.specs.Words.{ReadsBy, EmitsField, LacksOctets, IsCut};
+ghost use Rattle.dns_names_wire.specs.Terms.{ReadsBy, EmitsField, LacksOctets, IsTruncated};
 ghost use Rattle.dns_types.specs.declared.error.ProtoError.TheVariants as proto;
-ghost use Rattle.dns_rdata_service.specs.{SvcParamKey.key_number, SvcParamKey.key_variant, SvcParamKey.key_of, ParameterWords.IsNumberedKey};
+ghost use Rattle.dns_rdata_service.specs.{SvcParamKey.key_number, SvcParamKey.key_variant, SvcParamKey.key_of, ParameterTokens.IsNumberedKey};
 
 use dns_names_wire::{BinDecodable, BinDecoder, BinEncodable, BinEncoder, DecodeError, ProtoError};
 use std::cmp::Ordering;
@@ -94,7 +94,7 @@ impl SvcParamKey {
         u16::from(self)
     }
 
-    // The place in the declaration.
+    // The rank of the variant.
     #[inline]
     fn variant(self) -> u8
         ensures { result ≡ key_variant self }
@@ -179,7 +179,7 @@ impl Ord for SvcParamKey {
 impl BinDecodable for SvcParamKey {
     ghost stands = { NumberedAt 2 key_number key_of };
 
-    ghost refuses = { IsCut 2 };
+    ghost refuses = { IsTruncated 2 };
 
     /// Reads the number in two octets, the higher one first. If fewer are left, this returns an error, and the decoder
     /// is unchanged.
@@ -230,7 +230,7 @@ impl fmt::Display for SvcParamKey {
     }
 }
 
-// The number behind `key`.
+// The number after `key`.
 fn numbered(text: &str) -> Option<u16>
     ensures { MatchOption result ((n : ℕ) → ¬ (IsNumberedKey text.now n)) (IsNumberedKey text.now) }
 {
@@ -245,11 +245,11 @@ impl FromStr for SvcParamKey {
     type Err = ProtoError;
 
     ghost use Rattle.std.specs.Net.Grammar.{Parses};
-    ghost use Rattle.dns_rdata_service.specs.ParameterWords.{IsKeyText};
+    ghost use Rattle.dns_rdata_service.specs.ParameterTokens.{IsKeyText};
 
     ghost from_str_gives = { λ text r. Parses IsKeyText text r × IfErr r (λ e. e ≢ proto.Memory) };
 
-    #[tactic(auto, using(crate::proofs::ParameterWords::no_key, crate::proofs::ParameterWords::not_memory), unfolding(crate::specs::SvcParamKey::key_text))]
+    #[tactic(auto, using(crate::proofs::ParameterTokens::no_key, crate::proofs::ParameterTokens::not_memory), unfolding(crate::specs::SvcParamKey::key_text))]
     fn from_str(text: &str) -> Result<SvcParamKey, ProtoError> {
         match text {
             "mandatory" => Ok(SvcParamKey::Mandatory),

@@ -1,9 +1,9 @@
 //! The keys that a client of a service must know.
 
 ghost use Rattle.std.specs.Prelude.{◌≡◌, drop, IfErr, IfOk};
-ghost use Rattle.dns_fields.specs.Pieces.{Keys};
-ghost use Rattle.dns_names_wire.specs.Words.{ReadsBy};
-ghost use Rattle.dns_rdata_service.specs.SvcParamValue.{mandatory_value, MandatoryAt, IsValueRefusal, EmitsValue};
+ghost use Rattle.dns_fields.specs.Tlvs.{Keys};
+ghost use Rattle.dns_names_wire.specs.Terms.{ReadsBy};
+ghost use Rattle.dns_rdata_service.specs.SvcParamValue.{mandatory_value, MandatoryAt, IsValueError, EmitsValue};
 
 use crate::items::Items;
 use crate::svcb::ip_hint::emit_each;
@@ -29,7 +29,7 @@ impl Mandatory {
 impl BinDecodable for Mandatory {
     ghost stands = { MandatoryAt };
 
-    ghost refuses = { λ old e _. IsValueRefusal Keys (drop old.index old.message) e };
+    ghost refuses = { λ old e _. IsValueError Keys (drop old.index old.message) e };
 
     /// Reads keys to the end of the decoder's octets. Allocates once. Returns
     /// [`SvcParamMissingValue`](DecodeError::SvcParamMissingValue) if there are no octets, and
@@ -37,7 +37,7 @@ impl BinDecodable for Mandatory {
     #[tactic(auto, using(crate::proofs::ValueReads::each_more, crate::proofs::ValueReads::keys_read, crate::proofs::ValueReads::keys_odd, crate::proofs::ValueReads::keys_refused, crate::proofs::ValueReads::keys_missing, crate::proofs::Splits::stays_then))]
     fn read(decoder: &mut BinDecoder<'_>) -> Result<Mandatory, DecodeError>
         ensures reads { ReadsBy MandatoryAt result decoder.old decoder.new }
-        ensures refused { IfErr result (λ e. IsValueRefusal Keys (drop decoder.old.index decoder.old.message) e) }
+        ensures refused { IfErr result (λ e. IsValueError Keys (drop decoder.old.index decoder.old.message) e) }
     {
         if decoder.len() == 0 {
             return Err(DecodeError::SvcParamMissingValue);

@@ -1,9 +1,9 @@
-//! Values of keys without a form of their own.
+//! Values of keys without a format of their own.
 
 ghost use Rattle.std.specs.Prelude.{◌≡◌, drop, IfErr, IfOk};
-ghost use Rattle.dns_fields.specs.Pieces.{AnyOctets, Opaque};
-ghost use Rattle.dns_names_wire.specs.Words.{Extends, ReadsBy};
-ghost use Rattle.dns_rdata_service.specs.SvcParamValue.{unknown_value, UnknownAt, IsValueRefusal, EmitsValue};
+ghost use Rattle.dns_fields.specs.Tlvs.{AnyOctets, Opaque};
+ghost use Rattle.dns_names_wire.specs.Terms.{Extends, ReadsBy};
+ghost use Rattle.dns_rdata_service.specs.SvcParamValue.{unknown_value, UnknownAt, IsValueError, EmitsValue};
 
 use bstr::BStr;
 use dns_names_wire::{
@@ -19,13 +19,13 @@ pub struct Unknown(pub Octets);
 impl BinDecodable for Unknown {
     ghost stands = { UnknownAt };
 
-    ghost refuses = { λ old e _. IsValueRefusal AnyOctets (drop old.index old.message) e };
+    ghost refuses = { λ old e _. IsValueError AnyOctets (drop old.index old.message) e };
 
     /// Reads to the end of the decoder's octets. Allocates once.
     #[inline]
     fn read(decoder: &mut BinDecoder<'_>) -> Result<Unknown, DecodeError>
         ensures reads { ReadsBy UnknownAt result decoder.old decoder.new }
-        ensures refused { IfErr result (λ e. IsValueRefusal AnyOctets (drop decoder.old.index decoder.old.message) e) }
+        ensures refused { IfErr result (λ e. IsValueError AnyOctets (drop decoder.old.index decoder.old.message) e) }
     {
         let left = decoder.len();
         let octets = decoder.read_vec(left)?.unverified();

@@ -1,8 +1,8 @@
 //! The values of service parameters.
 
 ghost use Rattle.std.specs.Prelude.{◌≡◌, IfErr, IfOk, length};
-ghost use Rattle.dns_fields.specs.Pieces.{form_for, IsEmittable, IsBody, Addresses4, Addresses16};
-ghost use Rattle.dns_rdata_service.specs.SvcParamValue.{value_of, hint4_value, hint6_value, IsValueOf, IsKeyRefusal, IsValueRefusal, EmitsValue};
+ghost use Rattle.dns_fields.specs.Tlvs.{form_for, IsEmittable, IsBody, Addresses4, Addresses16};
+ghost use Rattle.dns_rdata_service.specs.SvcParamValue.{value_of, hint4_value, hint6_value, IsValueOf, IsKeyError, IsValueError, EmitsValue};
 ghost use Rattle.dns_rdata_service.specs.{SvcParamKey.key_number, SvcParamKey.key_of, SvcParamValue.EmitsSized};
 
 use crate::svcb::alpn::Alpn;
@@ -42,7 +42,7 @@ pub enum SvcParamValue {
 }
 
 impl SvcParamValue {
-    // The value of this key in these octets.
+    // The value of this key that these octets are.
     #[tactic(auto, using(crate::proofs::SvcbValues::hint4_back, crate::proofs::SvcbValues::hint6_back))]
     pub(super) fn of_octets(
         alloc: Global,
@@ -51,7 +51,7 @@ impl SvcParamValue {
     ) -> Result<SvcParamValue, DecodeError>
         requires { key ≡ key_of (key_number key) }
         ensures read { IfOk result (λ v. IsValueOf (key_number key) octets.now v) }
-        ensures refused { IfErr result (λ e. IsKeyRefusal (key_number key) octets.now e) }
+        ensures refused { IfErr result (λ e. IsKeyError (key_number key) octets.now e) }
     {
         let mut decoder = BinDecoder::new(alloc, octets);
         match key {
@@ -102,7 +102,7 @@ impl SvcParamValue {
 fn hint4(alloc: Global, octets: &[u8]) -> Result<IpHint<A>, DecodeError>
     ensures fit { IfOk result (λ x. IsEmittable (hint4_value x)) }
     ensures body { IfOk result (λ x. IsBody octets.now (hint4_value x)) }
-    ensures refused { IfErr result (λ e. IsValueRefusal Addresses4 octets.now e) }
+    ensures refused { IfErr result (λ e. IsValueError Addresses4 octets.now e) }
 {
     if octets.len() % 4 != 0 {
         return Err(DecodeError::InsufficientBytes);
@@ -116,7 +116,7 @@ fn hint4(alloc: Global, octets: &[u8]) -> Result<IpHint<A>, DecodeError>
 fn hint6(alloc: Global, octets: &[u8]) -> Result<IpHint<AAAA>, DecodeError>
     ensures fit { IfOk result (λ x. IsEmittable (hint6_value x)) }
     ensures body { IfOk result (λ x. IsBody octets.now (hint6_value x)) }
-    ensures refused { IfErr result (λ e. IsValueRefusal Addresses16 octets.now e) }
+    ensures refused { IfErr result (λ e. IsValueError Addresses16 octets.now e) }
 {
     if octets.len() % 16 != 0 {
         return Err(DecodeError::InsufficientBytes);
@@ -132,7 +132,7 @@ impl BinEncodable for SvcParamValue {
     /// Appends the value's length in two octets, and its octets. Returns [`Message`](ProtoError::Message) for an empty
     /// list of keys or protocols and for a protocol of more than 255 octets. A value of more than 65535 octets fits in
     /// no message: it returns [`MaxBufferSizeExceeded`](ProtoError::MaxBufferSizeExceeded).
-    #[tactic(auto, using(crate::proofs::EachEmits::place_refused, crate::proofs::EachEmits::sized_refused))]
+    #[tactic(auto, using(crate::proofs::EachEmits::length_refused, crate::proofs::EachEmits::sized_refused))]
     fn emit(&self, encoder: &mut BinEncoder<'_>) -> Result<(), ProtoError> {
         let place = encoder.place()?;
         self.emit_octets(encoder)?;

@@ -4,12 +4,12 @@ use Rattle.dns_zone_parameters.specs.Views.{parameter_value}
 use Rattle.dns_zone_parameters.proofs.ParameterSteps.{one_parameter, all_taken}
 use Rattle.dns_zone_parameters.proofs.parameters_in.Goals as goal
 
-pub words-preserved : goal.words-preserved
-words-preserved c =
+pub tokens-preserved : goal.tokens-preserved
+tokens-preserved c =
     let took = rw c.in-Some.is at c.in_ok-parameter.ensures.reads in
-    one_parameter (map parameter_value c.words.parameters.items) (map parameter_value c.push.new.self.items) (parameter_value c.in-Some.parameter) c.args.words.now
-    c.words.words c.next_parameter.new.words c.words.invariant took
-    (ap (map parameter_value) c.in_ok-push-in-Some.ensures.items ∙ map-append parameter_value c.words.parameters.items (c.in-Some.parameter ∷ []))
+    one_parameter (map parameter_value c.tokens.parameters.items) (map parameter_value c.push.new.self.items) (parameter_value c.in-Some.parameter) c.args.tokens.now
+    c.tokens.tokens c.next_parameter.new.tokens c.tokens.invariant took
+    (ap (map parameter_value) c.in_ok-push-in-Some.ensures.items ∙ map-append parameter_value c.tokens.parameters.items (c.in-Some.parameter ∷ []))
 
 pub returns-in-None-clause-reads : goal.returns-in-None-clause-reads
-returns-in-None-clause-reads c = all_taken (map parameter_value c.words.parameters.items) c.args.words.now c.words.words c.words.invariant (rw c.in-None.is at c.in_ok-parameter.ensures.reads)
+returns-in-None-clause-reads c = all_taken (map parameter_value c.tokens.parameters.items) c.args.tokens.now c.tokens.tokens c.tokens.invariant (rw c.in-None.is at c.in_ok-parameter.ensures.reads)

@@ -1,10 +1,10 @@
 use Rattle.std.proofs.Common.{length, map}
 use Rattle.dns_zone_parameters.specs.Views.{parameter_value}
-use Rattle.dns_zone_parameters.proofs.ParameterSteps.{ParametersSo}
+use Rattle.dns_zone_parameters.proofs.ParameterSteps.{ParametersSoFar}
 use Rattle.dns_zone_parameters.proofs.parameters_in.Given as goal
 
-abbrev pub invariant-words : goal.invariant-words
-invariant-words l = ParametersSo (map parameter_value l.parameters.items) l.fn.words l.words
+abbrev pub invariant-tokens : goal.invariant-tokens
+invariant-tokens l = ParametersSoFar (map parameter_value l.parameters.items) l.fn.tokens l.tokens
 
-abbrev pub decreases-words : goal.decreases-words
-decreases-words l = length l.words.text
+abbrev pub decreases-tokens : goal.decreases-tokens
+decreases-tokens l = length l.tokens.text

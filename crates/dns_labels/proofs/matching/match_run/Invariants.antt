@@ -3,7 +3,7 @@ use Rattle.dns_labels.proofs.ReadingSteps.{SoFar}
 use Rattle.dns_labels.proofs.matching.match_run.Given as goal
 
 abbrev pub invariant-labels : goal.invariant-labels
-invariant-labels l = SoFar l.message l.place l.at [] (take l.taken l.octets) × (l.taken ≤ length l.octets)
+invariant-labels l = SoFar l.message l.offset l.at [] (take l.taken l.octets) × (l.taken ≤ length l.octets)
 
 abbrev pub decreases-labels : goal.decreases-labels
 decreases-labels l = length l.message - l.at

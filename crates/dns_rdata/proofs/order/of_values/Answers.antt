@@ -4,4 +4,4 @@ use Rattle.dns_rdata.proofs.order.of_values.Goals as goal
 
 pub returns : goal.returns
 unfolding TellsOrder
-returns g c = in_values _ _ _ c.quick_cmp.result c.requires.first c.requires.second c.requires.equal c.quick_cmp.ensures
+returns g c = in_values _ _ _ c.cmp_canonical_fields.result c.requires.first c.requires.second c.requires.equal c.cmp_canonical_fields.ensures

@@ -2,15 +2,15 @@ use Rattle.std.proofs.Common.{◌<◌, length, inl, arith}
 use Rattle.dns_rdata_base.proofs.TextLists.{counts_more, counts_all}
 use Rattle.dns_rdata_base.proofs.txt.strings_within.Goals as goal
 
-pub loop-place-preserved : goal.loop-place-preserved
-loop-place-preserved c =
-    let inside : c.loop-place.place < length c.args.octets.now = omega arith in
+pub loop-offset-preserved : goal.loop-offset-preserved
+loop-offset-preserved c =
+    let inside : c.loop-offset.offset < length c.args.octets.now = omega arith in
     record {
-      counted = omega (arith, c.loop-place.invariant.counted);
-      within = omega (arith, c.loop-place.invariant.counted, c.loop-place-test.true);
-      short = omega (arith, c.type_inv.octets c.loop-place.place);
-      counts = counts_more c.loop-place-test.true inside c.loop-place.invariant.counts;
+      counted = omega (arith, c.loop-offset.invariant.counted);
+      within = omega (arith, c.loop-offset.invariant.counted, c.loop-offset-test.true);
+      short = omega (arith, c.type_inv.octets c.loop-offset.offset);
+      counts = counts_more c.loop-offset-test.true inside c.loop-offset.invariant.counts;
     }
 
-pub returns-after-loop-place-clause-counted : goal.returns-after-loop-place-clause-counted
-returns-after-loop-place-clause-counted c = counts_all c.loop-place.invariant.counts (inl c.loop-place-test.false)
+pub returns-after-loop-offset-clause-counted : goal.returns-after-loop-offset-clause-counted
+returns-after-loop-offset-clause-counted c = counts_all c.loop-offset.invariant.counts (inl c.loop-offset-test.false)

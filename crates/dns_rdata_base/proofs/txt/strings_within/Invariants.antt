@@ -2,14 +2,14 @@ use Rattle.std.proofs.Common.{◌≤◌, ◌-◌, ◌+◌, length}
 use Rattle.dns_rdata_base.proofs.TextLists.{CountsOn}
 use Rattle.dns_rdata_base.proofs.txt.strings_within.Given as goal
 
-abbrev pub invariant-loop-place : goal.invariant-loop-place
-invariant-loop-place l = record {
-  counted : l.count ≤ l.place;
+abbrev pub invariant-loop-offset : goal.invariant-loop-offset
+invariant-loop-offset l = record {
+  counted : l.count ≤ l.offset;
   within : l.count ≤ l.length;
-  short : l.place ≤ length l.octets + 255;
+  short : l.offset ≤ length l.octets + 255;
   counts : CountsOn
-      l.octets l.length l.count l.place;
+      l.octets l.length l.count l.offset;
 }
 
-abbrev pub decreases-loop-place : goal.decreases-loop-place
-decreases-loop-place l = l.length - l.place
+abbrev pub decreases-loop-offset : goal.decreases-loop-offset
+decreases-loop-offset l = l.length - l.offset

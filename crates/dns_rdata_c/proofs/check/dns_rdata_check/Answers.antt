@@ -1,7 +1,7 @@
 use Rattle.std.proofs.Common.{◌≡◌, ◌≤◌, ℕ, arith}
 use Rattle.dns_types.specs.declared.error.DecodeError.{DecodeError}
 use Rattle.dns_types.specs.declared.error.DecodeError.TheVariants as decode
-use Rattle.dns_names_wire.specs.Words.{UnlessMemory}
+use Rattle.dns_names_wire.specs.Terms.{UnlessMemory}
 use Rattle.dns_rdata_c.specs.Status.{decode_status}
 use Rattle.dns_rdata_c.proofs.check.dns_rdata_check.Goals as goal
 

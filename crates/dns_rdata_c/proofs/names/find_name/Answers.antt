@@ -1,19 +1,22 @@
 use Rattle.std.proofs.Common.{arith}
-use Rattle.dns_rdata_c.proofs.NamePlaces.{naptr_room, aname_answered, cname_answered, https_answered, mx_answered, naptr_answered, ns_answered}
-use Rattle.dns_rdata_c.proofs.NamePlaces.{ptr_answered, soa_answered, soa_first, srv_answered, svcb_answered}
+use Rattle.dns_rdata_c.proofs.NameOffsets.{naptr_room, aname_answered, cname_answered, https_answered, mx_answered, naptr_answered, ns_answered}
+use Rattle.dns_rdata_c.proofs.NameOffsets.{ptr_answered, soa_answered, soa_first, srv_answered, svcb_answered}
 use Rattle.dns_rdata_c.proofs.names.find_name.Goals as goal
 
 pub overflow_add-strings : goal.overflow_add-strings
 overflow_add-strings c = omega (arith, naptr_room c.args.value.now c.in-NAPTR.x c.in-NAPTR.is c.requires, c.len.ensures, c.len-in-NAPTR.ensures)
 
 pub overflow_add-strings-in-NAPTR : goal.overflow_add-strings-in-NAPTR
-overflow_add-strings-in-NAPTR c = omega (arith, naptr_room c.args.value.now c.in-NAPTR.x c.in-NAPTR.is c.requires, c.len.ensures, c.len-in-NAPTR.ensures, c.len-in-NAPTR-2.ensures)
+overflow_add-strings-in-NAPTR c =
+    omega (arith, naptr_room c.args.value.now c.in-NAPTR.x c.in-NAPTR.is c.requires, c.len.ensures, c.len-in-NAPTR.ensures, c.len-in-NAPTR-2.ensures)
 
-pub overflow_add-place-in-NAPTR : goal.overflow_add-place-in-NAPTR
-overflow_add-place-in-NAPTR c = omega (arith, naptr_room c.args.value.now c.in-NAPTR.x c.in-NAPTR.is c.requires, c.len.ensures, c.len-in-NAPTR.ensures, c.len-in-NAPTR-2.ensures)
+pub overflow_add-offset-in-NAPTR : goal.overflow_add-offset-in-NAPTR
+overflow_add-offset-in-NAPTR c =
+    omega (arith, naptr_room c.args.value.now c.in-NAPTR.x c.in-NAPTR.is c.requires, c.len.ensures, c.len-in-NAPTR.ensures, c.len-in-NAPTR-2.ensures)
 
-pub overflow_add-place-in-NAPTR-2 : goal.overflow_add-place-in-NAPTR-2
-overflow_add-place-in-NAPTR-2 c = omega (arith, naptr_room c.args.value.now c.in-NAPTR.x c.in-NAPTR.is c.requires, c.len.ensures, c.len-in-NAPTR.ensures, c.len-in-NAPTR-2.ensures)
+pub overflow_add-offset-in-NAPTR-2 : goal.overflow_add-offset-in-NAPTR-2
+overflow_add-offset-in-NAPTR-2 c =
+    omega (arith, naptr_room c.args.value.now c.in-NAPTR.x c.in-NAPTR.is c.requires, c.len.ensures, c.len-in-NAPTR.ensures, c.len-in-NAPTR-2.ensures)
 
 pub returns-in-ANAME : goal.returns-in-ANAME
 returns-in-ANAME c = aname_answered c.args.value.now c.in-ANAME.x c.args.index c.only.result c.in-ANAME.is c.requires c.only.ensures

@@ -1,7 +1,7 @@
 use Rattle.std.proofs.Common.{inl, inr, arith}
 use Rattle.dns_types.specs.RecordTypes.{record_type_of}
 use Rattle.dns_rdata_c.specs.Calls.{HasZoneData, PutsWire}
-use Rattle.dns_rdata_c.proofs.{PieceWalks.slice_octets, ZoneReads.own_data, ZoneReads.put_again, ZoneReads.never_refused}
+use Rattle.dns_rdata_c.proofs.{TlvWalks.slice_octets, ZoneReads.own_data, ZoneReads.put_again, ZoneReads.never_refused}
 use Rattle.dns_rdata_c.proofs.parse.dns_rdata_parse.Goals as goal
 
 pub returns-in-Err-read_zone_text-clause-never : goal.returns-in-Err-read_zone_text-clause-never

@@ -6,7 +6,7 @@ use Rattle.dns_rdata_c.proofs.parts.dns_rdata_part.Goals as goal
 pub overflow_add-begin : goal.overflow_add-begin
 overflow_add-begin c =
     let at = c.in-Some.ensures in
-    omega (arith, part_room _ _ _ _ _ _ c.in-Ok.ensures.found, at.0, ap length at.1, length-take-le c.args.length (drop c.args.place c.args.message.now) (omega (arith, at.0, length-drop c.args.place c.args.message.now)))
+    omega (arith, part_room _ _ _ _ _ _ c.in-Ok.ensures.found, at.0, ap length at.1, length-take-le c.args.length (drop c.args.offset c.args.message.now) (omega (arith, at.0, length-drop c.args.offset c.args.message.now)))
 
 pub returns-in-Err-clause-none : goal.returns-in-Err-clause-none
 returns-in-Err-clause-none c = λ is v f.

@@ -1,5 +1,5 @@
 use Rattle.std.proofs.{lemmas.List.drop_all, Common.arith}
-use Rattle.dns_rdata_service.proofs.PieceSteps.{joined_long, joined_size}
+use Rattle.dns_rdata_service.proofs.ParameterSteps.{joined_long, joined_size}
 use Rattle.dns_rdata_service.proofs.hints.hints_size.Goals as goal
 
 pub returns-in_err-checked_mul-clause-size : goal.returns-in_err-checked_mul-clause-size

@@ -1,6 +1,6 @@
 use Rattle.std.proofs.Common.{◌∙◌, ap, sym}
 use Rattle.std.specs.{Ordering.ordering_then, declared.cmp.Ordering.Ordering}
-use Rattle.dns_pieces.proofs.Fronts.{also}
+use Rattle.dns_canonical.proofs.Fronts.{also}
 use Rattle.dns_rdata_service.proofs.SvcbFronts.{ne_no, parameters_behind, rest_cmp}
 use Rattle.dns_rdata_service.proofs.order.svcb_front.Goals as goal
 

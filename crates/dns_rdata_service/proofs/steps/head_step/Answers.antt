@@ -1,6 +1,6 @@
 use Rattle.std.proofs.Common.{arith, refl}
 use Rattle.dns_fields.specs.Fields.{field_octets}
-use Rattle.dns_rdata_service.proofs.PieceSteps.{head_given}
+use Rattle.dns_rdata_service.proofs.ParameterSteps.{head_given}
 use Rattle.dns_rdata_service.proofs.steps.head_step.Goals as goal
 
 pub returns : goal.returns

@@ -1,5 +1,5 @@
 use Rattle.std.proofs.{Common.rules, Common.◌≡◌, Common.◌++◌, Common.arith, lemmas.List.append-nil}
-use Rattle.dns_rdata_service.proofs.PieceSteps.{item_gives}
+use Rattle.dns_rdata_service.proofs.ParameterSteps.{item_gives}
 use Rattle.dns_rdata_service.proofs.steps.hint_item.Goals as goal
 
 pub returns-clause-item : goal.returns-clause-item

@@ -1,6 +1,6 @@
 use Rattle.std.proofs.Common.{◌≡◌, ◌≤◌, ◌+◌, nat_le, length, drop}
 use Rattle.std.specs.List.{flat_map, list_all}
-use Rattle.dns_fields.specs.Pieces.{string}
+use Rattle.dns_fields.specs.Tlvs.{string}
 use Rattle.dns_rdata_service.proofs.steps.names_size.Given as goal
 
 abbrev pub invariant-loop-name : goal.invariant-loop-name

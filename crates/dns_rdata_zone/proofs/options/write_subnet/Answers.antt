@@ -13,7 +13,8 @@ returns g c = λ p ok.
     let source = c.args.source in
     let scope = c.args.scope in
     let address = take (prefix_octets source) c.args.address.now in
-    let head : c.as_slice-octets.result.now ≡ ((([] ++ field_octets (Number 2) family) ++ field_octets (Number 1) source) ++ field_octets (Number 1) scope) ++ address =
+    let head : c.as_slice-octets.result.now ≡ ((([] ++ field_octets (Number 2) family) ++ field_octets (Number 1) source) ++ field_octets (Number 1) scope)
+    ++ address =
     cc (
       c.as_slice-octets.ensures.value,
       c.octets.ensures.value,

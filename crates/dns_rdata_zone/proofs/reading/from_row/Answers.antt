@@ -9,5 +9,6 @@ returns-clause-refused c = row_refused c.read_octets.result (option_copied c.arg
     c.as_slice.ensures.value c.in_ok-octets.ensures.reads c.read_octets.ensures.refused
 
 pub returns-clause-why : goal.returns-clause-why
-returns-clause-why c = given_why c.read_octets.result (option_copied c.args.origin) c.args.record_type c.in_ok-octets.octets c.as_slice.result.now c.args.text.now
+returns-clause-why c =
+    given_why c.read_octets.result (option_copied c.args.origin) c.args.record_type c.in_ok-octets.octets c.as_slice.result.now c.args.text.now
     c.as_slice.ensures.value c.in_ok-octets.ensures.reads c.read_octets.ensures.why

@@ -10,7 +10,8 @@ pub octets-preserved : goal.octets-preserved
 octets-preserved g c = λ p.
     let i = c.octets.invariant p in
     let put = g.W.Write.write_str_gives in
-    let next : HasWritten put c.octets.f (tokens_from (2 * c.octets.left) (encode_lower (c.in-Some.octet ∷ []))) c.write.new.self = let plain = i.1.plain in search rules in (
+    let next : HasWritten put c.octets.f (tokens_from (2 * c.octets.left) (encode_lower (c.in-Some.octet ∷ []))) c.write.new.self =
+    let plain = i.1.plain in search rules in (
       _,
       has_written_append put _ _ _ _ _ i.1 next,
       octets_more i.0 c.in-Some.octet c.octets.left c.left_after-left.result c.octets.octets.octets c.next.new.self.octets _ c.in-Some.ensures.octets i.2 c.left_after-left.ensures,

@@ -1,6 +1,6 @@
 use Rattle.std.proofs.Common.{arith, sym}
 use Rattle.std.proofs.lemmas.List.{length-take-le}
-use Rattle.dns_types.proofs.Pieces.{by_ends}
+use Rattle.dns_types.proofs.Overlaps.{by_ends}
 use Rattle.dns_types.proofs.comparing.same_arrays.Goals as goal
 
 pub slice_bounds-same_block-end : goal.slice_bounds-same_block-end

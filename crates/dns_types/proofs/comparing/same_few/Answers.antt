@@ -1,5 +1,5 @@
 use Rattle.std.proofs.Common.{◌-◌, length, arith}
-use Rattle.dns_types.proofs.Pieces.{by_ends}
+use Rattle.dns_types.proofs.Overlaps.{by_ends}
 use Rattle.dns_types.proofs.comparing.same_few.Goals as goal
 
 pub returns : goal.returns

@@ -1,4 +1,4 @@
-use Rattle.dns_names_wire.proofs.WindowReads.{fields_by}
+use Rattle.dns_names_wire.proofs.RegionReads.{fields_by}
 use Rattle.dns_names_wire.proofs.record.AnyBinDecodable.read.Goals as goal
 
 pub returns-clause-reads : goal.returns-clause-reads

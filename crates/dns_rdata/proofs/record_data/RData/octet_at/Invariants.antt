@@ -6,4 +6,4 @@ abbrev pub decreases-octets : goal.decreases-octets
 decreases-octets l = length l.octets.octets
 
 abbrev pub invariant-octets : goal.invariant-octets
-invariant-octets l = slice_get l.octets.octets l.left ≡ slice_get (data_octets l.self) l.place
+invariant-octets l = slice_get l.octets.octets l.left ≡ slice_get (data_octets l.self) l.index

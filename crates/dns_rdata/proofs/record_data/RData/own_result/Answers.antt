@@ -3,11 +3,11 @@ use Rattle.std.specs.Result.{IfErr, OnOk}
 use Rattle.dns_types.specs.{RecordTypes.number_of, declared.error.DecodeError.DecodeError}
 use Rattle.dns_types.specs.{declared.record_type.RecordType.RecordType}
 use Rattle.dns_types.specs.declared.error.DecodeError.TheVariants as decode
-use Rattle.dns_names_wire.specs.{State.Reading, Words.StaysBehind, Words.UnlessMemory}
-use Rattle.dns_rdata.specs.{Data.HasValue, Data.IsNeverRead, Data.NoValue, Refusals.OwnResult, Refusals.without}
+use Rattle.dns_names_wire.specs.{State.Reading, Terms.StaysBehind, Terms.UnlessMemory}
+use Rattle.dns_rdata.specs.{Data.HasValue, Data.IsNeverRead, Data.NoValue, ReadErrors.OwnResult, ReadErrors.without}
 use Rattle.dns_rdata.specs.declared.record_data.RData.{RData}
 use Rattle.dns_rdata.specs.declared.record_data.RData.TheVariants as rdata
-use Rattle.dns_rdata.proofs.DataReads.{IsNone, ReadsOwn, row_types, has_no_row, mapped, own_behind, own_elsewhere}
+use Rattle.dns_rdata.proofs.DataReads.{IsNone, ReadsOwn, known_types, has_no_format, mapped, own_behind, own_elsewhere}
 use Rattle.dns_rdata.proofs.DataReads.{own_refused, own_result}
 use Rattle.dns_rdata.proofs.DataReads.{own_whole, unread_own, without_mapped, zero_own}
 use Rattle.dns_rdata.proofs.OwnReads.{own_a, own_aaaa, own_aname, own_caa, own_cert, own_cname, own_csync, own_hinfo}
@@ -142,9 +142,9 @@ returns-in-ANY c = rw c.into.ensures (clauses (Err (decode.UnknownRecordTypeValu
 
 pub returns-in_default : goal.returns-in_default
 returns-in_default c =
-    let none : IsNone c.args.record_type row_types = assumption in
+    let none : IsNone c.args.record_type known_types = assumption in
     let t = c.args.record_type in
     rw (c.without_value-in_default.ensures ∙ sym (without_mapped
     (λ x. rdata.Unknown t x) c.read_data-data-in_default.result))
     (clauses (mapped (λ x. rdata.Unknown t x) c.read_data-data-in_default.result) (own_unknown t
-    (has_no_row t none) _ c.read_data-data-in_default.ensures))
+    (has_no_format t none) _ c.read_data-data-in_default.ensures))

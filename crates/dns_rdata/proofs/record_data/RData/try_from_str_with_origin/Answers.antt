@@ -1,16 +1,17 @@
 use Rattle.std.proofs.Common.{ap, map}
 use Rattle.std.specs.Cow.{cow_str_bytes}
-use Rattle.dns_rdata.proofs.DataWords.{each_read, text_read, no_words_read, refused_early, refused_by_name}
+use Rattle.dns_rdata.proofs.DataTokens.{each_read, text_read, no_tokens_read, refused_early, refused_by_name}
 use Rattle.dns_rdata.proofs.record_data.RData.try_from_str_with_origin.Goals as goal
 
-pub returns-in_err-words-clause-reads : goal.returns-in_err-words-clause-reads
-returns-in_err-words-clause-reads c = no_words_read _ _ _ _ _ c.from_residual.ensures.1 c.in_err-words.ensures.refused
+pub returns-in_err-tokens-clause-reads : goal.returns-in_err-tokens-clause-reads
+returns-in_err-tokens-clause-reads c = no_tokens_read _ _ _ _ _ c.from_residual.ensures.1 c.in_err-tokens.ensures.refused
 
 pub returns-clause-reads : goal.returns-clause-reads
-returns-clause-reads c = text_read _ _ _ _ _ c.in_ok-words.ensures.ok (each_read _ _ _ _ _ (ap (map cow_str_bytes) c.into_iter.ensures.rest) c.from_tokens.ensures.reads)
+returns-clause-reads c =
+    text_read _ _ _ _ _ c.in_ok-tokens.ensures.ok (each_read _ _ _ _ _ (ap (map cow_str_bytes) c.into_iter.ensures.rest) c.from_tokens.ensures.reads)
 
-pub returns-in_err-words-clause-unsupported : goal.returns-in_err-words-clause-unsupported
-returns-in_err-words-clause-unsupported c = λ _. refused_early _ _ _ _ c.from_residual.ensures.1 c.in_err-words.ensures.refused
+pub returns-in_err-tokens-clause-unsupported : goal.returns-in_err-tokens-clause-unsupported
+returns-in_err-tokens-clause-unsupported c = λ _. refused_early _ _ _ _ c.from_residual.ensures.1 c.in_err-tokens.ensures.refused
 
 pub returns-clause-unsupported : goal.returns-clause-unsupported
 returns-clause-unsupported c = λ h. refused_by_name _ _ _ (c.from_tokens.ensures.unsupported h)

@@ -1,4 +1,4 @@
-use Rattle.dns_names_wire.proofs.WindowReads.{fields_by, fields_why}
+use Rattle.dns_names_wire.proofs.RegionReads.{fields_by, fields_why}
 use Rattle.dns_rdata_base.specs.HINFO.{hinfo_facts}
 use Rattle.dns_rdata_base.proofs.hinfo.HINFOBinDecodable.read.Goals as goal
 

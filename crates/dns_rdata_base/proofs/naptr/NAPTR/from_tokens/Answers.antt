@@ -1,4 +1,4 @@
-use Rattle.dns_words.proofs.Steps.{took_then, took_ignored}
+use Rattle.dns_tokens.proofs.Steps.{took_then, took_ignored}
 use Rattle.dns_rdata_base.proofs.naptr.NAPTR.from_tokens.Goals as goal
 
 pub returns : goal.returns

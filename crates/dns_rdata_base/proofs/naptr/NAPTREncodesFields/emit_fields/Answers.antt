@@ -1,4 +1,4 @@
-use Rattle.dns_names_wire.proofs.PlainWrites.{emits_more}
+use Rattle.dns_names_wire.proofs.NamelessWrites.{emits_more}
 use Rattle.dns_rdata_base.specs.NAPTR.{naptr_numbers_shape, naptr_numbers, naptr_rest_shape, naptr_rest}
 use Rattle.dns_rdata_base.proofs.naptr.NAPTREncodesFields.emit_fields.Goals as goal
 

@@ -1,6 +1,6 @@
 use Rattle.std.proofs.lemmas.Int.{to_z-of_z}
 use Rattle.std.specs.Int.{w32}
-use Rattle.dns_words.proofs.Steps.{took_then, took_ignored}
+use Rattle.dns_tokens.proofs.Steps.{took_then, took_ignored}
 use Rattle.dns_rdata_base.proofs.soa.SOA.from_tokens.Goals as goal
 
 pub returns-clause-reads : goal.returns-clause-reads

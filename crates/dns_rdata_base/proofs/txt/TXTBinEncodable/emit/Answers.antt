@@ -1,7 +1,7 @@
 use Rattle.std.proofs.Common.{◌≡◌, ◌+◌, ◌++◌, ◌∷◌, List, ℕ, take, drop, ◌∙◌, subst, arith}
 use Rattle.std.proofs.lemmas.Result.{err_from_is_err_and}
-use Rattle.dns_fields.specs.Fields.{Texts}
-use Rattle.dns_names_wire.specs.Words.{StoppedField}
+use Rattle.dns_fields.specs.Fields.{CharacterStrings}
+use Rattle.dns_names_wire.specs.Terms.{StoppedField}
 use Rattle.dns_names_wire.proofs.FieldWrites.{stopped_first}
 use Rattle.dns_rdata_base.proofs.TextLists.{stopped_strings, list_at}
 use Rattle.dns_rdata_base.proofs.txt.TXTBinEncodable.emit.Goals as goal
@@ -15,6 +15,6 @@ returns-in_err-emit_character_data c =
     let split : take i xs ++ x ∷ drop (i + 1) xs ≡ c.args.self.now.txt_data = list_at i xs x c.string-item.is (omega arith) ∙ c.as_slice-string-items.ensures in
     let stopped = stopped_strings (take i xs) x (drop (i + 1) xs) c.loop-string.invariant
     (rw c.as_slice.ensures.value at c.in_err-emit_character_data.ensures.emits) in
-    let e = stopped_first (subst (λ (ss : List (List ℕ)). StoppedField c.in_err-emit_character_data.field-0.0 c.args.encoder.now Texts ss
+    let e = stopped_first (subst (λ (ss : List (List ℕ)). StoppedField c.in_err-emit_character_data.field-0.0 c.args.encoder.now CharacterStrings ss
     c.emit_character_data.new.self) split stopped) in
     rw (p.1, p.2) (record { emits = e; extends = e.extends })

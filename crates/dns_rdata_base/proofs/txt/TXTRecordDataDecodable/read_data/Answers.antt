@@ -2,18 +2,18 @@ use Rattle.std.proofs.{Common.◌≡◌, Common.◌+◌, Common.◌<◌, Common.
 use Rattle.dns_rdata_base.proofs.TextLists.{reads_none, reads_more}
 use Rattle.dns_rdata_base.proofs.txt.TXTRecordDataDecodable.read_data.Goals as goal
 
-pub returns-in_err-read_character_data-clause-window : goal.returns-in_err-read_character_data-clause-window
-returns-in_err-read_character_data-clause-window c =
+pub returns-in_err-read_character_data-clause-region : goal.returns-in_err-read_character_data-clause-region
+returns-in_err-read_character_data-clause-region c =
     let p = err_from_is_err_and c.from_residual-in_err-read_character_data.result c.from_residual-in_err-read_character_data.ensures.1 in
     let end : c.index.result + c.unverified-length.result ≡ c.args.decoder.now.index + c.args.length =
-    omega (arith, c.index.ensures.place, c.unverified-length.ensures) in
+    omega (arith, c.index.ensures.offset, c.unverified-length.ensures) in
     let lt : c.loop-alloc.decoder.index < c.index.result + c.unverified-length.result =
-    omega (arith, c.index-in-loop-alloc.ensures.place, c.loop-alloc-test.true) in
+    omega (arith, c.index-in-loop-alloc.ensures.offset, c.loop-alloc-test.true) in
     rw (p.1, p.2) (reads_none c.args.length end lt c.loop-alloc.invariant c.in_err-read_character_data.ensures.taken)
 
 pub loop-alloc-preserved : goal.loop-alloc-preserved
 loop-alloc-preserved c =
     let lt : c.loop-alloc.decoder.index < c.index.result + c.unverified-length.result =
-    omega (arith, c.index-in-loop-alloc.ensures.place, c.loop-alloc-test.true) in
+    omega (arith, c.index-in-loop-alloc.ensures.offset, c.loop-alloc-test.true) in
     let next = reads_more lt c.loop-alloc.invariant c.in_ok-read_character_data.ensures.taken in
     rw (c.in_ok-push.ensures.ok, c.in_ok-from_slice.ensures, c.unverified-octets.ensures) next

@@ -1,7 +1,7 @@
 use Rattle.std.proofs.Common.{◌≡◌, ◌∙◌, List, map, arith, subst}
 use Rattle.std.proofs.lemmas.Result.{err_from_is_err_and}
 use Rattle.dns_fields.specs.Fields.{Options}
-use Rattle.dns_names_wire.specs.Words.{StoppedField}
+use Rattle.dns_names_wire.specs.Terms.{StoppedField}
 use Rattle.dns_names_wire.proofs.FieldWrites.{stopped_first}
 use Rattle.dns_rdata_options.specs.OPT.{Pair, pair_value}
 use Rattle.dns_rdata_options.proofs.Pairs.{more_pairs, stopped_pair}

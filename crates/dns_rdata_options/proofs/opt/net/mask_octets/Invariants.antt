@@ -2,7 +2,7 @@ use Rattle.std.proofs.Common.{◌≡◌, ℕ, ◌-◌, ◌*◌, ◌<◌, ◌≤�
 use Rattle.dns_rdata_options.specs.IpNet.{masked_octet}
 use Rattle.dns_rdata_options.proofs.opt.net.mask_octets.Given as goal
 
--- the octets in front of place i are masked, and the others as they were
+-- the octets in front of index i are masked, and the others as they were
 abbrev pub invariant-loop-i : goal.invariant-loop-i
 invariant-loop-i l = record {
   size : length l.octets ≡ length l.fn.octets;

@@ -1,5 +1,5 @@
 use Rattle.std.proofs.Common.{take, Ok}
-use Rattle.dns_names_wire.specs.Words.{Extends}
+use Rattle.dns_names_wire.specs.Terms.{Extends}
 use Rattle.dns_rdata_service.specs.Hints.{EmitsEach}
 use Rattle.dns_rdata_service.proofs.svcb.ip_hint.emit_each.Given as goal
 

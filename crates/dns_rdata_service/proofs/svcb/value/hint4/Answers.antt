@@ -1,5 +1,5 @@
 use Rattle.std.proofs.Common.{◌≡◌, ◌%◌, length, arith}
-use Rattle.dns_fields.specs.Pieces.{Addresses4}
+use Rattle.dns_fields.specs.Tlvs.{Addresses4}
 use Rattle.dns_rdata_service.specs.SvcParamValue.{a_octets}
 use Rattle.dns_rdata_service.proofs.ValueReads.{a_octets_of, hint_refused, groups_fit, groups_body}
 use Rattle.dns_rdata_service.proofs.svcb.value.hint4.Goals as goal

@@ -8,6 +8,6 @@ pub returns-clause-writes : goal.returns-clause-writes
 returns-clause-writes g c = λ p ok.
     let name = c.args.self.now.0.now in
     has_written_of_eq _ _ _ _ _
-    (generic_short (name_octets name) c.len-count.result (c.len-count.ensures.value ∙ length_low name.labels) c.len-count.ensures.some
+    (generic_short (name_octets name) c.len-count.result (c.len-count.ensures.value ∙ length_low name) c.len-count.ensures.some
     (omega (arith, c.len-count.ensures.room)))
     (c.write.ensures.writes p ok)

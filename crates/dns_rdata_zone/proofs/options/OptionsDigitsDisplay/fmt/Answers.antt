@@ -5,7 +5,8 @@ use Rattle.dns_rdata_zone.proofs.{Digits.hex_none, OptionDigits.option_written, 
 use Rattle.dns_rdata_zone.proofs.options.OptionsDigitsDisplay.fmt.Goals as goal
 
 pub loop-pair-init : goal.loop-pair-init
-loop-pair-init g c = record { written = λ p. has_written_of_eq _ _ _ _ _ (ap (λ (s : List ℕ). in_tokens s) (sym hex_none)) (let plain = p in search rules); left = refl }
+loop-pair-init g c =
+    record { written = λ p. has_written_of_eq _ _ _ _ _ (ap (λ (s : List ℕ). in_tokens s) (sym hex_none)) (let plain = p in search rules); left = refl }
 
 pub loop-pair-preserved : goal.loop-pair-preserved
 loop-pair-preserved g c =

@@ -1,5 +1,5 @@
 use Rattle.std.proofs.Common.{arith}
-use Rattle.dns_types.proofs.Pieces.{by_whole}
+use Rattle.dns_types.proofs.Overlaps.{by_whole}
 use Rattle.dns_types.proofs.small_octets.Inline.is_same.Goals as goal
 
 pub returns : goal.returns

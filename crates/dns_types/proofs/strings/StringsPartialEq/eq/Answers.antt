@@ -1,6 +1,6 @@
 use Rattle.std.proofs.Common.{◌==◌}
 use Rattle.std.specs.{Cmp.Lexicographic.pointwise, Cmp.Lexicographic.pointwise_decides, Cmp.unsigned_Decides}
-use Rattle.dns_types.proofs.Pieces.{one_answer}
+use Rattle.dns_types.proofs.Overlaps.{one_answer}
 use Rattle.dns_types.proofs.strings.StringsPartialEq.eq.Goals as goal
 
 pub returns-clause-value : goal.returns-clause-value

@@ -1,5 +1,5 @@
 use Rattle.std.proofs.{Common.List, Common.ℕ, Common.Ok, Common.Err, Common.arith, Common.subst, lemmas.List.take_all}
-use Rattle.dns_fields.specs.Pieces.{Alpn}
+use Rattle.dns_fields.specs.Tlvs.{Alpn}
 use Rattle.dns_rdata_service.specs.Hints.{EmitsEach}
 use Rattle.dns_rdata_service.proofs.EachEmits.{emits_next, emits_refused, EmitsName, names_emit, value_extends}
 use Rattle.dns_rdata_service.proofs.Splits.{is_err}

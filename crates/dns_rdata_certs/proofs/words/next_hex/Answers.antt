@@ -1,5 +1,0 @@
-use Rattle.dns_words.proofs.Steps.{word_read}
-use Rattle.dns_rdata_certs.proofs.words.next_hex.Goals as goal
-
-pub returns-clause-reads : goal.returns-clause-reads
-returns-clause-reads g c = word_read _ _ _ _ _ _ _ c.in_ok-word.ensures.gave c.as_str.ensures c.hex_of.ensures

@@ -1,9 +1,0 @@
-use Rattle.dns_rdata_service.proofs.{Splits.is_err, ItemLists.so_far_refused}
-use Rattle.dns_rdata_service.proofs.svcb.parameter_word.items_of.Goals as goal
-
-pub returns-in_err-item_of-clause-refused : goal.returns-in_err-item_of-clause-refused
-returns-in_err-item_of-clause-refused g c =
-    let piece = rw c.in-Some.is at c.in_ok-piece.ensures.piece in
-    rw (is_err _ _ c.from_residual-in_err-item_of.ensures.1) (λ h all l.
-    so_far_refused g.T.FromItem.is_text c.args.text.now c.pieces.rest.now c.as_str.result.now c.in-Some.more.now c.pieces.values c.pieces.invariant.0
-    (rw c.as_str.ensures.value piece) (c.in_err-item_of.ensures.refused h) all l)

@@ -1,7 +1,0 @@
-use Rattle.dns_rdata_sets.proofs.Windows.{front_marks}
-use Rattle.dns_rdata_sets.proofs.record_type_set.writing.mark_window.Goals as goal
-
-pub loop-at-init : goal.loop-at-init
-loop-at-init c =
-    let f = c.first_word-word.ensures in
-    front_marks _ _ c.first_word-word.result.0 _ (record { low = f.low; high = f.high }) c.put_word.ensures

@@ -1,5 +1,0 @@
-use Rattle.dns_words.proofs.Steps.{word_read}
-use Rattle.dns_words.proofs.reading.next_ipv4.Goals as goal
-
-pub returns-clause-reads : goal.returns-clause-reads
-returns-clause-reads g c = word_read _ _ _ _ _ _ _ c.in_ok-word.ensures.gave c.as_str.ensures c.ipv4_of.ensures.reads

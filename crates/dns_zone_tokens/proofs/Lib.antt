@@ -1,0 +1,10 @@
+pub mod DecimalSteps
+pub mod FirstSteps
+pub mod LetterSteps
+pub mod NameLabels
+pub mod NamePuts
+pub mod QuietSteps
+pub mod RemainingSteps
+pub mod TextSteps
+pub mod SpanSteps
+pub mod TokenSteps

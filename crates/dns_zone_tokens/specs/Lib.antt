@@ -1,0 +1,15 @@
+pub mod FieldTexts
+pub mod Forms
+pub mod Letters
+pub mod Mnemonics
+pub mod NameSteps
+pub mod NameTokens
+pub mod Quiet
+pub mod Errors
+pub mod Remaining
+pub mod Spans
+pub mod TypeNames
+pub mod Views
+pub mod TokenSteps
+pub mod Tokens
+pub mod ZoneReads

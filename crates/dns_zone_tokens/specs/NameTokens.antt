@@ -1,0 +1,84 @@
+-- Domain names in tokens (RFC 1035, 5.1).
+use Rattle.std.specs.Prelude.{◌≡◌, ◌⊎◌, ℕ, ◌+◌, ◌<◌, Bool, true, false, ◌==◌, if◌then◌else◌, List, [], ◌∷◌, ◌++◌, length, Option, Some, None}
+use Rattle.dns_fields.specs.{Fields.Name, Labels.DomainName, Labels.IsName, Labels.wire}
+use Rattle.dns_names_wire.specs.NameValues.{root_name, completed}
+use Rattle.dns_zone_tokens.specs.{Forms.ZoneForm, Tokens.Token, declared.field.NameField.NameField}
+use Rattle.dns_zone_tokens.specs.Letters.{Letter, letters, octet_of, stands_for, escapes_stand}
+use Rattle.dns_types.specs.declared.error.ParseError.{ParseError}
+use Rattle.dns_types.specs.declared.error.ParseError.TheVariants as parse
+
+-- the octets of letters, split at their dots, after the front of a part
+abbrev pub parts_from : List ℕ → List Letter → List (List ℕ)
+parts_from front [] = front ∷ []
+parts_from front (x ∷ xs) =
+    if stands_for 46 x then front ∷ parts_from [] xs else parts_from (front ++ octet_of x ∷ []) xs
+
+abbrev pub with_label : List ℕ → DomainName → DomainName
+with_label label name = record name { labels = label ∷ name.labels }
+
+-- the name with these parts as labels; an empty part at the end is no label, and the name then is fully qualified
+abbrev pub name_of_parts : List (List ℕ) → DomainName
+name_of_parts [] = record { labels = []; fully_qualified = false }
+name_of_parts ([] ∷ []) = root_name
+name_of_parts (part ∷ parts) = with_label part (name_of_parts parts)
+
+-- the name whose labels the text has, joined by dots
+abbrev pub labelled : List ℕ → DomainName
+labelled text = name_of_parts (parts_from [] (letters text))
+
+-- the text is only this character
+abbrev pub is_alone : ℕ → List ℕ → Bool
+is_alone c (d ∷ []) = d == c
+is_alone c text = false
+
+-- `@` is the origin, and a dot the root; any other text has labels, which the origin completes if no dot ends them
+abbrev pub named : Option DomainName → List ℕ → Option DomainName
+named origin text =
+    if is_alone 64 text then origin
+    else if is_alone 46 text then Some root_name
+    else Some (completed (labelled text) origin)
+
+-- the token is this name, without quotes
+pub record IsNameToken (origin : Option DomainName) (name : DomainName) (token : Token) : Type 0 where
+  pub bare : token.quoted ≡ false
+  pub escapes : escapes_stand token.octets ≡ true
+  pub named : named origin token.octets ≡ Some name
+  pub is_name : IsName name
+
+-- a name, which an origin completes
+abbrev pub name : Option DomainName → ZoneForm Name
+name origin = record { is = IsNameToken origin }
+
+-- a name's octets, uncompressed with case preserved
+abbrev pub name_octets : DomainName → List ℕ
+name_octets x = wire x.labels ++ 0 ∷ []
+
+-- ---- why a token is no name, as the field's texts say
+
+-- one of the labels has this
+pub record HasLabel (holds : List ℕ → Type 0) (labels : List (List ℕ)) : Type 0 where
+  pub front : List (List ℕ)
+  pub label : List ℕ
+  pub behind : List (List ℕ)
+  pub all : labels ≡ front ++ label ∷ behind
+  pub is : holds label
+
+-- more than 255 octets with the 0 at the end
+abbrev pub IsLongName : List (List ℕ) → Type 0
+IsLongName labels = 255 < length (wire labels) + 1
+
+-- a `\` without a meaning, an empty label, one of more than 63 octets, or too many of them
+abbrev pub LabelsFault : NameField → List ℕ → ParseError → Type 0
+LabelsFault field text e =
+    ((e ≡ parse.Message field.escape) × (escapes_stand text ≡ false))
+    ⊎ ((e ≡ parse.Message field.empty_label) × HasLabel (λ label. length label ≡ 0) (labelled text).labels)
+    ⊎ ((e ≡ parse.Message field.long_label) × HasLabel (λ label. 63 < length label) (labelled text).labels)
+    ⊎ ((e ≡ parse.Message field.long_name) × IsLongName (labelled text).labels)
+
+-- quotes, `@` without an origin, a fault of the labels, or too many of them with the origin's
+abbrev pub NameFault : NameField → Option DomainName → Token → ParseError → Type 0
+NameFault field origin token e =
+    ((e ≡ parse.Message field.quoted) × (token.quoted ≡ true))
+    ⊎ ((e ≡ parse.Message field.no_origin) × (is_alone 64 token.octets ≡ true) × (origin ≡ None))
+    ⊎ LabelsFault field token.octets e
+    ⊎ ((e ≡ parse.Message field.long_name) × IsLongName (completed (labelled token.octets) origin).labels)

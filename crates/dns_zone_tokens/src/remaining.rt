@@ -1,0 +1,121 @@
+//! All remaining tokens of a text: base64, hexadecimal digits, and the unknown-data form (RFC 3597, section 5).
+
+ghost use Rattle.std.specs.Prelude.{◌≡◌, ◌≢◌, ◌↔◌, ◌⊎◌, [], Ok, IsTrue, IfErr, OnOk, OnErr};
+ghost use Rattle.dns_zone_tokens.specs.{Forms.StringFault, Views.token_value, Tokens.tokens_at, ZoneReads.IsUndividedError};
+ghost use Rattle.dns_zone_tokens.specs.Remaining.{AreJoined, AreHex, AreBase64, AreUnknown, AreStrings, IsUnknownMark, ReadsAll, AmongFault};
+ghost use Rattle.dns_zone_tokens.specs.Remaining.{QuotesFault, HexFault, Base64Fault, UnknownFault};
+
+use crate::field::HexField;
+use crate::fields::next_u16;
+use crate::hex_field;
+use crate::tokens::{ZoneToken, ZoneTokens};
+use base64::DecodeAllocError;
+use base64::engine::general_purpose::STANDARD;
+use dns_tokens::{Field, number_field};
+use dns_types::{Octets, ParseError};
+use hex::FromHexError;
+use std::alloc::Global;
+
+const UNKNOWN_LENGTH: Field = number_field!("length of unknown data");
+
+const UNKNOWN_DATA: HexField = hex_field!("unknown data");
+
+const OTHER_LENGTH: &str = "unknown data is not as many octets as its length says";
+
+/// Returns whether the token is `\#` without quotes, which begins the unknown-data form (RFC 3597, section 5).
+#[inline]
+pub fn is_unknown_mark(token: ZoneToken<'_>) -> bool
+    ensures { IsTrue result ↔ IsUnknownMark (token_value token.entry) }
+{
+    !token.quoted && token.raw.len() == 2 && token.raw[0] == b'\\' && token.raw[1] == b'#'
+}
+
+/// Reads all remaining tokens as hexadecimal digits of either case; without tokens there are no octets. Returns
+/// [`Message`](ParseError::Message) with the field's text if a token is in quotes; otherwise if the number of digits is
+/// odd; otherwise if a character is no digit.
+pub fn all_hex(
+    alloc: Global,
+    tokens: &mut ZoneTokens<'_>,
+    field: &HexField,
+) -> Result<Octets, ParseError>
+    ensures reads { ReadsAll AreHex (λ x. x) result tokens.old }
+    ensures why { IfErr result (λ e. (e ≡ ParseError.Memory) ⊎ HexFault field.now tokens.old e) }
+{
+    let digits = all_joined(alloc, tokens, field.quoted)?;
+    if digits.len() % 2 == 1 {
+        return Err(ParseError::Message(field.odd));
+    }
+    match hex::decode(alloc, digits.as_slice()) {
+        Ok(octets) => Ok(Octets::from_vec(octets)),
+        Err(FromHexError::OutOfMemory) => Err(ParseError::Memory),
+        Err(_) => Err(ParseError::Message(field.digit)),
+    }
+}
+
+/// Reads all remaining tokens as base64 with padding (RFC 4648, section 4); without tokens there are no octets. Tokens
+/// in quotes and anything else give [`Message`](ParseError::Message) with the text `wrong`.
+pub fn all_base64(
+    alloc: Global,
+    tokens: &mut ZoneTokens<'_>,
+    wrong: &'static str,
+) -> Result<Octets, ParseError>
+    ensures reads { ReadsAll AreBase64 (λ x. x) result tokens.old }
+    ensures why { IfErr result (λ e. (e ≡ ParseError.Memory) ⊎ Base64Fault (ParseError.Message wrong.entry) tokens.old e) }
+{
+    let digits = all_joined(alloc, tokens, wrong)?;
+    match STANDARD.decode(alloc, digits.as_slice()) {
+        Ok(octets) => Ok(Octets::from_vec(octets)),
+        Err(DecodeAllocError::OutOfMemory) => Err(ParseError::Memory),
+        Err(DecodeAllocError::DecodeError(_)) => Err(ParseError::Message(wrong)),
+    }
+}
+
+/// Reads the octets after `\#`: their number of 16 bits, and as many octets in hexadecimal digits, in tokens without
+/// quotes (RFC 3597, section 5). Returns [`MissingToken`](ParseError::MissingToken) if there is no length, and
+/// [`Message`](ParseError::Message) if it is no number, if `all_hex` fails, or if the number of octets is another one.
+pub fn unknown_data(alloc: Global, tokens: &mut ZoneTokens<'_>) -> Result<Octets, ParseError>
+    ensures reads { ReadsAll AreUnknown (λ x. x) result tokens.old }
+    ensures why { IfErr result (λ e. (e ≡ ParseError.Memory) ⊎ UnknownFault tokens.old e) }
+{
+    let length = next_u16(tokens, UNKNOWN_LENGTH)?;
+    let octets = all_hex(alloc, tokens, &UNKNOWN_DATA)?;
+    if octets.len() != length as usize {
+        return Err(ParseError::Message(OTHER_LENGTH));
+    }
+    Ok(octets)
+}
+
+/// Checks that no token is left. If one is, returns [`Message`](ParseError::Message) with the text `surplus`.
+pub fn no_more(tokens: &mut ZoneTokens<'_>, surplus: &'static str) -> Result<(), ParseError>
+    ensures took { OnOk result (tokens_at tokens.old ≡ Ok []) }
+    ensures refused { OnErr result (tokens_at tokens.old ≢ Ok []) }
+    ensures why { IfErr result (λ e. (e ≡ ParseError.Message surplus.entry) ⊎ IsUndividedError tokens.old e) }
+{
+    match tokens.next_token()? {
+        Some(_) => Err(ParseError::Message(surplus)),
+        None => Ok(()),
+    }
+}
+
+// The octets of all remaining tokens, one after the other. A token in quotes is rejected.
+fn all_joined(
+    alloc: Global,
+    tokens: &mut ZoneTokens<'_>,
+    wrong: &'static str,
+) -> Result<Vec<u8>, ParseError>
+    ensures reads { ReadsAll AreJoined (λ v. v.items) result tokens.old }
+    ensures why { IfErr result (λ e. (e ≡ ParseError.Memory) ⊎ AmongFault (QuotesFault (ParseError.Message wrong.entry)) tokens.old e) }
+{
+    let mut joined = Vec::with_capacity(alloc, tokens.octets_left())?;
+    'tokens: loop {
+        match tokens.next_token()? {
+            Some(token) => {
+                if token.quoted {
+                    return Err(ParseError::Message(wrong));
+                }
+                joined.extend_from_slice(token.raw)?;
+            }
+            None => return Ok(joined),
+        }
+    }
+}

@@ -1,5 +1,0 @@
-use Rattle.dns_zone_words.proofs.TextSteps.{no_type}
-use Rattle.dns_zone_words.proofs.type_names.printed_type.Goals as goal
-
-pub returns-in-Err-clause-none : goal.returns-in-Err-clause-none
-returns-in-Err-clause-none c = no_type c.args.text.now c.in-Err.ensures.cases.0

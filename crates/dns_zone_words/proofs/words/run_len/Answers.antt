@@ -1,9 +1,0 @@
-use Rattle.dns_zone_words.proofs.WordSteps.{run_quiet, run_quiet_left}
-use Rattle.dns_zone_words.proofs.words.run_len.Goals as goal
-
-pub octets-init : goal.octets-init
-octets-init c = record {
-  within = c.quiet_len-at.ensures.within;
-  so = run_quiet c.args.text.now c.quiet_len-at.result c.quiet_len-at.ensures.within c.quiet_len-at.ensures.quiet;
-  left = run_quiet_left c.args.text.now c.quiet_len-at.result c.quiet_len-at.ensures.within c.quiet_len-at.ensures.quiet;
-}

@@ -1,0 +1,133 @@
+//! Issuers, synchronized types, and sets of types.
+
+use crate::shared::{emitted_digits, feed_the_same, issuer, record, types};
+use anyhow::Result;
+use dns_rdata::caa::{CAA, KeyValue, read_iodef, read_issuer};
+use dns_rdata::{BinDecoder, CSYNC, DecodeError, Name, ProtoError, RData, RecordTypeSet, Restrict};
+use held_data::Held;
+use replay::octets;
+use std::alloc::{AllocError, Global};
+
+/// An issuer, critical or not, or one of wildcards, not critical.
+pub fn issue(alloc: Global, kind: &str, text: &str) -> Result<Held> {
+    let (name, pairs) = issuer(alloc, text)?;
+    Ok(Held(RData::CAA(if kind == "issuewild" {
+        CAA::new_issuewild(false, name, pairs)?
+    } else {
+        CAA::new_issue(kind == "issue", name, pairs)?
+    })))
+}
+
+// Shows a name, and pairs that are copies.
+fn show(name: &Option<Name>, pairs: &[KeyValue], shown: &mut String) -> Result<(), AllocError> {
+    match name {
+        Some(name) => write!(shown, "{name}")?,
+        None => shown.push('-')?,
+    }
+    for pair in pairs {
+        let copy = pair.clone()?;
+        let same = copy == *pair;
+        write!(shown, ";{}={} {same}", copy.key(), copy.value())?;
+    }
+    Ok(())
+}
+
+/// The name and the pairs that the value of an issuer has, or that it is rejected.
+pub fn issuer_of(alloc: Global, text: &str) -> Result<String> {
+    let mut shown = String::new(alloc);
+    match read_issuer(alloc, text.as_bytes()) {
+        Ok((name, pairs)) => show(&name, pairs.as_slice(), &mut shown)?,
+        Err(ProtoError::Message(_)) => shown.push_str("refused")?,
+        Err(_) => shown.push_str("otherwise")?,
+    }
+    Ok(shown)
+}
+
+/// The name and the pairs that a record of these octets has as its issuer.
+pub fn issuer_in(alloc: Global, digits: &str) -> Result<String> {
+    let record = record::<CAA>(alloc, octets(alloc, digits)?.as_slice())?;
+    let (name, pairs) = record.value_as_issue()?;
+    let mut shown = String::new(alloc);
+    show(&name, pairs.as_slice(), &mut shown)?;
+    Ok(shown)
+}
+
+/// The URL that a record of these octets has, or that it is rejected.
+pub fn url_in(alloc: Global, digits: &str) -> Result<String> {
+    let record = record::<CAA>(alloc, octets(alloc, digits)?.as_slice())?;
+    Ok(String::from_str(alloc, record.value_as_iodef().unwrap_or("refused"))?)
+}
+
+/// The URL that octets are, or that they are rejected.
+pub fn url_of(alloc: Global, digits: &str) -> Result<String> {
+    let octets = octets(alloc, digits)?;
+    Ok(String::from_str(alloc, read_iodef(octets.as_slice()).unwrap_or("refused"))?)
+}
+
+/// The issuer of a record that is set to another one, which stays where a URL is rejected; and the record's octets.
+pub fn set_issuer(alloc: Global, digits: &str, text: &str) -> Result<String> {
+    let mut value = record::<CAA>(alloc, octets(alloc, digits)?.as_slice())?;
+    let (name, pairs) = issuer(alloc, text)?;
+    value.set_issuer_value(name.as_ref(), pairs.as_slice())?;
+    let refused = value.set_iodef_value("x").is_err() && value.value_as_iodef().is_err();
+    let mut shown = emitted_digits(alloc, &value)?;
+    write!(shown, " {refused} ")?;
+    let (name, pairs) = value.value_as_issue()?;
+    show(&name, pairs.as_slice(), &mut shown)?;
+    Ok(shown)
+}
+
+/// The URL of a record that is set to another one, which stays where an issuer is rejected, and whether the record is one
+/// that is made of it.
+pub fn set_url(alloc: Global, digits: &str, url: &str) -> Result<String> {
+    let mut value = record::<CAA>(alloc, octets(alloc, digits)?.as_slice())?;
+    value.set_iodef_value(url)?;
+    let refused = value.set_issuer_value(None, &[]).is_err() && value.value_as_issue().is_err();
+    let made = CAA::new_iodef(false, String::from_str(alloc, url)?)? == value;
+    Ok(format!(in alloc; "{} {refused} {made}", value.value_as_iodef()?)?)
+}
+
+/// Synchronized types of serial 123, at once and with a least serial.
+pub fn synchronized(alloc: Global, text: &str) -> Result<Held> {
+    let types = types(alloc, text)?;
+    let made = CSYNC::new(alloc, 123, true, true, types.into_iter())?;
+    Ok(Held(RData::CSYNC(made)))
+}
+
+fn set_of(alloc: Global, text: &str) -> Result<RecordTypeSet> {
+    Ok(RecordTypeSet::new(alloc, types(alloc, text)?.into_iter())?)
+}
+
+fn set_of_octets(alloc: Global, octets: &[u8]) -> Result<RecordTypeSet, DecodeError> {
+    let length = octets.len().min(65535) as u16;
+    RecordTypeSet::read_data(&mut BinDecoder::new(alloc, octets), Restrict::new(length))
+}
+
+/// The octets of the set of types, whether they are read as an equal one and a copy is equal, how many types there are,
+/// and these.
+pub fn set(alloc: Global, text: &str) -> Result<String> {
+    let set = set_of(alloc, text)?;
+    let mut shown = emitted_digits(alloc, &set)?;
+    let octets = octets(alloc, shown.as_str())?;
+    let read = set_of_octets(alloc, octets.as_slice())?;
+    let kept = read == set && set.clone()? == read;
+    write!(shown, " {kept} {}", set.len())?;
+    for kind in set.iter() {
+        write!(shown, " {kind:?}")?;
+    }
+    Ok(shown)
+}
+
+/// The octets that a set is emitted as which is read from other ones.
+pub fn shortest(alloc: Global, digits: &str) -> Result<String> {
+    let set = set_of_octets(alloc, octets(alloc, digits)?.as_slice())?;
+    emitted_digits(alloc, &set)
+}
+
+/// Whether two sets are equal, and whether they feed a hasher the same.
+pub fn same_sets(alloc: Global, left: &str, right: &str) -> Result<String> {
+    let left = set_of(alloc, left)?;
+    let right = set_of(alloc, right)?;
+    let (equal, fed_same) = (left == right, feed_the_same(&left, &right)?);
+    Ok(format!(in alloc; "{equal} {fed_same}")?)
+}

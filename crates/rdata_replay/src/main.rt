@@ -1,0 +1,109 @@
+//! Replays runs of the program `rdata` whose results are known, one a line: `rows.tsv` has small ones, worked by hand
+//! from the RFCs, and `real.tsv` record data as name servers and DNS tools write it, with the text and the octets on which
+//! independent implementations agree. The canonical octets of what was read are read again, and must be told as the same.
+//! `calls.tsv` has calls of the library, and `wire.tsv` calls of the crates below the records. Functions are kept small,
+//! since a proof takes more than twice as long for twice the code.
+//! With the argument `answers` it prints the results of the runs that standard input gives, and with `marked` those of
+//! the calls, each between two marks.
+#![tactic(auto)]
+
+mod answers;
+mod calls;
+mod marked;
+mod recorder;
+mod shared;
+mod wire_calls;
+
+use anyhow::{Result, bail};
+use rdata_command::run;
+use replay::{Interpreter, replay};
+use std::alloc::Global;
+use std::io;
+
+/// The program: a line has the status and the output that are wanted, and the words.
+struct Commands;
+
+impl Interpreter for Commands {
+    fn difference(&self, alloc: Global, fields: &[String]) -> Result<Option<String>> {
+        let [wanted_status, wanted, words @ ..] = fields else {
+            bail!("a status or an output is missing");
+        };
+        let mut out: Vec<u8> = Vec::new(alloc);
+        let status = run(alloc, words, &mut out, &mut io::sink());
+        let output = String::from_utf8(out)?;
+        if status != wanted_status.as_str().parse::<u8>()? || output.as_str() != wanted.as_str() {
+            return Ok(Some(output));
+        }
+        if !reads_again(alloc, words, output.as_str())? {
+            return Ok(Some(String::from_str(alloc, "read again as other octets")?));
+        }
+        Ok(None)
+    }
+}
+
+/// Calls of the library, or of the crates below the records: a line has a command, the result that is wanted, and the
+/// command's words.
+enum CallsOf {
+    Library,
+    Wire,
+}
+
+impl Interpreter for CallsOf {
+    fn difference(&self, alloc: Global, fields: &[String]) -> Result<Option<String>> {
+        let [command, wanted, words @ ..] = fields else {
+            bail!("a command or an answer is missing");
+        };
+        let came = match self {
+            CallsOf::Library => calls::answer(alloc, command.as_str(), words)?,
+            CallsOf::Wire => wire_calls::answer(alloc, command.as_str(), words)?,
+        };
+        if came.as_str() == wanted.as_str() {
+            return Ok(None);
+        }
+        Ok(Some(came))
+    }
+}
+
+// The octets of the line `canonical`.
+fn canonical_line(output: &str) -> Option<&str> {
+    output
+        .lines()
+        .find_map(|line| line.strip_prefix("canonical "))
+}
+
+// Whether the canonical octets of what was read, read again, are told as the same.
+fn reads_again(alloc: Global, words: &[String], output: &str) -> Result<bool> {
+    let Some(octets) = canonical_line(output) else {
+        return Ok(true);
+    };
+    let [command, kind, ..] = words else {
+        bail!("a command or a type is missing");
+    };
+    if command.as_str() != "read" {
+        return Ok(true);
+    }
+    let length = octets.trim_matches('-').len() / 2;
+    let mut words = Vec::new(alloc);
+    for word in ["read", kind.as_str(), "0"] {
+        words.push(String::from_str(alloc, word)?)?;
+    }
+    words.push(format!(in alloc; "{length}")?)?;
+    words.push(String::from_str(alloc, octets)?)?;
+    let mut out: Vec<u8> = Vec::new(alloc);
+    let status = run(alloc, words.as_slice(), &mut out, &mut io::sink());
+    let text = std::str::from_utf8(out.as_slice())?;
+    Ok(status == 0 && canonical_line(text) == Some(octets))
+}
+
+fn main(rt: HostRuntime) -> Result<()> {
+    if let Some(word) = std::env::args(&rt)?.nth(1) {
+        return match word.as_str() {
+            "marked" => marked::answer_marked(&rt),
+            _ => answers::answer_all(&rt),
+        };
+    }
+    replay(&rt, "rows.tsv", &Commands)?;
+    replay(&rt, "real.tsv", &Commands)?;
+    replay(&rt, "calls.tsv", &CallsOf::Library)?;
+    replay(&rt, "wire.tsv", &CallsOf::Wire)
+}

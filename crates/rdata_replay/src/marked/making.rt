@@ -1,0 +1,113 @@
+//! Values, texts and octets that calls make.
+
+use crate::marked::Marks;
+use crate::marked::given::{read_given, value as value_of};
+use crate::shared;
+use anyhow::Result;
+use dns_rdata::caa::CAA;
+use dns_rdata::opt::{ClientSubnet, EdnsCode, EdnsOption, NSIDPayload};
+use dns_rdata::{BinDecoder, CERT, CSYNC, HEX, ParseError, RData, RecordType};
+use held_data::{Held, record_type};
+use std::alloc::Global;
+use std::fmt::Debug;
+
+// What was made, or why it was not.
+fn show<E: Debug>(alloc: Global, made: &Result<Held, E>) -> Result<String> {
+    match made {
+        Ok(held) => Ok(format!(in alloc; "{:?}", held.0)?),
+        Err(error) => Ok(format!(in alloc; "{error:?}")?),
+    }
+}
+
+/// The value that is read, the offset where reading ends and the octets from there on.
+pub fn read(marks: &Marks<'_>, text: &str) -> Result<String> {
+    let alloc = marks.alloc();
+    let given = read_given(alloc, text)?;
+    let mut decoder = BinDecoder::new(alloc, given.message.as_slice());
+    let _before = decoder.read_slice(given.offset)?;
+    let made = marked!(
+        marks,
+        Held::read(&mut decoder, given.record_type, given.length)
+    );
+    let shown = show(alloc, &made)?;
+    let rest = hex::encode(alloc, decoder.unread().unverified())?;
+    Ok(format!(in alloc; "{} {rest} {shown}", decoder.index())?)
+}
+
+/// A copy, and the value that it is of.
+pub fn copy(marks: &Marks<'_>, text: &str) -> Result<String> {
+    let value = value_of(marks.alloc(), text)?;
+    let copied = marked!(marks, value.copy());
+    let shown = show(marks.alloc(), &copied)?;
+    Ok(format!(in marks.alloc(); "{shown} of {:?}", value.0)?)
+}
+
+/// The value of words or of a text.
+pub fn value(marks: &Marks<'_>, call: &str, kind: &str, text: &str) -> Result<String> {
+    let kind = record_type(kind)?;
+    let made = marked!(
+        marks,
+        match call {
+            "from_tokens" => Held::of_words(marks.alloc(), kind, text),
+            _ => Held::parse(marks.alloc(), kind, text),
+        }
+    );
+    show(marks.alloc(), &made)
+}
+
+fn made_text(alloc: Global, value: &RData, call: &str) -> Result<String, ParseError> {
+    match value {
+        RData::CERT(cert) if call == "cert_base64" => Ok(cert.cert_base64()?),
+        value => Ok(value.to_string(alloc)?),
+    }
+}
+
+/// The text that is made of a value, and the value.
+pub fn text(marks: &Marks<'_>, call: &str, text: &str) -> Result<String> {
+    let value = value_of(marks.alloc(), text)?;
+    let made = marked!(marks, made_text(marks.alloc(), &value.0, call));
+    Ok(format!(in marks.alloc(); "{made:?} of {:?}", value.0)?)
+}
+
+// The octets that are made of octets.
+fn made_octets(alloc: Global, call: &str, octets: &[u8]) -> Result<Vec<u8>, ParseError> {
+    match call {
+        "decode" => HEX.decode(alloc, octets),
+        "encode" => Ok(HEX.encode(alloc, octets)?.into_bytes()),
+        "cert" => Ok(CERT::try_from(alloc, octets)?.cert_base64()?.into_bytes()),
+        "option" => Ok(EdnsOption::try_from(alloc, (EdnsCode::Cookie, octets))?.to_vec(alloc)?),
+        "nsid" => Ok(EdnsOption::NSID(NSIDPayload::try_from(alloc, octets)?).to_vec(alloc)?),
+        _ => Ok(ClientSubnet::try_from(octets)?.to_vec(alloc)?),
+    }
+}
+
+/// The octets that are made of octets.
+pub fn octets(marks: &Marks<'_>, call: &str, digits: &str) -> Result<String> {
+    let octets = hex::decode(marks.alloc(), digits)?;
+    marks.begin()?;
+    marks.shown(made_octets(marks.alloc(), call, octets.as_slice()))
+}
+
+/// An issuer of a name and pairs.
+pub fn issuer(marks: &Marks<'_>, call: &str, text: &str) -> Result<String> {
+    let (name, pairs) = shared::issuer(marks.alloc(), text)?;
+    marks.begin()?;
+    match call {
+        "new_issue" => marks.shown(CAA::new_issue(true, name, pairs)),
+        _ => marks.shown(CAA::new_issuewild(true, name, pairs)),
+    }
+}
+
+/// Where incidents are reported.
+pub fn location(marks: &Marks<'_>, text: &str) -> Result<String> {
+    let url = String::from_str(marks.alloc(), text)?;
+    marks.begin()?;
+    marks.shown(CAA::new_iodef(true, url))
+}
+
+/// Types that are synchronized, with a comma between each two.
+pub fn types(marks: &Marks<'_>, text: &str) -> Result<String> {
+    let types = shared::types(marks.alloc(), text)?;
+    marks.begin()?;
+    marks.shown(CSYNC::new(marks.alloc(), 123, true, true, types.into_iter()))
+}
