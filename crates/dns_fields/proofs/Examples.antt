@@ -1,18 +1,17 @@
 -- The definitions, checked against octets that were worked out by hand.
-use Rattle.std.proofs.Common.{◌≡◌, ◌≢◌, ℕ, zero, suc, ◌+◌, drop, ◌-◌, ◌/◌, ◌%◌, ◌≤◌, ◌<◌, ◌^◌, ◌⊎◌, inl, inr, ⊎_elim, false, ◌==◌, ◌&&◌, ◌||◌, List}
-use Rattle.std.proofs.Common.{[], ◌∷◌, ◌++◌, length, take, get_or, refl, sym, ap, ◌∙◌, arith, subst, append_assoc, append-nil, true, IsUtf8}
-use Rattle.std.specs.{List.flat_map, List.AllByRecursion, List.list_any, Int.bytes_high_first, Int.bit_at, Str.IsAscii, Str.is_utf8, Str.chars}
+use Rattle.std.proofs.Common.{◌≡◌, ◌≢◌, ℕ, zero, suc, ◌+◌, drop, ◌-◌, ◌%◌, ◌≤◌, ◌<◌, ◌^◌, ◌⊎◌, inl, inr, ⊎_elim, false, List}
+use Rattle.std.proofs.Common.{[], ◌∷◌, ◌++◌, length, take, refl, sym, ap, ◌∙◌, arith, subst, append_assoc, append-nil, true, IsUtf8}
+use Rattle.std.specs.{List.flat_map, List.AllByRecursion, Int.bytes_high_first, Str.IsAscii, Str.is_utf8, Str.chars}
 use Rattle.std.proofs.lemmas.List.{length-append, take_all, take_at}
 use Rattle.std.proofs.lemmas.Str.{IsUtf8-from_ascii, is_utf8-from_IsUtf8}
 use Rattle.dns_fields.specs.{Octets.At, Labels.DomainName, Labels.FitsName, Names.LabelsStand, Names.LabelsStand.whole, Names.LabelsStand.pointed}
 use Rattle.dns_fields.specs.Tlvs.{IsAddress, string, Numbered, tlv, tlvs, IsTlv, AreTlvs, OptionValue, Subnet, OpaqueOption, OptionHeld, AllHeld}
 use Rattle.dns_fields.specs.Tlvs.{IsTruncated, ParameterValue, ParameterHeld, Rising, Port, Mandatory, Alpn, NoDefaultAlpn, Ipv4Hint, Ipv6Hint, Opaque}
-use Rattle.dns_fields.specs.Bitmaps.{Block, block, IsBlock, IsTypeSet, has_type, minimal, window, types_octet, mark, BitmapAt}
-use Rattle.dns_fields.specs.Fields.{Kind, Number, Name, Options, Parameters, Bitmap, Values, Field, Stands, canonical, field_octets, CompleteOptions}
+use Rattle.dns_fields.specs.Fields.{Kind, Number, Name, Options, Parameters, Values, Field, Stands, canonical, field_octets, CompleteOptions}
 use Rattle.dns_fields.specs.Fields.{ParametersAt}
 use Rattle.dns_fields.specs.Examples.{Reads, HoldsNone, full, www_label, www_twice, example_label, com_label, xxx_label, twenty, address_of_six}
-use Rattle.dns_fields.specs.Examples.{StringExamples, NameExamples, OptionExamples, ParameterExamples, BitmapExamples}
-use Rattle.dns_fields.proofs.{Numbers.length-bytes, Runs.no_labels, NameLaws.name_same, Bitmaps.minimal_first, Bitmaps.minimal_types}
+use Rattle.dns_fields.specs.Examples.{StringExamples, NameExamples, OptionExamples, ParameterExamples}
+use Rattle.dns_fields.proofs.{Numbers.length-bytes, Runs.no_labels, NameLaws.name_same}
 use Rattle.dns_fields.proofs.Tlvs.{number_first, heads_same, tlv_before, length-tlv, tlvs_same, complete_or_truncated}
 
 -- ---- what the examples are made of
