@@ -1,5 +1,5 @@
 #!/usr/bin/env python3
-"""Compares the examples in README.md, docs/GUIDE.md and the comments of the crates with the crates `examples` and `guide`,
+"""Compares the examples in README.md, docs/GUIDE.md and the comments of the crates with the crate `guide`,
 which are proved and run.
 
 Each block that is marked as Rust must be in one of them line by line, but for how far it is indented and for `pub`.
@@ -66,7 +66,7 @@ def wrong_octets():
 def main():
     sources = [
         [plain(line) for line in file.read_text(encoding="utf-8").splitlines()]
-        for file in [*sorted((TOP / "crates/examples/src").glob("*.rt")), *sorted(TOP.glob("crates/guide/src/*.rt"))]
+        for file in sorted(TOP.glob("crates/guide/src/*.rt"))
     ]
 
     def is_there(block):
@@ -86,7 +86,7 @@ def main():
                 good += 1
             else:
                 bad += 1
-                print(f"{file.relative_to(TOP)}: an example that is in none of the crates examples and guide: {block[0] if block else ''}")
+                print(f"{file.relative_to(TOP)}: an example that is not in the crate guide: {block[0] if block else ''}")
     if good == 0:
         bad += 1
         print("no example was found")

@@ -1,14 +1,21 @@
-//! The programs of docs/GUIDE.md, one after the other. Each module is a program: as one of its own, its `main` takes
-//! `rt: HostRuntime`. They are one crate, so that dropping an `RData` is proved once.
+//! The programs of docs/GUIDE.md, one after the other, and then the examples in the library's comments (`comments.rt`).
+//! Each program is a module: as a program of its own, its `main` takes `rt: HostRuntime`. They are one crate, so that
+//! dropping an `RData` is proved once.
 #![tactic(auto)]
 
+mod again;
+mod comments;
 mod copy;
 mod edns;
 mod https;
+mod messages;
+mod parts;
+mod record_data;
 mod response;
 mod sets;
 mod targets;
 mod zone;
+mod zone_files;
 
 use anyhow::Result;
 
@@ -19,5 +26,6 @@ fn main(rt: HostRuntime) -> Result<()> {
     sets::main(&rt)?;
     zone::main(&rt)?;
     https::main(&rt)?;
-    copy::main(&rt)
+    copy::main(&rt)?;
+    comments::main(&rt)
 }

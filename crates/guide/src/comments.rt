@@ -1,28 +1,21 @@
-//! The library as its users call it: a message that is written and read again, and record data read, emitted, parsed
-//! and compared. The examples in the library's comments are here, so that they are proved and run.
-#![tactic(auto)]
+//! The examples in the library's comments: a message that is written and read again, and record data read, emitted,
+//! parsed and compared.
 
-mod again;
-mod messages;
-mod parts;
-mod record_data;
-mod zone_files;
-
-use again::reads_again;
+use crate::again::reads_again;
+use crate::messages::{print_records, write_message};
+use crate::parts::{is_in_zone, only_issuer, port_of, server_of};
+use crate::record_data::{
+    canonical_start, emit_mail, host_of, octets_of, parse_alias, parse_mail, parse_mail_of,
+    read_address, read_address_at, sort_records,
+};
+use crate::zone_files::{print_zone_text, read_zone_mail};
 use anyhow::Result;
 use dns_rdata::{
     BinDecoder, Name, OPT, Octets, RData, RecordDataDecodable, RecordType, Restrict, SVCB, Strings,
     TXT,
 };
 use held_data::{Held, HeldList};
-use messages::{print_records, write_message};
-use parts::{is_in_zone, only_issuer, port_of, server_of};
-use record_data::{
-    canonical_start, emit_mail, host_of, octets_of, parse_alias, parse_mail, parse_mail_of,
-    read_address, read_address_at, sort_records,
-};
 use std::alloc::Global;
-use zone_files::{print_zone_text, read_zone_mail};
 
 fn print_message(rt: &(impl AllocGlobal + Print)) -> Result<()> {
     let mut octets = Vec::new(rt.alloc());
@@ -126,12 +119,13 @@ fn print_octets(rt: &(impl AllocGlobal + Print), record: &Held) -> Result<()> {
     Ok(())
 }
 
-fn main(rt: HostRuntime) -> Result<()> {
-    print_message(&rt)?;
-    print_text(&rt)?;
-    print_mail(&rt)?;
-    print_sorted(&rt)?;
-    print_parts(&rt)?;
-    print_again(&rt)?;
-    print_zone(&rt)
+/// Runs the examples one after the other.
+pub fn main(rt: &(impl AllocGlobal + Print)) -> Result<()> {
+    print_message(rt)?;
+    print_text(rt)?;
+    print_mail(rt)?;
+    print_sorted(rt)?;
+    print_parts(rt)?;
+    print_again(rt)?;
+    print_zone(rt)
 }

@@ -1,6 +1,6 @@
 use Rattle.std.proofs.Common.{◌≡◌, ℕ, List, [], ◌++◌, arith, length, refl, sym, ◌∙◌, ap}
-use Rattle.examples.proofs.ReadBack.{elsewhere, told}
-use Rattle.examples.proofs.again.reads_again.Goals as goal
+use Rattle.guide.proofs.ReadBack.{elsewhere, told}
+use Rattle.guide.proofs.again.reads_again.Goals as goal
 
 pub returns : goal.returns
 returns c =
