@@ -1,10 +1,8 @@
 -- The first difference of two lists, and what they begin with.
-use Rattle.std.proofs.Common.{◌≡◌, ◌≢◌, ℕ, ◌+◌, ◌==◌, true, false, Bool, if◌then◌else◌, Option, Some, None, MatchOption, is_some, subst, List, []}
-use Rattle.std.proofs.Common.{◌∷◌, ◌++◌, length, refl, sym, ap, ◌∙◌, arith}
-use Rattle.std.proofs.lemmas.Bool.Decides.{nat_tests}
-use Rattle.std.specs.{Cmp.tied_itself, Cmp.nat_cmp_total, Cmp.Lexicographic.slice_cmp, declared.cmp.Ordering.Ordering}
-use Rattle.std.specs.Ordering.{nat_cmp, ordering_then}
+use Rattle.std.proofs.{Common.length, Common.refl, Common.sym, Common.ap, Common.◌∙◌, Common.arith, lemmas.Bool.Decides.nat_tests}
+use Rattle.std.proofs.Common.{◌≡◌, ◌≢◌, ℕ, ◌+◌, ◌==◌, true, false, Bool, if◌then◌else◌, Option, Some, None, MatchOption, is_some, subst, List, [], ◌∷◌, ◌++◌}
 use Rattle.std.specs.declared.cmp.Ordering.TheVariants.{Less, Equal, Greater}
+use Rattle.std.specs.{Ordering.nat_cmp, Ordering.ordering_then, Cmp.tied_itself, Cmp.nat_cmp_total, declared.cmp.Ordering.Ordering, Cmp.Lexicographic.slice_cmp}
 use Rattle.dns_canonical.specs.Runs.{Shares, common, next_order}
 
 pub cmp_one : (x : ℕ) (a b : List ℕ) → slice_cmp nat_cmp (x ∷ a) (x ∷ b) ≡ slice_cmp nat_cmp a b
@@ -26,6 +24,10 @@ cmp_shared {n} {a} {c} {b} {d} s = rw (s.left, s.right) (cmp_front s.shared c d)
 
 pub common_shared : {n : ℕ} {a c b d : List ℕ} → Shares n a c b d → common a b ≡ common c d + n
 common_shared {n} {a} {c} {b} {d} s = let e = common_front s.shared c d in rw (s.left, s.right) (omega (arith, e, s.count))
+
+pub both_equal : (o q : Ordering) → ordering_then o q ≡ Equal → (o ≡ Equal) × (q ≡ Equal)
+both_equal Equal q e = (refl, e)
+both_equal o q e = cc e
 
 pub then_kept : (o q : Ordering) → o ≢ Equal → o ≡ ordering_then o q
 then_kept Less q h = refl

@@ -1,10 +1,8 @@
 -- Octets that are copied into a buffer.
-use Rattle.std.proofs.Common.{◌≡◌, ◌≢◌, ℕ, ◌+◌, ◌-◌, ◌<◌, ◌≤◌, inl, inr, min, suc, List, [], ◌∷◌, ◌++◌, length, take, drop, map, refl, sym}
-use Rattle.std.proofs.Common.{ap, ◌∙◌, subst, arith, append_assoc, length-append, length-take-le}
-use Rattle.std.proofs.{Math.ListN.set, Math.Seq.take-add}
-use Rattle.std.proofs.lemmas.List.{append-nil, drop-drop, drop_all, drop_at, drop-append-le, length-drop, length-map, take_all, take_at, take_rest}
-use Rattle.std.proofs.lemmas.Bool.{cases_lt}
+use Rattle.std.proofs.{Common.arith, Common.append_assoc, Common.length-append, Common.length-take-le, lemmas.Bool.cases_lt, Math.Seq.take-add, Math.ListN.set}
 use Rattle.std.proofs.lemmas.List.{take-append-le, take-map, drop-map}
+use Rattle.std.proofs.Common.{◌≡◌, ◌≢◌, ℕ, ◌+◌, ◌-◌, ◌<◌, ◌≤◌, inl, inr, min, suc, List, [], ◌∷◌, ◌++◌, length, take, drop, map, refl, sym, ap, ◌∙◌, subst}
+use Rattle.std.proofs.lemmas.List.{append-nil, drop-drop, drop_all, drop_at, drop-append-le, length-drop, length-map, take_all, take_at, take_rest}
 use Rattle.std.specs.Char.{to_ascii_lowercase}
 use Rattle.dns_labels.specs.Comparing.{lowered_octets}
 use Rattle.dns_canonical.specs.Runs.{HasCopied, Copies}

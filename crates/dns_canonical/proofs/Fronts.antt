@@ -1,28 +1,17 @@
 -- Canonical octets are ordered field by field.
-use Rattle.std.proofs.Common.{◌≡◌, ◌≢◌, ℕ, ◌+◌, ◌-◌, ◌<◌, ◌≤◌, ◌^◌, List, [], ◌∷◌, ◌++◌, length, take, drop, map, refl, sym, ap, ◌∙◌, arith}
-use Rattle.std.proofs.Common.{append_assoc}
+use Rattle.std.proofs.Common.{◌≡◌, ◌≢◌, ℕ, ◌+◌, ◌-◌, ◌<◌, ◌≤◌, ◌^◌, List, [], ◌∷◌, ◌++◌, length, take, drop, map, refl, sym, ap, ◌∙◌, arith, append_assoc}
 use Rattle.std.proofs.lemmas.List.{append-nil, drop-drop, length-drop, length-map, take-append-drop, take-take}
-use Rattle.std.specs.{Int.bytes_high_first, Char.to_ascii_lowercase, Cmp.nat_cmp_is, Cmp.ranks, Cmp.Lexicographic.slice_cmp, Ordering.MatchOrdering}
-use Rattle.std.specs.{Ordering.nat_cmp, Ordering.ordering_then, declared.cmp.Ordering.Ordering}
 use Rattle.std.specs.declared.cmp.Ordering.TheVariants.{Less, Equal, Greater}
-use Rattle.dns_fields.specs.Fields.{Kind, Number, Octets, Name, CharacterString, CharacterStrings, Rest, Options, Parameters, Bitmap, Value, Values, field_octets}
-use Rattle.dns_fields.specs.Fields.{canonical}
-use Rattle.dns_fields.specs.Labels.{AreLabels, lowered}
+use Rattle.std.specs.{Ordering.nat_cmp, Ordering.ordering_then, FinMap.nat_cmp-IsAntisymmetric, declared.cmp.Ordering.Ordering, Cmp.Lexicographic.slice_cmp}
+use Rattle.std.specs.{Char.to_ascii_lowercase, Int.bytes_high_first, Cmp.nat_cmp_is}
+use Rattle.dns_fields.specs.{Fields.field_octets, Fields.canonical, Labels.AreLabels, Labels.lowered}
+use Rattle.dns_fields.specs.Fields.{Kind, Number, Octets, Name, CharacterString, CharacterStrings, Rest, Options, Parameters, Bitmap, Value, Values}
 use Rattle.dns_fields.proofs.Numbers.{number_cmp, length-bytes}
 use Rattle.dns_canonical.specs.Fronts.{canonical_cmp, field_cmp, fields_cmp, EndsAlike, AllEndAlike}
-use Rattle.dns_canonical.proofs.Comparing.{cmp_shared, then_assoc, then_equal, then_kept, apart}
-use Rattle.dns_canonical.proofs.Sharing.{same_further}
-
-tied : (x y : ℕ) → nat_cmp x y ≡ Equal → x ≡ y
-tied x y e = by (nat_cmp x y) (ranks x y) e
-  where
-    by : (o : Ordering) → MatchOrdering o (x < y) (x ≡ y) (y < x) → o ≡ Equal → x ≡ y
-    by Less h e = cc e
-    by Equal h e = h
-    by Greater h e = cc e
+use Rattle.dns_canonical.proofs.{Comparing.cmp_shared, Comparing.then_assoc, Comparing.then_equal, Comparing.then_kept, Comparing.apart, Sharing.same_further}
 
 -- what comes behind matters only where the first are equal
-behind : (o s t u : Ordering) → (o ≡ Equal → s ≡ ordering_then t u) → ordering_then o s ≡ ordering_then (ordering_then o t) u
+pub behind : (o s t u : Ordering) → (o ≡ Equal → s ≡ ordering_then t u) → ordering_then o s ≡ ordering_then (ordering_then o t) u
 behind Less s t u h = refl
 behind Equal s t u h = h refl
 behind Greater s t u h = refl
@@ -39,7 +28,7 @@ front_then (a ∷ p) (b ∷ q) x y h =
 pub sized_then : (n m : ℕ) (p q x y : List ℕ) → (n ≡ m → length p ≡ length q)
     → slice_cmp nat_cmp (n ∷ (p ++ x)) (m ∷ (q ++ y)) ≡ ordering_then (slice_cmp nat_cmp (n ∷ p) (m ∷ q)) (slice_cmp nat_cmp x y)
 sized_then n m p q x y h =
-    behind (nat_cmp n m) (slice_cmp nat_cmp (p ++ x) (q ++ y)) (slice_cmp nat_cmp p q) (slice_cmp nat_cmp x y) (λ e. front_then p q x y (h (tied n m e)))
+    behind (nat_cmp n m) (slice_cmp nat_cmp (p ++ x) (q ++ y)) (slice_cmp nat_cmp p q) (slice_cmp nat_cmp x y) (λ e. front_then p q x y (h (nat_cmp-IsAntisymmetric n m e)))
 
 labels_then : (a b : List (List ℕ)) (x y : List ℕ) → AreLabels a → AreLabels b
     → slice_cmp nat_cmp (lowered a ++ x) (lowered b ++ y) ≡ ordering_then (slice_cmp nat_cmp (lowered a) (lowered b)) (slice_cmp nat_cmp x y)

@@ -1,9 +1,8 @@
 -- Octets that two runs gave.
-use Rattle.std.proofs.Common.{◌≡◌, ℕ, ◌+◌, ◌-◌, ◌≤◌, Bool, true, false, true≢false, not, nat_eq, List, [], ◌∷◌, ◌++◌, length, take, drop, map, refl}
-use Rattle.std.proofs.Common.{sym, ap, ◌∙◌, arith, append_assoc, length-append, length-take-le}
 use Rattle.std.proofs.lemmas.List.{drop-drop, take-append-drop, map-append, take_all, length-drop, length-map}
-use Rattle.std.proofs.Math.Seq.{take-add}
-use Rattle.std.specs.{Cmp.unsigned_Decides, Cmp.Lexicographic.pointwise, Cmp.Lexicographic.pointwise_decides, Bool.beq, Char.to_ascii_lowercase}
+use Rattle.std.proofs.{Common.◌∙◌, Common.arith, Common.append_assoc, Common.length-append, Common.length-take-le, Math.Seq.take-add}
+use Rattle.std.proofs.Common.{◌≡◌, ℕ, ◌+◌, ◌-◌, ◌≤◌, Bool, true, false, true≢false, not, nat_eq, List, [], ◌∷◌, ◌++◌, length, take, drop, map, refl, sym, ap}
+use Rattle.std.specs.{Cmp.Lexicographic.pointwise, Cmp.Lexicographic.pointwise_decides, Char.to_ascii_lowercase, Cmp.unsigned_Decides, Bool.beq}
 use Rattle.dns_labels.specs.Comparing.{lowered_octets}
 use Rattle.dns_canonical.specs.Runs.{Shares, tail_octets}
 

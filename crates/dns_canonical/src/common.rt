@@ -1,7 +1,6 @@
 //! How many octets two slices begin with alike.
 
-ghost use Rattle.std.specs.Prelude.{◌≡◌, ◌≤◌, length, take, map};
-ghost use Rattle.std.specs.Char.{to_ascii_lowercase};
+ghost use Rattle.std.specs.{Prelude.◌≡◌, Prelude.◌≤◌, Prelude.length, Prelude.take, Prelude.map, Char.to_ascii_lowercase};
 
 // How many octets both begin with.
 #[inline]

@@ -1,6 +1,5 @@
 //! Counters that only contracts read. They take no octet of a value, and their methods do nothing at run time.
-ghost use Rattle.std.specs.Prelude.{◌≡◌, ℕ, ◌+◌};
-ghost use Rattle.std.specs.Borrow.{ftrue};
+ghost use Rattle.std.specs.{Prelude.◌≡◌, Prelude.ℕ, Prelude.◌+◌, Borrow.ftrue};
 
 use std::marker::{Model, PhantomData};
 

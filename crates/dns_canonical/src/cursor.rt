@@ -1,8 +1,8 @@
 //! Canonical octets, one after the other.
 
-ghost use Rattle.std.specs.Prelude.{◌≡◌, ◌+◌, ◌≤◌, IsTrue, [], ◌∷◌, if◌then◌else◌, is_some, Some, None, IfNone, IfSome, MatchOption};
+ghost use Rattle.std.specs.Prelude.{◌≡◌, ◌+◌, ◌≤◌, IsTrue, [], ◌∷◌, if◌then◌else◌, is_some, Some, None, IfNone, IfSome, MatchOption, ◌++◌};
 ghost use Rattle.std.specs.{Ordering.nat_cmp, Option.option_copied, Cmp.Lexicographic.slice_cmp, Iterator.YieldsFirstBy, Iterator.item_count};
-ghost use Rattle.dns_canonical.specs.{Runs.common, Runs.Copies, Steps.GivesStep, Steps.CountsPasses, Steps.CountsChoices};
+ghost use Rattle.dns_canonical.specs.{Runs.common, Runs.Copies, Steps.GivesStep, Steps.CountsPasses, Steps.CountsChoices, Cursor.Course, Cursor.Remaining};
 ghost use Rattle.dns_canonical.specs.Cursor.{course_of, begins, Chooses, Advances, RefillsBy, Skips};
 
 use crate::count::Count;
@@ -16,8 +16,6 @@ use std::marker::Model;
 
 /// Data whose canonical octets come in steps.
 pub trait Stepped {
-    ghost use Rattle.dns_canonical.specs.Cursor.{Course};
-
     /// What a cursor keeps from one step to the next.
     type Kept: Drop;
 
@@ -61,10 +59,6 @@ pub struct Cursor<'a, T: Stepped> {
 }
 
 impl<'a, T: Stepped> Model for Cursor<'a, T> {
-    ghost use Rattle.std.specs.Prelude.{◌≤◌, ◌++◌};
-    ghost use Rattle.std.specs.Option.{option_copied};
-    ghost use Rattle.dns_canonical.specs.Cursor.{Remaining, course_of};
-
     ghost Value = { Remaining };
 
     ghost view = { λ c. let w = course_of T.course (option_copied c.data) in record {

@@ -1,6 +1,6 @@
 //! A few octets that are kept.
 
-ghost use Rattle.std.specs.Prelude.{◌≡◌, ◌+◌, ◌<◌, ◌≤◌, [], ◌++◌, length};
+ghost use Rattle.std.specs.Prelude.{◌≡◌, ◌+◌, ◌<◌, ◌≤◌, [], ◌++◌, length, ℕ, List};
 ghost use Rattle.dns_fields.specs.Fields.{Number, CharacterString, field_octets};
 
 use crate::tail::Tail;
@@ -14,8 +14,6 @@ pub struct Head {
 }
 
 impl Model for Head {
-    ghost use Rattle.std.specs.Prelude.{ℕ, List};
-
     ghost Value = { List ℕ };
 
     ghost view = { λ b. b.octets.items };

@@ -1,6 +1,6 @@
 //! Octets at hand: a few that are kept, and then a tail.
 
-ghost use Rattle.std.specs.Prelude.{◌≡◌, ◌+◌, ◌<◌, ◌≤◌, ◌^◌, [], ◌++◌, ◌∷◌, MatchOption};
+ghost use Rattle.std.specs.Prelude.{◌≡◌, ◌+◌, ◌<◌, ◌≤◌, ◌^◌, [], ◌++◌, ◌∷◌, MatchOption, ℕ, List, drop, length};
 ghost use Rattle.std.specs.{Cmp.Lexicographic.slice_cmp, Ordering.nat_cmp};
 ghost use Rattle.dns_canonical.specs.Runs.{Shares, Copies};
 
@@ -20,8 +20,6 @@ pub struct Run<'a> {
 }
 
 impl<'a> Model for Run<'a> {
-    ghost use Rattle.std.specs.Prelude.{ℕ, List, ◌≤◌, ◌++◌, drop, length};
-
     ghost Value = { List ℕ };
 
     ghost view = { λ r. drop r.at r.head ++ r.tail };

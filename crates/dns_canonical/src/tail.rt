@@ -1,9 +1,9 @@
 //! A slice, or the labels of a name.
 
-ghost use Rattle.std.specs.Prelude.{◌≡◌, ◌+◌, ◌<◌, ◌^◌, [], ◌∷◌, ◌++◌, length as size, take, drop, map, min, MatchOption};
+ghost use Rattle.std.specs.Prelude.{◌≡◌, ◌+◌, ◌<◌, ◌^◌, [], ◌∷◌, ◌++◌, length as size, take, drop, map, min, MatchOption, ℕ, List};
 ghost use Rattle.std.specs.{Cmp.Lexicographic.slice_cmp, Char.to_ascii_lowercase, Ordering.nat_cmp};
 ghost use Rattle.dns_fields.specs.Fields.{Name as NameKind, Rest, field_octets};
-ghost use Rattle.dns_canonical.specs.Runs.{Shares, Copies};
+ghost use Rattle.dns_canonical.specs.Runs.{Shares, Copies, tail_octets};
 
 use crate::common::{common_beginning, common_lowered};
 use crate::order::next_order;
@@ -19,9 +19,6 @@ pub struct Tail<'a> {
 }
 
 impl<'a> Model for Tail<'a> {
-    ghost use Rattle.std.specs.Prelude.{ℕ, List};
-    ghost use Rattle.dns_canonical.specs.Runs.{tail_octets};
-
     ghost Value = { List ℕ };
 
     ghost view = { λ t. tail_octets t.octets.now t.is_name };

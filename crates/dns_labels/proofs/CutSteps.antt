@@ -1,12 +1,11 @@
 -- The steps by which a name is cut into labels to be written and a tail.
-use Rattle.std.proofs.Common.{◌≡◌, ℕ, ◌+◌, ◌<◌, ◌≤◌, List, [], ◌∷◌, ◌++◌, length, take, drop, get_or, Option, Some, None, refl, sym, ◌∙◌, ap, subst}
-use Rattle.std.proofs.Common.{arith, length-append, length-drop}
 use Rattle.std.proofs.lemmas.List.{append-nil, drop-drop, take_all, drop_all, take_at, drop_at, get_or-drop, take-append-drop}
-use Rattle.std.proofs.Math.Seq.{take-add}
-use Rattle.dns_fields.specs.{Labels.AreLabels, Labels.wire, Names.LabelsStand, Names.pointer, Names.LabelsStand.whole, Names.LabelsStand.pointed}
-use Rattle.dns_labels.specs.{Labels.AreNameOctets, Labels.labels_of, Reading.stop_octets}
-use Rattle.dns_labels.specs.Emission.{StandsFor, CutAt, IsNameCut, LeadsTo}
-use Rattle.dns_fields.proofs.{Stays.stands_before, Runs.wire-append, Runs.AreLabels-append}
+use Rattle.std.proofs.{Common.length-append, Common.length-drop, Math.Seq.take-add}
+use Rattle.std.proofs.Common.{◌≡◌, ℕ, ◌+◌, ◌<◌, ◌≤◌, List, [], ◌∷◌, ◌++◌, length, take, drop, get_or, Option, Some, None, refl, sym, ◌∙◌, ap, subst, arith}
+use Rattle.dns_fields.specs.{Names.LabelsStand.whole, Names.LabelsStand.pointed, Names.LabelsStand, Names.pointer, Labels.AreLabels, Labels.wire}
+use Rattle.dns_labels.specs.{Emission.StandsFor, Emission.CutAt, Emission.IsNameCut, Emission.LeadsTo, Labels.AreNameOctets, Labels.labels_of}
+use Rattle.dns_labels.specs.Reading.{stop_octets}
+use Rattle.dns_fields.proofs.{Runs.wire-append, Runs.AreLabels-append, Stays.stands_before}
 use Rattle.dns_labels.proofs.Octets.{same_wire}
 
 pub cut_start : (octets : List ℕ) (labels : List (List ℕ)) → AreLabels labels → octets ≡ wire labels → CutAt octets 0

@@ -1,9 +1,8 @@
 -- The steps of the reader of a label's text.
+use Rattle.std.proofs.lemmas.{List.append-nil, List.append_cancel_left, List.get_or-drop, List.drop_more, Grind.common_steps}
+use Rattle.std.proofs.{Common.length-append, Common.length-drop, Math.Seq.take-add}
 use Rattle.std.proofs.Common.{◌≡◌, ◌≢◌, ℕ, ◌+◌, ◌<◌, ◌≤◌, List, [], ◌∷◌, ◌++◌, length, take, drop, get_or, refl, sym, ◌∙◌, ap, append_assoc, arith}
-use Rattle.std.proofs.Common.{length-append, length-drop}
-use Rattle.std.proofs.{Math.Seq.take-add, lemmas.Grind.common_steps}
-use Rattle.std.proofs.lemmas.List.{append-nil, append_cancel_left, get_or-drop, drop_more}
-use Rattle.dns_labels.specs.{Text.OctetText, Text.LabelText, Text.IsLabelEnd, Text.AddsOctets, Text.LabelText.no_octet, Text.LabelText.octet}
+use Rattle.dns_labels.specs.Text.{OctetText, LabelText, IsLabelEnd, AddsOctets, LabelText.no_octet, LabelText.octet}
 use Rattle.dns_labels.proofs.Octets.{cut_off}
 
 -- octets of a label that are still to be read

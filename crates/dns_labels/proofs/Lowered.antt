@@ -1,12 +1,11 @@
 -- A name's lowered octets.
-use Rattle.std.proofs.Common.{◌≡◌, ◌↔◌, IsTrue, ℕ, ◌≤◌, Bool, true, List, [], ◌∷◌, ◌++◌, length, map, refl, sym, ◌∙◌, ap}
-use Rattle.std.proofs.Common.{append_assoc, arith}
-use Rattle.std.proofs.{Math.Bool.and-true, lemmas.Bool.Decides.nat_tests, lemmas.Bool.Decides.same_from_decides, lemmas.Slice.Eq.bytes_eq-Decides}
-use Rattle.std.proofs.lemmas.List.{map-append, append_cancel_right}
-use Rattle.std.specs.Prelude.{◌&&◌}
-use Rattle.std.specs.{Str.bytes_eq, Char.to_ascii_lowercase, Cmp.Lexicographic.slice_cmp, declared.cmp.Ordering.Ordering}
-use Rattle.std.specs.Ordering.{nat_cmp, ordering_then}
-use Rattle.dns_fields.{specs.Labels.AreLabels, specs.Labels.wire, specs.Labels.low_labels, specs.Labels.lowered, proofs.NameLaws.low_wire}
+use Rattle.std.proofs.Common.{◌≡◌, ◌↔◌, IsTrue, ℕ, ◌≤◌, Bool, true, List, [], ◌∷◌, ◌++◌, length, map, refl, sym, ◌∙◌, ap, append_assoc, arith}
+use Rattle.std.proofs.lemmas.{Bool.Decides.nat_tests, Bool.Decides.same_from_decides, List.map-append, List.append_cancel_right}
+use Rattle.std.proofs.{lemmas.Slice.Eq.bytes_eq-Decides, Math.Bool.and-true}
+use Rattle.std.specs.{Ordering.nat_cmp, Ordering.ordering_then, declared.cmp.Ordering.Ordering, Cmp.Lexicographic.slice_cmp, Char.to_ascii_lowercase}
+use Rattle.std.specs.{Prelude.◌&&◌, Str.bytes_eq}
+use Rattle.dns_fields.specs.Labels.{AreLabels, wire, low_labels, lowered}
+use Rattle.dns_fields.proofs.NameLaws.{low_wire}
 use Rattle.dns_labels.specs.{Labels.labels_of, Labels.AreNameOctets, Comparing.lowered_octets}
 use Rattle.dns_labels.proofs.Octets.{same_wire}
 

@@ -1,17 +1,15 @@
 -- The steps of the reader of a name's text.
-use Rattle.std.proofs.Common.{◌≡◌, ◌≢◌, ℕ, ◌+◌, ◌-◌, ◌<◌, ◌≤◌, Bool, true, false, List, [], ◌∷◌, ◌++◌, length, take, drop, get_or, refl, sym, ◌∙◌, ap}
-use Rattle.std.proofs.Common.{subst, append_assoc, arith, length-append, length-drop}
-use Rattle.std.specs.Prelude.{slice_set, Result, Ok, Err}
-use Rattle.std.specs.Result.{IfErr, IsErr}
-use Rattle.std.proofs.Math.Seq.{set-append_seam}
 use Rattle.std.proofs.lemmas.List.{append-nil, append_cancel_left, drop-drop, drop_all, drop_more, take-append-drop}
+use Rattle.std.proofs.{Common.append_assoc, Common.arith, Common.length-append, Common.length-drop, Math.Seq.set-append_seam}
+use Rattle.std.proofs.Common.{◌≡◌, ◌≢◌, ℕ, ◌+◌, ◌-◌, ◌<◌, ◌≤◌, Bool, true, false, List, [], ◌∷◌, ◌++◌, length, take, drop, get_or, refl, sym, ◌∙◌, ap, subst}
+use Rattle.std.specs.{Prelude.slice_set, Prelude.Result, Prelude.Ok, Prelude.Err, Result.IfErr, Result.IsErr}
 use Rattle.dns_fields.specs.Labels.{DomainName, IsLabel, AreLabels, wire, FitsName}
 use Rattle.dns_fields.proofs.Runs.{wire-append, AreLabels-append}
-use Rattle.dns_labels.specs.{Labels.AreNameOctets, Labels.labels_of, Labels.name_of, Text.LabelsText.last, Text.LabelsText.dotted}
-use Rattle.dns_labels.specs.{Text.LabelsText.joined, Text.MarkedText.root, Text.MarkedText.nothing, Text.MarkedText.labelled}
 use Rattle.dns_labels.specs.Text.{LabelText, LabelsText, MarkedText, IsNameText, IsLabelEnd, AddsOctets, AddsLabel}
-use Rattle.dns_labels.proofs.{Octets.cut_off, Octets.wire_length, Octets.second_is, Octets.labels_from, Octets.are_name_octets, NameTexts.one_label}
-use Rattle.dns_labels.proofs.{NameTexts.first_text, NameTexts.BackText, NameTexts.back_ends, NameTexts.BackText.at_dot, NameTexts.BackText.further}
+use Rattle.dns_labels.specs.{Text.MarkedText.root, Text.MarkedText.nothing, Text.MarkedText.labelled, Labels.AreNameOctets, Labels.labels_of, Labels.name_of}
+use Rattle.dns_labels.specs.Text.LabelsText.{last, dotted, joined}
+use Rattle.dns_labels.proofs.{Octets.cut_off, Octets.wire_length, Octets.second_is, Octets.labels_from, Octets.are_name_octets, NameTexts.BackText.at_dot}
+use Rattle.dns_labels.proofs.NameTexts.{one_label, first_text, BackText, back_ends, BackText.further}
 
 -- the length octet is written in front of the label
 pub label_set : {text : List ℕ} {taken : ℕ} {old begun new : List ℕ} {start count : ℕ} → begun ≡ old ++ 0 ∷ [] → AddsOctets text taken begun new

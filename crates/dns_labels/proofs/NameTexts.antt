@@ -1,13 +1,11 @@
 -- A text is that of one name, and what is printed of a name is a text of it.
-use Rattle.std.proofs.Common.{◌≡◌, ℕ, zero, suc, ◌<◌, ◌≤◌, Bool, true, false, List, [], ◌∷◌, ◌++◌, All, length, refl, sym, ◌∙◌, ap, subst}
-use Rattle.std.proofs.Common.{append_assoc, arith}
+use Rattle.std.proofs.Common.{◌≡◌, ℕ, zero, suc, ◌<◌, ◌≤◌, Bool, true, false, List, [], ◌∷◌, ◌++◌, All, length, refl, sym, ◌∙◌, ap, subst, append_assoc, arith}
+use Rattle.std.proofs.lemmas.List.{Elements.All-head, Elements.All-tail, append-nil, append_cancel_left}
 use Rattle.std.specs.Prelude.{flat_map, if◌then◌else◌}
-use Rattle.std.proofs.{lemmas.List.append-nil, lemmas.List.append_cancel_left, lemmas.List.Elements.All-head, lemmas.List.Elements.All-tail}
-use Rattle.dns_fields.specs.{Octets.AreOctets, Labels.DomainName, Labels.AreLabels, Labels.IsName}
-use Rattle.dns_labels.specs.{Text.OctetText, Text.LabelText, Text.LabelsText, Text.MarkedText, Text.IsNameText, Text.IsLabelEnd, Text.HasOctets}
-use Rattle.dns_labels.specs.{Text.printed, Text.label_text, Text.joined_text, Text.name_text, Text.OctetText.plain, Text.OctetText.decimal}
-use Rattle.dns_labels.specs.{Text.OctetText.quoted, Text.LabelText.no_octet, Text.LabelText.octet, Text.LabelsText.last, Text.LabelsText.dotted}
-use Rattle.dns_labels.specs.{Text.LabelsText.joined, Text.MarkedText.root, Text.MarkedText.nothing, Text.MarkedText.labelled}
+use Rattle.dns_fields.specs.{Labels.DomainName, Labels.AreLabels, Labels.IsName, Octets.AreOctets}
+use Rattle.dns_labels.specs.Text.{OctetText, LabelText, LabelsText, MarkedText, IsNameText, IsLabelEnd, HasOctets, printed, label_text, joined_text, name_text}
+use Rattle.dns_labels.specs.Text.{MarkedText.root, MarkedText.nothing, MarkedText.labelled, LabelText.no_octet, LabelText.octet, OctetText.plain}
+use Rattle.dns_labels.specs.Text.{LabelsText.last, LabelsText.dotted, LabelsText.joined, OctetText.decimal, OctetText.quoted}
 use Rattle.dns_labels.proofs.{TextSteps.printed_text, LabelSteps.one_octet}
 use Rattle.dns_fields.proofs.NameLaws.{made}
 

@@ -1,11 +1,10 @@
 -- One run after another makes a name.
-use Rattle.std.proofs.Common.{◌≡◌, ℕ, ◌+◌, ◌-◌, ◌/◌, ◌%◌, ◌<◌, ◌≤◌, List, [], ◌∷◌, ◌++◌, length, take, drop, get_or, Option, Some, None, refl, sym}
-use Rattle.std.proofs.Common.{◌∙◌, ap, subst, append_assoc, arith, length-take}
-use Rattle.std.proofs.{lemmas.List.append-nil, Math.Seq.take-append_seam}
-use Rattle.dns_fields.specs.{Labels.wire, Labels.FitsName, Names.LabelsStand, Names.LabelsStand.whole, Names.LabelsStand.pointed}
+use Rattle.std.proofs.{Common.subst, Common.append_assoc, Common.arith, Common.length-take, Math.Seq.take-append_seam, lemmas.List.append-nil}
+use Rattle.std.proofs.Common.{◌≡◌, ℕ, ◌+◌, ◌-◌, ◌/◌, ◌%◌, ◌<◌, ◌≤◌, List, [], ◌∷◌, ◌++◌, length, take, drop, get_or, Option, Some, None, refl, sym, ◌∙◌, ap}
+use Rattle.dns_fields.specs.{Names.LabelsStand.whole, Names.LabelsStand.pointed, Labels.wire, Labels.FitsName, Names.LabelsStand}
 use Rattle.dns_labels.specs.Reading.{IsRun, AddsRun, IsNameAt}
-use Rattle.dns_fields.proofs.{Runs.same_run, Runs.wire-append, Unique.zero_stop, Unique.pointer_stop, Unique.apart, Unique.same_target}
-use Rattle.dns_labels.proofs.{Octets.wire_length, ReadingSteps.SoFar, ReadingSteps.at_zero}
+use Rattle.dns_fields.proofs.{Unique.zero_stop, Unique.pointer_stop, Unique.apart, Unique.same_target, Runs.same_run, Runs.wire-append}
+use Rattle.dns_labels.proofs.{ReadingSteps.SoFar, ReadingSteps.at_zero, Octets.wire_length}
 
 -- these labels stand from where the run that began at this offset leads
 abbrev pub RestStands : List ℕ → ℕ → Option ℕ → List (List ℕ) → Type 0

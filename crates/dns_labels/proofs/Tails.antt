@@ -1,11 +1,10 @@
 -- Octets that stand at an offset, with an octet 0 behind them, or with a pointer behind some to where the others stand.
+use Rattle.std.proofs.{lemmas.List.take-append-drop, Common.length-take, Math.Seq.drop-cons}
 use Rattle.std.proofs.Common.{◌≡◌, ℕ, suc, ◌+◌, ◌-◌, ◌*◌, ◌<◌, ◌≤◌, List, [], ◌∷◌, ◌++◌, length, take, drop, get_or, Some, refl, sym, ◌∙◌, ap, arith}
-use Rattle.std.proofs.Common.{length-take}
-use Rattle.std.proofs.{lemmas.List.take-append-drop, Math.Seq.drop-cons}
 use Rattle.dns_fields.specs.{Labels.AreLabels, Labels.wire, Names.LabelsStand.whole}
 use Rattle.dns_fields.proofs.Runs.{wire-append}
 use Rattle.dns_labels.specs.Emission.{StandsFor, CutAt}
-use Rattle.dns_labels.proofs.{Octets.cut_off, ReadingSteps.SoFar, ReadingSteps.at_pointer, ReadingRuns.run_stands}
+use Rattle.dns_labels.proofs.{ReadingSteps.SoFar, ReadingSteps.at_pointer, ReadingRuns.run_stands, Octets.cut_off}
 
 pub tail_whole : {message : List ℕ} {offset : ℕ} {octets a : List ℕ} (labels : List (List ℕ)) → AreLabels labels → octets ≡ wire labels
     → offset + length octets < length message → a ≡ take (length octets) (drop offset message) → a ≡ octets

@@ -1,9 +1,8 @@
 -- Texts of an octet.
-use Rattle.std.proofs.Common.{◌≡◌, ◌≢◌, ℕ, ◌+◌, ◌-◌, ◌*◌, ◌/◌, ◌%◌, ◌<◌, ◌≤◌, Bool, true, false, cond, nat_le, List, [], ◌∷◌, length, take, get_or}
-use Rattle.std.proofs.Common.{refl, arith}
-use Rattle.std.specs.Prelude.{◌||◌, ◌&&◌, ◌==◌}
+use Rattle.std.proofs.Common.{◌≡◌, ◌≢◌, ℕ, ◌+◌, ◌-◌, ◌*◌, ◌/◌, ◌%◌, ◌<◌, ◌≤◌, Bool, true, false, cond, nat_le, List, [], ◌∷◌, length, take, get_or, refl, arith}
 use Rattle.std.proofs.lemmas.Bool.Decides.{nat_tests}
-use Rattle.dns_labels.specs.{Text.OctetText, Text.IsGraphic, Text.printed, Text.OctetText.plain, Text.OctetText.decimal, Text.OctetText.quoted}
+use Rattle.std.specs.Prelude.{◌||◌, ◌&&◌, ◌==◌}
+use Rattle.dns_labels.specs.Text.{OctetText.plain, OctetText.decimal, OctetText.quoted, OctetText, IsGraphic, printed}
 
 pub read_plain : (s : List ℕ) → 1 ≤ length s → IsGraphic (get_or s 0 0) → get_or s 0 0 ≢ 46 → get_or s 0 0 ≢ 92 → OctetText (get_or s 0 0) (take 1 s)
 read_plain [] h g a b = absurd (omega arith)

@@ -1,11 +1,10 @@
 -- The steps by which a tail is found.
-use Rattle.std.proofs.Common.{◌≡◌, ℕ, ◌+◌, ◌<◌, ◌≤◌, List, [], ◌++◌, length, take, drop, Option, Some, None, refl, sym, ◌∙◌, ap, subst, append_assoc}
-use Rattle.std.proofs.Common.{arith, length-drop, length-take, get_or}
-use Rattle.std.proofs.{lemmas.List.append-nil, lemmas.List.take_all, Math.Seq.take-add, lemmas.Bool.OnTrue_from, lemmas.Bool.eqb-true}
-use Rattle.std.specs.Bool.{OnTrue}
-use Rattle.std.specs.Prelude.{nat_eq}
-use Rattle.dns_fields.specs.{Labels.wire, Names.LabelsStand}
-use Rattle.dns_labels.specs.{Reading.AddsRun, Emission.StandsFor}
+use Rattle.std.proofs.{Common.length-drop, Common.length-take, Common.get_or, lemmas.Bool.OnTrue_from, lemmas.Bool.eqb-true, Math.Seq.take-add}
+use Rattle.std.proofs.lemmas.List.{append-nil, take_all}
+use Rattle.std.proofs.Common.{◌≡◌, ℕ, ◌+◌, ◌<◌, ◌≤◌, List, [], ◌++◌, length, take, drop, Option, Some, None, refl, sym, ◌∙◌, ap, subst, append_assoc, arith}
+use Rattle.std.specs.{Prelude.nat_eq, Bool.OnTrue}
+use Rattle.dns_fields.specs.{Names.LabelsStand, Labels.wire}
+use Rattle.dns_labels.specs.{Emission.StandsFor, Reading.AddsRun}
 use Rattle.dns_fields.proofs.Runs.{wire-append}
 use Rattle.dns_labels.proofs.{ReadingSteps.SoFar, ReadingSteps.one_more, ReadingRuns.run_stands}
 

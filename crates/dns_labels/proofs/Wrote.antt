@@ -1,13 +1,11 @@
 -- A name that was written.
-use Rattle.std.proofs.Common.{◌≡◌, ◌≢◌, ℕ, Bool, ◌+◌, ◌<◌, sym, subst, append_assoc, List, [], ◌∷◌, ◌++◌, length, take, Option, None, refl, ap, ◌∙◌}
-use Rattle.std.proofs.Common.{arith, length-append, length-take}
-use Rattle.std.proofs.lemmas.List.{append-nil, take_all}
+use Rattle.std.proofs.{lemmas.List.append-nil, lemmas.List.take_all, Common.length-append, Common.length-take}
+use Rattle.std.proofs.Common.{◌≡◌, ◌≢◌, ℕ, Bool, ◌+◌, ◌<◌, sym, subst, append_assoc, List, [], ◌∷◌, ◌++◌, length, take, Option, None, refl, ap, ◌∙◌, arith}
 use Rattle.dns_fields.specs.{declared.RDataEncoding.RDataEncoding, Names.NameWrote, Names.pointer}
-use Rattle.dns_fields.specs.declared.RDataEncoding.TheVariants as modes
 use Rattle.dns_fields.proofs.{NameLaws.lowname_length, NameLaws.name_same, NameLaws.name_append, Stays.end_within}
-use Rattle.dns_labels.specs.{Labels.name_of, Labels.AreNameOctets, Reading.stop_octets, Emission.StandsFor, Emission.IsNameCut}
-use Rattle.dns_labels.proofs.{Found.name_is_of, Lowered.low_labels_same}
-use Rattle.dns_labels.proofs.CutSteps.{cut_stands, whole_found, cut_whole, cut_short}
+use Rattle.dns_labels.specs.{Emission.StandsFor, Emission.IsNameCut, Labels.name_of, Labels.AreNameOctets, Reading.stop_octets}
+use Rattle.dns_labels.proofs.{CutSteps.cut_stands, CutSteps.whole_found, CutSteps.cut_whole, CutSteps.cut_short, Lowered.low_labels_same, Found.name_is_of}
+use Rattle.dns_fields.specs.declared.RDataEncoding.TheVariants as modes
 
 -- the octets up to the cut and what ends them are the name
 pub cut_wrote : {mode : RDataEncoding} {message old part new octets : List ℕ} {cut : ℕ} {target stop : Option ℕ} → message ≡ old → AreNameOctets octets

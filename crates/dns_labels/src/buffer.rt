@@ -1,6 +1,6 @@
 //! A name's octets while they are read, without a request for memory.
 
-ghost use Rattle.std.specs.Prelude.{◌≡◌, ◌+◌, ◌<◌, ◌≤◌, [], ◌++◌, ◌∷◌, length, IfOk, slice_set};
+ghost use Rattle.std.specs.Prelude.{◌≡◌, ◌+◌, ◌<◌, ◌≤◌, [], ◌++◌, ◌∷◌, length, IfOk, slice_set, ℕ, List};
 ghost use Rattle.std.specs.Bool.{OnTrue};
 ghost use Rattle.dns_labels.specs.Text.{label_text};
 
@@ -19,8 +19,6 @@ pub(crate) struct NameBuffer {
 }
 
 impl Model for NameBuffer {
-    ghost use Rattle.std.specs.Prelude.{ℕ, List};
-
     ghost Value = { List ℕ };
 
     ghost view = { λ b. b.octets.items };

@@ -1,6 +1,9 @@
 //! Why no name was read or written.
 
 ghost use Rattle.std.specs.Prelude.{◌≡◌};
+ghost use Rattle.dns_labels.specs.declared.error.NameError.TheVariants as name_error;
+ghost use Rattle.dns_labels.specs.declared.error.NameTextError.TheVariants as text_error;
+ghost use Rattle.dns_labels.specs.declared.error.WriteError.TheVariants as write_error;
 
 use std::alloc::{AllocError, AllocFailed};
 use thiserror::Error;
@@ -17,9 +20,7 @@ pub enum NameError {
 }
 
 impl From<AllocError> for NameError {
-    ghost use Rattle.dns_labels.specs.declared.error.NameError.TheVariants.{Memory};
-
-    ghost from_gives = { λ _ e. e ≡ Memory };
+    ghost from_gives = { λ _ e. e ≡ name_error.Memory };
 
     fn from(_e: AllocError) -> NameError {
         NameError::Memory
@@ -27,9 +28,7 @@ impl From<AllocError> for NameError {
 }
 
 impl<T: Drop> From<AllocFailed<T>> for NameError {
-    ghost use Rattle.dns_labels.specs.declared.error.NameError.TheVariants.{Memory};
-
-    ghost from_gives = { λ _ e. e ≡ Memory };
+    ghost from_gives = { λ _ e. e ≡ name_error.Memory };
 
     fn from(_e: AllocFailed<T>) -> NameError {
         NameError::Memory
@@ -48,9 +47,7 @@ pub enum NameTextError {
 }
 
 impl From<AllocError> for NameTextError {
-    ghost use Rattle.dns_labels.specs.declared.error.NameTextError.TheVariants.{Memory};
-
-    ghost from_gives = { λ _ e. e ≡ Memory };
+    ghost from_gives = { λ _ e. e ≡ text_error.Memory };
 
     fn from(_e: AllocError) -> NameTextError {
         NameTextError::Memory
@@ -69,9 +66,7 @@ pub enum WriteError {
 }
 
 impl From<AllocError> for WriteError {
-    ghost use Rattle.dns_labels.specs.declared.error.WriteError.TheVariants.{Memory};
-
-    ghost from_gives = { λ _ e. e ≡ Memory };
+    ghost from_gives = { λ _ e. e ≡ write_error.Memory };
 
     fn from(_e: AllocError) -> WriteError {
         WriteError::Memory

@@ -1,7 +1,6 @@
 //! The labels of a name's octets.
 
-ghost use Rattle.std.specs.Prelude.{◌≡◌, ◌≤◌, length};
-ghost use Rattle.std.specs.Iterator.{YieldsFirstBy, item_count};
+ghost use Rattle.std.specs.{Prelude.◌≡◌, Prelude.◌≤◌, Prelude.length, Prelude.ℕ, Prelude.List, Iterator.YieldsFirstBy, Iterator.item_count};
 ghost use Rattle.dns_labels.specs.Labels.{labels_of, AreNameOctets};
 
 use std::marker::Model;
@@ -13,9 +12,6 @@ pub struct LabelIter<'a> {
 }
 
 impl<'a> Model for LabelIter<'a> {
-    ghost use Rattle.std.specs.Prelude.{ℕ, List};
-    ghost use Rattle.dns_labels.specs.Labels.{labels_of, AreNameOctets};
-
     ghost Value = { List (List ℕ) };
 
     ghost view = { λ s. labels_of s.octets.now };

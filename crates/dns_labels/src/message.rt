@@ -1,10 +1,9 @@
 //! A message at the end of a vector, after octets that do not belong to it.
 
 ghost use Rattle.std.specs.Prelude.{◌≡◌, ◌+◌, ◌++◌, ◌^◌, ◌<◌, ◌≤◌, ◌↔◌, IsTrue, [], length, take, drop, OnOk, OnErr};
-ghost use Rattle.std.specs.Vec.{vec_capacity};
-ghost use Rattle.std.specs.Int.{bytes_high_first};
+ghost use Rattle.std.specs.{Int.bytes_high_first, Vec.vec_capacity};
 ghost use Rattle.dns_fields.specs.Octets.{AreOctets};
-ghost use Rattle.dns_labels.specs.Messages.{StaysInVector};
+ghost use Rattle.dns_labels.specs.Messages.{StaysInVector, Written};
 
 use std::alloc::AllocError;
 use std::marker::Model;
@@ -18,11 +17,6 @@ pub struct MessageOctets<'a> {
 }
 
 impl<'a> Model for MessageOctets<'a> {
-    ghost use Rattle.std.specs.Prelude.{◌≤◌, length, take, drop};
-    ghost use Rattle.std.specs.Vec.{vec_capacity};
-    ghost use Rattle.dns_fields.specs.Octets.{AreOctets};
-    ghost use Rattle.dns_labels.specs.Messages.{Written};
-
     ghost Value = { Written };
 
     ghost view = { λ m. record { before = take m.start m.octets.now.items; items = drop m.start m.octets.now.items; capacity = vec_capacity m.octets.now; vector = m.octets.ghost_name } };

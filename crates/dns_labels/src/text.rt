@@ -1,13 +1,11 @@
 //! Texts of names (RFC 1035, 5.1).
 
-ghost use Rattle.std.specs.Prelude.{◌≡◌, ℕ, ◌+◌, ◌<◌, ◌≤◌, List, [], ◌∷◌, ◌++◌, length, take, drop, ◌⊎◌, IfSome, IfNone, IfOk, IfErr, MatchResult};
-ghost use Rattle.std.specs.Prelude.{Some};
-ghost use Rattle.std.specs.{Bool.OnTrue, Fmt.DisplaysOnOk};
-ghost use Rattle.dns_labels.specs.declared.error.NameTextError.TheVariants as text_error;
+ghost use Rattle.std.specs.Prelude.{◌≡◌, ℕ, ◌+◌, ◌<◌, ◌≤◌, List, [], ◌∷◌, ◌++◌, length, take, drop, ◌⊎◌, IfSome, IfNone, IfOk, IfErr, MatchResult, Some};
+ghost use Rattle.std.specs.{Fmt.DisplaysOnOk, Bool.OnTrue};
 ghost use Rattle.dns_fields.specs.Labels.{DomainName, IsLabel, IsName};
-ghost use Rattle.dns_labels.specs.Labels.{AreNameOctets, name_of};
+ghost use Rattle.dns_labels.specs.{Text.printed, Text.label_text, Text.name_text, Labels.AreNameOctets, Labels.name_of};
+ghost use Rattle.dns_labels.specs.declared.error.NameTextError.TheVariants as text_error;
 ghost use Rattle.dns_labels.specs.Text.{OctetText as IsOctetText, LabelText as IsLabelText, IsNameText, IsLabelEnd, AddsOctets, AddsLabel, HasOctets};
-ghost use Rattle.dns_labels.specs.Text.{printed, label_text, name_text};
 
 use crate::buffer::{MAX_OCTETS, NameBuffer};
 use crate::error::NameTextError;
@@ -249,9 +247,6 @@ pub struct NameText<'a> {
 }
 
 impl<'a> Model for NameText<'a> {
-    ghost use Rattle.dns_fields.specs.Labels.{DomainName};
-    ghost use Rattle.dns_labels.specs.Labels.{AreNameOctets, name_of};
-
     ghost Value = { DomainName };
 
     ghost view = { λ t. name_of t.octets.now t.is_fqdn };

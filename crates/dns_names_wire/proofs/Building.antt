@@ -66,7 +66,7 @@ none_parsed : {text : List ℕ} {origin : Option DomainName} {read : DomainName}
 none_parsed {text} {origin} {read} is none x p =
     none (subst IsName (p.same ∙ ap (λ (y : DomainName). completed y origin) (one_name text p.read read p.is_text is)) p.is_name)
 
-error_map : (e : ProtoError) (P Q : Type 0) → (P → Q) → IsTextError e P → IsTextError e Q
+pub error_map : (e : ProtoError) (P Q : Type 0) → (P → Q) → IsTextError e P → IsTextError e Q
 error_map proto.Memory P Q f h = tt
 error_map (proto.Message t) P Q f h = f h
 error_map e P Q f h = h

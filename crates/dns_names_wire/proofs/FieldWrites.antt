@@ -1,16 +1,14 @@
 -- Writing fields one after the other.
-use Rattle.std.proofs.Common.{◌≡◌, ℕ, ◌≤◌, List, [], ◌∷◌, ◌++◌, length, refl, sym, ap, ◌∙◌, arith, append_assoc, subst}
-use Rattle.std.proofs.Common.{Result, Ok, Err}
+use Rattle.std.proofs.Common.{◌≡◌, ℕ, ◌≤◌, List, [], ◌∷◌, ◌++◌, length, refl, sym, ap, ◌∙◌, arith, append_assoc, subst, Result, Ok, Err}
 use Rattle.std.proofs.{lemmas.List.length-append, lemmas.List.append-nil, Math.Bool.and-false}
 use Rattle.std.specs.Result.{IsErrAnd}
-use Rattle.dns_names_wire.specs.State.{Writing}
-use Rattle.dns_names_wire.specs.Terms.{AppendedField, Appended, Keeps, WithinLimit, Extends, NoRoomField, NoRoom, UnfitField, Unfit, Because}
-use Rattle.dns_names_wire.specs.Terms.{StoppedField, Stopped, Emits, EmitsAs, EmitsField}
-use Rattle.dns_fields.specs.declared.RDataEncoding.{RDataEncoding}
+use Rattle.dns_names_wire.specs.{Terms.Stopped, Terms.Emits, Terms.EmitsAs, Terms.EmitsField, State.Writing}
+use Rattle.dns_names_wire.specs.Terms.{AppendedField, Appended, Keeps, WithinLimit, Extends, NoRoomField, NoRoom, UnfitField, Unfit, Because, StoppedField}
 use Rattle.dns_fields.specs.Fields.{Kind, Octets, Rest, Value, Values, Wrote, is_emittable, canonical, field_octets}
+use Rattle.dns_fields.specs.declared.RDataEncoding.{RDataEncoding}
 use Rattle.dns_types.specs.declared.error.ProtoError.{ProtoError}
-use Rattle.dns_types.specs.declared.error.ProtoError.TheVariants as proto
 use Rattle.dns_fields.proofs.FieldLaws.{wrote_tail}
+use Rattle.dns_types.specs.declared.error.ProtoError.TheVariants as proto
 
 -- octets that end within the limit
 pub within_limit : (w e : Writing) → length e.octets ≤ w.limit → WithinLimit w e

@@ -1,12 +1,10 @@
 -- What a name is by its octets.
-use Rattle.std.proofs.Common.{◌≡◌, ◌↔◌, IsTrue, ℕ, ◌+◌, ◌<◌, Bool, Option, Some, None, List, [], ◌∷◌, ◌++◌, All, length, map, get_or}
-use Rattle.std.proofs.Common.{slice_get, refl, sym, ap, ◌∙◌, arith}
-use Rattle.std.proofs.{lemmas.List.length-map, lemmas.List.length-append, lemmas.Bool.Decides.Decides-and, lemmas.Slice.Eq.bytes_eq-Decides}
-use Rattle.std.proofs.lemmas.List.Elements.{All-nil, All-cons}
-use Rattle.std.proofs.{Math.ListN.get_or-append, lemmas.List.get_or_push}
 use Rattle.std.proofs.lemmas.Option.{slice_get_past, slice_get_read, slice_get-get_or, slice_get-map}
-use Rattle.std.specs.{List.AllByRecursion, Option.option_map, Char.to_ascii_lowercase, Bool.Decides, Bool.beq, Cmp.booleans_Decides, Str.bytes_eq}
-use Rattle.dns_fields.specs.{Comparing.name_eq, Octets.AreOctets, Labels.DomainName, Labels.wire, Labels.lowname}
+use Rattle.std.proofs.lemmas.List.{length-map, length-append, get_or_push, Elements.All-nil, Elements.All-cons}
+use Rattle.std.proofs.{lemmas.Slice.Eq.bytes_eq-Decides, lemmas.Bool.Decides.Decides-and, Common.◌∙◌, Common.arith, Math.ListN.get_or-append}
+use Rattle.std.proofs.Common.{◌≡◌, ◌↔◌, IsTrue, ℕ, ◌+◌, ◌<◌, Bool, Option, Some, None, List, [], ◌∷◌, ◌++◌, All, length, map, get_or, slice_get, refl, sym, ap}
+use Rattle.std.specs.{Char.to_ascii_lowercase, Bool.Decides, Bool.beq, Cmp.booleans_Decides, List.AllByRecursion, Option.option_map, Str.bytes_eq}
+use Rattle.dns_fields.specs.{Labels.DomainName, Labels.wire, Labels.lowname, Comparing.name_eq, Octets.AreOctets}
 use Rattle.dns_fields.proofs.OctetLaws.{wire_octets, AreOctets-same}
 use Rattle.dns_labels.specs.Labels.{AreNameOctets, labels_of, name_of}
 use Rattle.dns_labels.proofs.Lowered.{lowered-of}

@@ -1,12 +1,10 @@
 -- Numbers and octets that are appended at once, and fields behind others.
-use Rattle.std.proofs.Common.{◌≡◌, Bool, true, false, ◌&&◌, ℕ, ◌<◌, ◌≤◌, ◌%◌, List, [], ◌∷◌, ◌++◌, length, refl, sym, ap, ◌∙◌, arith, append_assoc}
-use Rattle.std.proofs.Common.{subst, Result, Ok, Err}
+use Rattle.std.proofs.Common.{◌≡◌, ℕ, ◌<◌, ◌≤◌, ◌%◌, List, [], ◌∷◌, ◌++◌, length, refl, sym, ap, ◌∙◌, arith, append_assoc, subst, Result, Ok, Err}
 use Rattle.std.proofs.lemmas.List.{length-append, append-nil}
 use Rattle.std.specs.Int.{bytes_high_first}
-use Rattle.dns_names_wire.specs.{State.Writing, Terms.AppendedField, Terms.Appended, Terms.WithinLimit, Terms.Stopped, Terms.Emits, Terms.EmitsField}
-use Rattle.dns_fields.specs.{declared.RDataEncoding.RDataEncoding}
-use Rattle.dns_fields.specs.Fields.{Kind, Number, Octets, CharacterString, Rest, Values, Wrote, WroteField, AllFit, is_emittable}
-use Rattle.dns_fields.specs.Fields.{all_emittable, canonical, field_octets}
+use Rattle.dns_names_wire.specs.{Terms.AppendedField, Terms.Appended, Terms.WithinLimit, Terms.Stopped, Terms.Emits, Terms.EmitsField, State.Writing}
+use Rattle.dns_fields.specs.Fields.{Kind, Number, Octets, CharacterString, Rest, Values, Wrote, WroteField, AllFit, canonical, field_octets}
+use Rattle.dns_fields.specs.declared.RDataEncoding.{RDataEncoding}
 use Rattle.dns_types.specs.declared.error.ProtoError.{ProtoError}
 use Rattle.dns_names_wire.proofs.FieldWrites.{keeps_then, emits_then, because_map, all_tail}
 use Rattle.dns_fields.proofs.FieldLaws.{wrote_tail}
@@ -106,29 +104,3 @@ emits_more (k ∷ kinds) others vs ws r w b n f g =
 pub stopped_more : (e : ProtoError) (kinds others : List Kind) (vs : Values kinds) (ws : Values others) (w b n : Writing) → Appended w.mode w kinds vs b
     → Stopped e b others ws n → Stopped e w (kinds ++ others) (joined kinds others vs ws) n
 stopped_more e kinds others vs ws w b n f g = emits_more kinds others vs ws (Err e) w b n f g
-
-canonical_more : (kinds others : List Kind) (vs : Values kinds) (ws : Values others)
-    → length (canonical kinds vs) ≤ length (canonical (kinds ++ others) (joined kinds others vs ws))
-canonical_more [] others vs ws = omega arith
-canonical_more (k ∷ kinds) others vs ws =
-    let more = canonical_more kinds others vs.1 ws in
-    let rest = canonical (kinds ++ others) (joined kinds others vs.1 ws) in
-    omega (arith, more, length-append (field_octets k vs.0) (canonical kinds vs.1), length-append (field_octets k vs.0) rest)
-
-later_false : (b y z : Bool) → (y ≡ false → z ≡ false) → (b && y) ≡ false → (b && z) ≡ false
-later_false true y z f e = f e
-later_false false y z f e = refl
-
-unfit_more : (kinds others : List Kind) (vs : Values kinds) (ws : Values others) → all_emittable kinds vs ≡ false
-    → all_emittable (kinds ++ others) (joined kinds others vs ws) ≡ false
-unfit_more [] others vs ws e = let f : true ≡ false = e in cc f
-unfit_more (k ∷ kinds) others vs ws e = later_false (is_emittable k vs.0) _ _ (unfit_more kinds others vs.1 ws) e
-
--- the first fields were refused
-pub stopped_early : (e : ProtoError) (kinds others : List Kind) (vs : Values kinds) (ws : Values others) (w n : Writing) → Stopped e w kinds vs n
-    → Stopped e w (kinds ++ others) (joined kinds others vs ws) n
-stopped_early e kinds others vs ws w n s = record {
-  extends = s.extends;
-  why = because_map e _ _ _ _ (λ r. record { full = omega (arith, r.full, canonical_more kinds others vs ws) })
-      (λ u. record { unfit = unfit_more kinds others vs ws u.unfit }) s.why;
-}

@@ -1,14 +1,13 @@
 -- Names that are read by a decoder and written by an encoder.
 use Rattle.std.proofs.Common.{◌≡◌, ℕ, Bool, ◌+◌, ◌<◌, ◌≤◌, length, List, [], Result, Ok, Err, ◌∙◌, ap, sym, arith, subst, refl}
-use Rattle.std.specs.Result.{OnOk, OnErr, IfErr}
 use Rattle.std.proofs.lemmas.List.{append-nil}
-use Rattle.dns_labels.specs.{Labels.AreNameOctets, Labels.name_of, Messages.Written, Messages.StaysInVector}
-use Rattle.dns_fields.specs.{Labels.DomainName, Names.NameWrote, Names.IsNameIn, Fields.Name, Fields.field_octets}
-use Rattle.dns_fields.specs.declared.RDataEncoding.{RDataEncoding}
+use Rattle.std.specs.Result.{OnOk, OnErr, IfErr}
+use Rattle.dns_labels.specs.{Messages.Written, Messages.StaysInVector, Labels.AreNameOctets, Labels.name_of}
+use Rattle.dns_fields.specs.{declared.RDataEncoding.RDataEncoding, Fields.Name, Fields.field_octets, Names.NameWrote, Names.IsNameIn, Labels.DomainName}
 use Rattle.dns_fields.proofs.NameLaws.{lowname_length, name_inside}
 use Rattle.dns_types.specs.declared.error.ProtoError.{ProtoError}
-use Rattle.dns_names_wire.specs.State.{Reading, Writing}
 use Rattle.dns_names_wire.specs.Terms.{NoRoomField, UnfitField, Because, EmitsField, TookField, StaysBehind}
+use Rattle.dns_names_wire.specs.State.{Reading, Writing}
 use Rattle.dns_names_wire.proofs.FieldWrites.{because_map, within_limit, as_long}
 
 no_room_name : (w : Writing) (octets : List ℕ) (mark : Bool) → AreNameOctets octets → w.limit < length w.octets + (length octets + 1)

@@ -3,7 +3,7 @@
 ghost use Rattle.std.specs.Prelude.{◌≡◌, true, ◌+◌, ◌*◌, ◌-◌, ◌/◌, ◌^◌, ◌<◌, ◌≤◌, ◌⊎◌, ℕ, ◌↔◌, IsTrue, length, drop, slice_get, IfOk, IfErr, OnOk, OnErr};
 ghost use Rattle.std.specs.Int.{cast_unsigned, w32};
 ghost use Rattle.dns_fields.specs.{Fields.Number, Fields.Octets, Fields.CharacterString, Fields.Name, Octets.AreOctets};
-ghost use Rattle.dns_names_wire.specs.Terms.{TookField, LacksField, ReadsField, LacksOctets, LacksText};
+ghost use Rattle.dns_names_wire.specs.{Terms.TookField, Terms.LacksField, Terms.ReadsField, Terms.LacksOctets, Terms.LacksText, State.Reading};
 ghost use Rattle.dns_labels.specs.Labels.{AreNameOctets, name_of};
 
 use dns_labels::reading::read_octets;
@@ -33,10 +33,6 @@ pub struct BinDecoder<'a> {
 }
 
 impl<'a> Model for BinDecoder<'a> {
-    ghost use Rattle.std.specs.Prelude.{◌≤◌, length};
-    ghost use Rattle.dns_fields.specs.Octets.{AreOctets};
-    ghost use Rattle.dns_names_wire.specs.State.{Reading};
-
     ghost Value = { Reading };
 
     ghost view = { λ d. record { message = d.message.now; index = d.index } };

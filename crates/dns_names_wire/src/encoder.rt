@@ -1,11 +1,10 @@
 //! Writes a message.
 
-ghost use Rattle.std.specs.Prelude.{◌≡◌, ◌≢◌, ◌+◌, ◌<◌, ◌≤◌, ◌^◌, ◌↔◌, ◌⊎◌, ℕ, Bool, IsTrue, IfErr, List, [], ◌∷◌, ◌++◌, length, take, drop, IfOk};
-ghost use Rattle.std.specs.Prelude.{OnOk, OnErr};
+ghost use Rattle.std.specs.Prelude.{◌≡◌, ◌≢◌, ◌+◌, ◌<◌, ◌≤◌, ◌^◌, ◌↔◌, ◌⊎◌, ℕ, Bool, IsTrue, IfErr, List, [], ◌∷◌, ◌++◌, length, take, drop, IfOk, OnOk, OnErr};
 ghost use Rattle.std.specs.Int.{cast_unsigned, bytes_high_first, w32};
 ghost use Rattle.dns_fields.specs.{Fields.Number, Fields.Rest, Fields.CharacterString, Fields.Name, Octets.AreOctets, Names.NameWrote};
-ghost use Rattle.dns_names_wire.specs.Terms.{EmitsField, AppendedField, StoppedField, Keeps, Because};
-ghost use Rattle.dns_labels.specs.{Messages.StaysInVector, Labels.AreNameOctets, Labels.name_of};
+ghost use Rattle.dns_names_wire.specs.{Terms.EmitsField, Terms.AppendedField, Terms.StoppedField, Terms.Keeps, Terms.Because, State.Writing};
+ghost use Rattle.dns_labels.specs.{Labels.AreNameOctets, Labels.name_of, Messages.StaysInVector};
 
 use dns_fields::RDataEncoding;
 use dns_labels::writing::write_name;
@@ -52,10 +51,6 @@ pub struct BinEncoder<'a> {
 }
 
 impl<'a> Model for BinEncoder<'a> {
-    ghost use Rattle.std.specs.Prelude.{◌≤◌, length};
-    ghost use Rattle.dns_fields.specs.Octets.{AreOctets};
-    ghost use Rattle.dns_names_wire.specs.State.{Writing};
-
     ghost Value = { Writing };
 
     ghost view = { λ e. record { before = e.message.before; octets = e.message.items; limit = e.limit; mode = e.mode; target = e.message.vector } };

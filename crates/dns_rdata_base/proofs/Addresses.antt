@@ -1,10 +1,9 @@
 -- Addresses by their octets.
-use Rattle.std.proofs.Common.{◌≡◌, ℕ, suc, ◌+◌, ◌*◌, ◌/◌, ◌%◌, ◌<◌, true, nat_eq, slice_index_or, List, [], ◌∷◌, length, get_or, All, refl, sym}
-use Rattle.std.proofs.Common.{ap, ◌∙◌, arith}
-use Rattle.std.proofs.{Math.Bool.◌&&◌, Math.Bool.and-true, lemmas.Bool.Decides.same_from_decides, lemmas.List.Elements.recursion_from_All}
-use Rattle.std.proofs.{lemmas.List.Elements.All-from_get_or}
-use Rattle.std.specs.{Cmp.unsigned_Decides, List.AllByRecursion, Net.Addr.segments_of, Net.Addr.octets_of}
-use Rattle.std.specs.Cmp.Lexicographic.{pointwise, pointwise_decides}
+use Rattle.std.proofs.Common.{◌≡◌, ℕ, suc, ◌+◌, ◌*◌, ◌/◌, ◌%◌, ◌<◌, true, nat_eq, slice_index_or, List, [], ◌∷◌, length, get_or, All, refl, sym, ap, ◌∙◌, arith}
+use Rattle.std.proofs.lemmas.{List.Elements.recursion_from_All, List.Elements.All-from_get_or, Bool.Decides.same_from_decides}
+use Rattle.std.proofs.Math.Bool.{◌&&◌, and-true}
+use Rattle.std.specs.{Cmp.Lexicographic.pointwise, Cmp.Lexicographic.pointwise_decides, Net.Addr.segments_of, Net.Addr.octets_of, Cmp.unsigned_Decides}
+use Rattle.std.specs.List.{AllByRecursion}
 
 -- pairs of octets are the octets of their segments
 octets_of_each : (n : ℕ) (xs : List ℕ) → length xs ≡ 2 * n → AllByRecursion (λ x. x < 256) xs → octets_of (segments_of xs) ≡ xs

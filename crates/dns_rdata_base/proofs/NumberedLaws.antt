@@ -1,8 +1,7 @@
 -- Enums that are compared by number and then by variant have a lawful equality and order.
-use Rattle.std.specs.{Prelude.◌≡◌, Prelude.ℕ, Prelude.true, Prelude.refl, Hash.HashWrites, Ordering.nat_cmp, Ordering.is_eq}
-use Rattle.std.specs.Cmp.{IsEquivalence, IsPartialEquivalence, IsPartialOrder, IsTotalOrder, and_equiv, on_equiv, on_total, then_total, both_tied}
-use Rattle.std.specs.Cmp.{nat_eq_equiv, nat_cmp_total, unsigned_ties, unsigned_Decides, first_so, second_so, partial_equiv_from_equiv}
-use Rattle.std.specs.Cmp.{partial_order_from_agreeing_total}
+use Rattle.std.specs.Cmp.{nat_cmp_total, unsigned_ties, unsigned_Decides, first_so, second_so, partial_equiv_from_equiv, partial_order_from_agreeing_total}
+use Rattle.std.specs.{Prelude.◌≡◌, Prelude.ℕ, Prelude.true, Prelude.refl, Ordering.nat_cmp, Ordering.is_eq, Hash.HashWrites}
+use Rattle.std.specs.Cmp.{IsEquivalence, IsPartialEquivalence, IsPartialOrder, IsTotalOrder, and_equiv, on_equiv, on_total, then_total, both_tied, nat_eq_equiv}
 use Rattle.dns_rdata_base.specs.Numbered.{numbered_eq, numbered_cmp, numbered_partial_cmp, numbered_hash}
 
 pub numbered_equiv : {T : Type 0} (number variant : T → ℕ) → IsEquivalence (numbered_eq number variant)

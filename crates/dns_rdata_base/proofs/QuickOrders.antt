@@ -6,7 +6,7 @@ use Rattle.std.specs.declared.cmp.Ordering.TheVariants.{Less, Equal, Greater}
 use Rattle.dns_fields.specs.{Tlvs.string}
 use Rattle.dns_fields.specs.Fields.{Kind, CharacterString, CharacterStrings, Rest, Value, Values, all_emittable, canonical, field_octets}
 use Rattle.dns_canonical.specs.Fronts.{canonical_cmp, field_cmp, fields_cmp, AllEndAlike}
-use Rattle.dns_canonical.proofs.{Comparing.cmp_shared, Fronts.fields_decide}
+use Rattle.dns_canonical.proofs.{Comparing.cmp_shared, Comparing.both_equal, Fronts.fields_decide}
 use Rattle.dns_rdata_base.specs.contracts.hinfo.HINFOPartialEq.TheImpl as hinfo_eq
 use Rattle.dns_rdata_base.specs.contracts.hinfo.HINFOEq.TheImpl.Laws as hinfo_laws
 use Rattle.dns_rdata_base.specs.contracts.txt.TXTPartialEq.TheImpl as txt_eq
@@ -15,16 +15,6 @@ use Rattle.dns_rdata_base.specs.{declared.hinfo.HINFO.HINFO, declared.txt.TXT.TX
 use Rattle.dns_rdata_base.specs.{Ordered.IsOrder, TXT.txt_shape, TXT.txt_fields}
 
 -- ---- of what ties
-
-first_ties : (o q : Ordering) → ordering_then o q ≡ Equal → o ≡ Equal
-first_ties Less q e = e
-first_ties Equal q e = refl
-first_ties Greater q e = e
-
-second_ties : (o q : Ordering) → ordering_then o q ≡ Equal → q ≡ Equal
-second_ties Less q e = cc e
-second_ties Equal q e = e
-second_ties Greater q e = cc e
 
 -- the octets of each field are the same
 abbrev pub AllTied : (kinds : List Kind) → Values kinds → Values kinds → Type 0
@@ -35,7 +25,8 @@ all_tied : (o : Ordering) (kinds : List Kind) (a b : Values kinds) → fields_cm
 all_tied o [] a b e = (e, tt)
 all_tied o (k ∷ kinds) a b e =
     let t = all_tied (ordering_then o (field_cmp k a.0 b.0)) kinds a.1 b.1 e in
-    (first_ties o (field_cmp k a.0 b.0) t.0, (slice_cmp-IsAntisymmetric nat_cmp-IsAntisymmetric (field_octets k a.0) (field_octets k b.0) (second_ties o (field_cmp k a.0 b.0) t.0), t.1))
+    let both = both_equal o (field_cmp k a.0 b.0) t.0 in
+    (both.0, (slice_cmp-IsAntisymmetric nat_cmp-IsAntisymmetric (field_octets k a.0) (field_octets k b.0) both.1, t.1))
 
 pub tied_fields : (kinds : List Kind) (a b : Values kinds) → AllEndAlike kinds a b → canonical_cmp kinds a b ≡ Equal → AllTied kinds a b
 tied_fields kinds a b h e = (all_tied Equal kinds a b (fields_decide kinds a b h ∙ e)).1

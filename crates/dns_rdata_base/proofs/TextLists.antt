@@ -1,17 +1,15 @@
 -- Character strings, read, written and given one after the other.
-use Rattle.std.proofs.Common.{◌≡◌, ℕ, suc, ◌+◌, ◌≤◌, ◌<◌, ◌⊎◌, inl, inr, List, [], ◌∷◌, ◌++◌, length, take, drop, get_or, drop-cons, refl, sym, ap}
-use Rattle.std.proofs.Common.{◌∙◌, arith, subst, nat_le, false}
-use Rattle.std.specs.List.{flat_map, AllByRecursion, list_all}
 use Rattle.std.proofs.lemmas.List.{append-nil, length-append, drop_more, take-append-drop, Concat.flat_map-cons}
+use Rattle.std.proofs.{Common.subst, Common.nat_le, Common.false, lemmas.Grind.flat_map-append, Math.Bool.and-false}
+use Rattle.std.proofs.Common.{◌≡◌, ℕ, suc, ◌+◌, ◌≤◌, ◌<◌, ◌⊎◌, inl, inr, List, [], ◌∷◌, ◌++◌, length, take, drop, get_or, drop-cons, refl, sym, ap, ◌∙◌, arith}
+use Rattle.std.specs.List.{flat_map, AllByRecursion, list_all}
 use Rattle.dns_types.specs.declared.error.{DecodeError.DecodeError, ProtoError.ProtoError}
-use Rattle.dns_fields.specs.{Octets.At, Fields.CharacterString, Fields.CharacterStrings, Fields.Field, Fields.field_octets, Tlvs.string}
+use Rattle.dns_fields.specs.{Fields.CharacterString, Fields.CharacterStrings, Fields.Field, Fields.field_octets, Tlvs.string, Octets.At}
 use Rattle.dns_fields.proofs.FieldLaws.{field_inside, field_end}
-use Rattle.dns_names_wire.specs.State.{Reading, Writing}
 use Rattle.dns_names_wire.specs.Terms.{TookField, LacksField, RefusedField, RefusedRegion, AppendedField, StoppedField, NoRoomField, UnfitField}
-use Rattle.dns_names_wire.proofs.{FieldReads.unless_map, Strings.at_front, Strings.at_rest, Strings.at_then}
-use Rattle.dns_rdata_base.specs.{TXT.txt_shape, Steps.texts_left}
-use Rattle.std.proofs.{Math.Bool.and-false, lemmas.Grind.flat_map-append}
-use Rattle.dns_names_wire.proofs.FieldWrites.{extends_then, because_map}
+use Rattle.dns_names_wire.specs.State.{Reading, Writing}
+use Rattle.dns_names_wire.proofs.{Strings.at_front, Strings.at_rest, Strings.at_then, FieldWrites.extends_then, FieldWrites.because_map, FieldReads.unless_map}
+use Rattle.dns_rdata_base.specs.{Steps.texts_left, TXT.txt_shape}
 use Rattle.dns_canonical.specs.Steps.{StepAt}
 
 pub joined : (xs : List (List ℕ)) (s : List ℕ) (ys : List (List ℕ))

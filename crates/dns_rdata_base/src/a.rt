@@ -1,11 +1,12 @@
 //! A: an IPv4 address (RFC 1035, 3.4.1).
 
-ghost use Rattle.std.specs.Prelude.{◌≡◌, ◌≢◌, ◌+◌, ◌<◌, ◌≤◌, ◌++◌, ℕ, List, [], ◌∷◌, length, length as list_length, decimal, OnErr, IfErr, Some};
-ghost use Rattle.std.specs.Net.Addr.{ipv4_octets};
+ghost use Rattle.std.specs.Prelude.{◌≡◌, ◌≢◌, ◌+◌, ◌<◌, ◌≤◌, ◌++◌, ℕ, List, [], ◌∷◌, length, length as list_length, decimal, OnErr, IfErr, Some, take};
+ghost use Rattle.std.specs.Net.{Grammar.Parses, Grammar.IsIpv4Text, Addr.ipv4_octets};
 ghost use Rattle.dns_names_wire.specs.Terms.{ReadsIf, ReadsBy, Emits, LacksOctets, Always, IsTruncated};
-ghost use Rattle.dns_types.specs.declared.error.ParseError.TheVariants as parse;
 ghost use Rattle.dns_rdata_base.specs.A.{a_shape, a_fields, a_facts, a_text, a_tokens};
 ghost use Rattle.dns_tokens.specs.Reads.{ReadsTokenRow};
+ghost use Rattle.dns_fields.specs.Fields.{Stands};
+ghost use Rattle.dns_types.specs.declared.error.ParseError.TheVariants as parse;
 
 use crate::traits::TakesOctet;
 use crate::{OrderedRecord, unless_tied};
@@ -60,8 +61,6 @@ impl A {
 }
 
 impl BinDecodable for A {
-    ghost use Rattle.dns_fields.specs.Fields.{Stands};
-
     ghost stands = { λ m p x q. Stands m p a_shape (a_fields x) q };
 
     ghost refuses = { IsTruncated 4 };
@@ -145,8 +144,6 @@ impl Deref for A {
 impl FromStr for A {
     type Err = AddrParseError;
 
-    ghost use Rattle.std.specs.Net.Grammar.{Parses, IsIpv4Text};
-
     ghost from_str_gives = { Parses (λ text a. IsIpv4Text text a.0) };
 
     fn from_str(text: &str) -> Result<A, AddrParseError> {
@@ -205,8 +202,6 @@ struct Dotted {
 }
 
 impl Model for Dotted {
-    ghost use Rattle.std.specs.Prelude.{ℕ, List, take, ◌≤◌};
-
     ghost Value = { List ℕ };
 
     ghost view = { λ t. take t.len t.octets };

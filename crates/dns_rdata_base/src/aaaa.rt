@@ -1,12 +1,14 @@
 //! AAAA: an IPv6 address (RFC 3596, 2.2).
 
 ghost use Rattle.std.specs.Prelude.{◌≡◌, ◌≢◌, ◌+◌, ◌-◌, ◌*◌, ◌/◌, ◌<◌, ◌≤◌, ℕ, List, [], ◌∷◌, length, length as list_length, OnErr, IfErr, Some};
-ghost use Rattle.std.specs.Net.Addr.{ipv6_segments, ipv6_octets};
+ghost use Rattle.std.specs.{Net.Addr.ipv6_segments, Net.Addr.ipv6_octets, Net.Grammar.Parses, Net.Grammar.IsIpv6Text, Cmp.Rules.hashing};
 ghost use Rattle.dns_names_wire.specs.Terms.{ReadsIf, ReadsBy, Emits, LacksOctets, Always, IsTruncated};
 ghost use Rattle.dns_names_wire.specs.Facts.{same, same_equiv, same_partial};
-ghost use Rattle.dns_types.specs.declared.error.ParseError.TheVariants as parse;
 ghost use Rattle.dns_rdata_base.specs.AAAA.{aaaa_shape, aaaa_fields, aaaa_facts, aaaa_text, aaaa_tokens};
 ghost use Rattle.dns_tokens.specs.Reads.{ReadsTokenRow};
+ghost use Rattle.dns_fields.specs.Fields.{Stands};
+ghost use Rattle.std.proofs.Common.{rules};
+ghost use Rattle.dns_types.specs.declared.error.ParseError.TheVariants as parse;
 
 use crate::traits::TakesOctet;
 use crate::{OrderedRecord, unless_tied};
@@ -62,8 +64,6 @@ impl AAAA {
 }
 
 impl BinDecodable for AAAA {
-    ghost use Rattle.dns_fields.specs.Fields.{Stands};
-
     ghost stands = { λ m p x q. Stands m p aaaa_shape (aaaa_fields x) q };
 
     ghost refuses = { IsTruncated 16 };
@@ -136,8 +136,6 @@ impl Eq for AAAA {
 
 impl Hash for AAAA {
     ghost use Rattle.std.specs.Hash as fed;
-    ghost use Rattle.std.specs.{Net.Addr.ipv6_octets, Cmp.Rules.hashing};
-    ghost use Rattle.std.proofs.Common.{rules};
 
     ghost hash_input = { λ a. fed.slice fed.u8 (ipv6_octets a.0) };
 
@@ -179,8 +177,6 @@ impl Deref for AAAA {
 /// two groups perhaps as an IPv4 address (RFC 4291, section 2.2). Any other text is an error. Allocates nothing.
 impl FromStr for AAAA {
     type Err = AddrParseError;
-
-    ghost use Rattle.std.specs.Net.Grammar.{Parses, IsIpv6Text};
 
     ghost from_str_gives = { Parses (λ text a. IsIpv6Text text a.0) };
 

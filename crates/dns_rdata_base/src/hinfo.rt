@@ -1,11 +1,10 @@
 //! HINFO: a machine and its system (RFC 1035, 3.3.2).
 
 ghost use Rattle.std.specs.{Prelude.◌≡◌, Prelude.ℕ, Prelude.[], Prelude.Some, Box.boxed_slice_items, String.string_bytes};
-ghost use Rattle.dns_names_wire.specs.{Terms.Emits, Facts.RecordRefuses, Facts.RecordStands};
+ghost use Rattle.dns_names_wire.specs.{Facts.RecordRefuses, Facts.RecordStands, Terms.Emits};
 ghost use Rattle.dns_fields.specs.Fields.{all_emittable};
 ghost use Rattle.dns_canonical.specs.Steps.{AllShort, GivesStep, field_steps};
-ghost use Rattle.dns_rdata_base.specs.Steps.{hinfo_begins};
-ghost use Rattle.dns_rdata_base.specs.HINFO.{hinfo_shape, hinfo_fields, hinfo_facts, hinfo_text, hinfo_tokens};
+ghost use Rattle.dns_rdata_base.specs.{HINFO.hinfo_shape, HINFO.hinfo_fields, HINFO.hinfo_facts, HINFO.hinfo_text, HINFO.hinfo_tokens, Steps.hinfo_begins};
 ghost use Rattle.dns_tokens.specs.Reads.{ReadsTokenRow};
 
 use crate::{OrderedRecord, cmp_each_field};

@@ -1,7 +1,6 @@
 //! Records that are ordered by their fields.
 
-ghost use Rattle.std.specs.Prelude.{◌≡◌, true};
-ghost use Rattle.std.specs.declared.cmp.Ordering.TheVariants.{Equal};
+ghost use Rattle.std.specs.{declared.cmp.Ordering.TheVariants.Equal, Prelude.◌≡◌, Prelude.true};
 ghost use Rattle.dns_fields.specs.Fields.{all_emittable};
 ghost use Rattle.dns_canonical.specs.Fronts.{AllEndAlike, fields_cmp};
 ghost use Rattle.dns_rdata_base.specs.Ordered.{IfSomeOrder};

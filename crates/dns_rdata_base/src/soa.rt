@@ -1,16 +1,15 @@
 //! SOA: the start of a zone of authority (RFC 1035, 3.3.13).
 
 ghost use Rattle.std.specs.Prelude.{◌≡◌, ◌+◌, ◌++◌, ◌%◌, ℕ, [], IfErr, IfOk, Some};
-ghost use Rattle.std.specs.{Int.bytes_high_first, Option.option_copied};
-ghost use Rattle.dns_names_wire.specs.{Terms.ReadsIf, Terms.Emits, Terms.Always, Facts.same, Facts.same_equiv, Facts.same_partial};
-ghost use Rattle.dns_rdata_base.specs.FieldErrors.{IsLack};
+ghost use Rattle.std.specs.{Int.bytes_high_first, Int.cast_unsigned, Int.w32, Ordering.nat_cmp, Ordering.ordering_then, Cmp.Lexicographic.slice_cmp};
+ghost use Rattle.std.specs.{declared.cmp.Ordering.TheVariants.Equal, Option.option_copied};
+ghost use Rattle.dns_names_wire.specs.{Facts.same, Facts.same_equiv, Facts.same_partial, Terms.ReadsIf, Terms.Emits, Terms.Always};
 ghost use Rattle.dns_rdata_base.specs.SOA.{soa_shape, soa_fields, soa_facts, soa_numbers_shape, soa_numbers, soa_numbers_of, soa_text, soa_tokens, HasSeconds};
+ghost use Rattle.dns_rdata_base.specs.{FieldErrors.IsLack, Steps.soa_begins};
 ghost use Rattle.dns_tokens.specs.Reads.{ReadsTokenRow};
-ghost use Rattle.dns_fields.specs.declared.RDataEncoding.TheVariants as modes;
-ghost use Rattle.std.specs.{Cmp.Lexicographic.slice_cmp, Int.cast_unsigned, Int.w32, Ordering.nat_cmp, Ordering.ordering_then, declared.cmp.Ordering.TheVariants.Equal};
 ghost use Rattle.dns_fields.specs.Fields.{Number, canonical, field_octets};
 ghost use Rattle.dns_canonical.specs.{Fronts.AllEndAlike, Fronts.fields_cmp, Steps.GivesStep, Steps.field_steps};
-ghost use Rattle.dns_rdata_base.specs.Steps.{soa_begins};
+ghost use Rattle.dns_fields.specs.declared.RDataEncoding.TheVariants as modes;
 
 use crate::{OrderedRecord, in_order, unless_tied};
 use dns_canonical::{Head, Step, Tail, four_behind, name_behind};

@@ -1,16 +1,15 @@
 -- CSYNC by its fields: a record that was read is told by them, and any fields make one.
 use Rattle.std.proofs.Common.{◌≡◌, ◌≢◌, ◌↔◌, ◌<◌, ℕ, ◌+◌, ◌*◌, ◌/◌, ◌%◌, ◌==◌, Bool, true, false, bit_and, refl, ap, ◌∙◌, arith, ◌-◌, inr, subst}
-use Rattle.std.specs.{Ordering.ordering_then, declared.cmp.Ordering.Ordering, declared.cmp.Ordering.TheVariants.Equal}
 use Rattle.std.proofs.lemmas.{Nat.Bits.and_pow, Nat.Bits.and_high_mask, Bool.Decides.nat_tests}
+use Rattle.std.specs.{declared.cmp.Ordering.TheVariants.Equal, declared.cmp.Ordering.Ordering, Ordering.ordering_then}
 use Rattle.dns_fields.specs.Fields.{Values, Same, Number, Bitmap}
 use Rattle.dns_canonical.specs.Fronts.{canonical_cmp, field_cmp}
-use Rattle.dns_canonical.proofs.{Comparing.then_kept, Fronts.fields_decide}
-use Rattle.dns_rdata_caa_csync.specs.{CSYNC.csync_shape, CSYNC.csync_flags, CSYNC.csync_fields, CSYNC.csync_key_shape, CSYNC.csync_keys, CSYNC.bit}
-use Rattle.dns_rdata_caa_csync.specs.{CSYNC.IsReadCsync, CSYNC.MeetsCsyncCondition, CSYNC.IsCsyncError, CSYNC.AreKnownFlags, declared.csync.CSYNC.CSYNC}
+use Rattle.dns_canonical.proofs.{Fronts.fields_decide, Comparing.then_kept}
+use Rattle.dns_rdata_caa_csync.specs.{RecordTypeSet.set_shape, RecordTypeSet.IsBitmapError, CSYNC.IsCsyncError, CSYNC.AreKnownFlags, declared.csync.CSYNC.CSYNC}
+use Rattle.dns_rdata_caa_csync.specs.CSYNC.{csync_shape, csync_flags, csync_fields, csync_key_shape, csync_keys, bit, IsReadCsync, MeetsCsyncCondition}
 use Rattle.dns_types.specs.declared.error.DecodeError.{DecodeError}
-use Rattle.dns_names_wire.specs.{State.Reading, Terms.TookField, Terms.Refused}
+use Rattle.dns_names_wire.specs.{Terms.TookField, Terms.Refused, State.Reading}
 use Rattle.dns_names_wire.proofs.FieldReads.{refused_then, unless_map, took_then, took_last, took_number}
-use Rattle.dns_rdata_caa_csync.specs.RecordTypeSet.{set_shape, IsBitmapError}
 
 abbrev pub csync_from : Values csync_shape → CSYNC
 csync_from vs = record {

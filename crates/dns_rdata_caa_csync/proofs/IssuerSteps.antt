@@ -4,10 +4,8 @@ use Rattle.std.proofs.Common.{length-append, ◌==◌, ◌<◌, ◌≤◌, lengt
 use Rattle.std.proofs.lemmas.{Bool.or_left, Bool.and_from, Bool.and_parts, Bool.Decides.nat_tests, Str.IsUtf8-from_ascii, Str.Ascii.IsAscii-from_all}
 use Rattle.std.proofs.lemmas.List.{append-nil, Elements.All-weaker, Sums.AllPass-from_list_all, Sums.list_all-from_AllPass, Folds.list_all-append}
 use Rattle.std.specs.{Str.IsUtf8, Char.is_ascii_alphanumeric, List.list_all}
-use Rattle.dns_types.specs.declared.error.ProtoError.{ProtoError}
 use Rattle.dns_text.specs.Octets.{AllOf, BeginsOtherwise, Span}
 use Rattle.dns_text.proofs.SpanSteps.{split_once}
-use Rattle.dns_names_wire.specs.NameValues.{IsTextError}
 use Rattle.dns_rdata_caa_csync.specs.Issuer.{Parameter, is_blank, is_no_semicolon, is_key_octet, is_value_octet, IsKey}
 use Rattle.dns_rdata_caa_csync.specs.Issuer.{IsParameter, parameter_octets, AreParameters}
 use Rattle.dns_types.specs.declared.error.ProtoError.TheVariants as proto
@@ -183,12 +181,6 @@ pending_stop octets read now front behind p some t none ys h =
     let k = p.complete ys h in
     let f = first_parameter now front behind k.0 some p.starts t k.2 in
     none f.0 f.3 f.4
-
--- a message says more
-pub error_map : (e : ProtoError) (P Q : Type 0) → (P → Q) → IsTextError e P → IsTextError e Q
-error_map proto.Memory P Q f h = tt
-error_map (proto.Message t) P Q f h = f h
-error_map e P Q f h = absurd h
 
 -- ---- at most one list
 

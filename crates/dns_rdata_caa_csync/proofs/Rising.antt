@@ -1,16 +1,15 @@
 -- Numbers that rise, and which numbers a list has.
-use Rattle.std.proofs.Common.{◌≡◌, ℕ, zero, suc, ◌+◌, ◌-◌, ◌<◌, ◌≤◌, ◌==◌, ◌||◌, false, true, inl, inr, refl, All, List, [], ◌∷◌, length, get_or}
-use Rattle.std.proofs.Common.{take, drop, take-append-drop, length-take, length-drop, sym, ap, ◌∙◌, subst, arith, ◌*◌, ◌/◌, ◌≢◌, Result, Ok, Err}
-use Rattle.std.proofs.Common.{Bool}
-use Rattle.std.proofs.{Math.Bool.or-false, lemmas.Map.Keys.IsStrictlyIncreasing-dedup}
-use Rattle.std.proofs.lemmas.Bool.{cases_eq, cases_lt, eq-eqb, ne_eqb, Decides.eqb_tells, Decides.nat_tests}
-use Rattle.std.proofs.lemmas.List.{get_or-drop, get_or-take, Folds.list_any-append, Folds.list_any_at, Folds.list_any_none, Filters.All-dedup}
+use Rattle.std.proofs.Common.{take-append-drop, length-take, length-drop, sym, ap, ◌∙◌, subst, arith, ◌*◌, ◌/◌, ◌≢◌, Result, Ok, Err, Bool}
 use Rattle.std.proofs.lemmas.List.Elements.{All-from_get_or, All-from_recursion, All-head, All-tail, recursion_from_All}
+use Rattle.std.proofs.{lemmas.List.Sorted.list_any-IsPermutation, lemmas.List.Sorted.All-permutation, lemmas.List.Sorted.searched, Math.Bool.or-false}
+use Rattle.std.proofs.lemmas.List.{Folds.list_any-append, Folds.list_any_at, Folds.list_any_none, Filters.All-dedup, Kept.AllPairs-from_increasing}
+use Rattle.std.proofs.lemmas.{Bool.cases_eq, Bool.cases_lt, Bool.eq-eqb, Bool.ne_eqb, List.get_or-drop, List.get_or-take}
+use Rattle.std.proofs.lemmas.{Bool.Decides.eqb_tells, Bool.Decides.nat_tests, Map.Keys.IsStrictlyIncreasing-dedup}
+use Rattle.std.proofs.Common.{◌≡◌, ℕ, zero, suc, ◌+◌, ◌-◌, ◌<◌, ◌≤◌, ◌==◌, ◌||◌, false, true, inl, inr, refl, All, List, [], ◌∷◌, length, get_or, take, drop}
 use Rattle.dns_fields.specs.Bitmaps.{contains, AllAbove, Rises, IsTypeSet}
 use Rattle.dns_rdata_caa_csync.specs.RecordTypeSet.{IsLastOf, IsSetOf}
-use Rattle.std.specs.List.{dedup, dedup_from, Sorted.IsBinarySearchResult, Sorted.IsSorted, Sorted.IsPermutation, Sorted.IsStrictlyIncreasing}
-use Rattle.std.specs.{Ordering.nat_cmp, Result.is_ok}
-use Rattle.std.proofs.lemmas.List.{Kept.AllPairs-from_increasing, Sorted.list_any-IsPermutation, Sorted.All-permutation, Sorted.searched}
+use Rattle.std.specs.{List.Sorted.IsBinarySearchResult, List.Sorted.IsSorted, List.Sorted.IsPermutation, List.Sorted.IsStrictlyIncreasing, Ordering.nat_cmp}
+use Rattle.std.specs.{List.dedup, List.dedup_from, Result.is_ok}
 
 -- ---- what a list has
 

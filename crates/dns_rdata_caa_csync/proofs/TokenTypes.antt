@@ -1,8 +1,7 @@
 -- Types read from tokens.
 use Rattle.std.proofs.Common.{◌≡◌, ℕ, List, [], ◌∷◌, ◌++◌, Option, Some, None, sym, subst, map}
 use Rattle.std.specs.{Iterator.Yields, List.AllZip}
-use Rattle.dns_types.specs.{declared.error.ParseError.ParseError, declared.record_type.RecordType.RecordType}
-use Rattle.dns_types.specs.RecordTypes.{number_of, IsTypeText}
+use Rattle.dns_types.specs.{RecordTypes.number_of, RecordTypes.IsTypeText, declared.record_type.RecordType.RecordType, declared.error.ParseError.ParseError}
 use Rattle.dns_fields.specs.Fields.{Bitmap, Values}
 use Rattle.dns_tokens.specs.Reads.{TookTokens, RefusedTokens}
 use Rattle.dns_tokens.proofs.{Steps.holds_token, Steps.holds_all, Steps.holds_drained, Steps.unless_all, Yielded.holds_yielded}

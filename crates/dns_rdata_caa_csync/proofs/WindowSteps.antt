@@ -1,15 +1,13 @@
 -- Windows of a set, given step by step and written one behind the other.
-use Rattle.std.proofs.Common.{◌≡◌, ℕ, ◌+◌, ◌%◌, ◌<◌, ◌≤◌, List, [], ◌∷◌, ◌++◌, length, take, drop, length-take-le, length-append, refl, ap, ◌∙◌}
-use Rattle.std.proofs.Common.{arith, append_assoc, sym}
-use Rattle.std.proofs.lemmas.List.{append-nil, drop_all, drop-drop, nil_from_length}
+use Rattle.std.proofs.{lemmas.List.append-nil, lemmas.List.drop_all, lemmas.List.drop-drop, lemmas.List.nil_from_length, Common.append_assoc, Common.sym}
+use Rattle.std.proofs.Common.{◌≡◌, ℕ, ◌+◌, ◌%◌, ◌<◌, ◌≤◌, List, [], ◌∷◌, ◌++◌, length, take, drop, length-take-le, length-append, refl, ap, ◌∙◌, arith}
 use Rattle.std.specs.List.{flat_map}
-use Rattle.dns_fields.specs.Bitmaps.{block, minimal, Block, IsTypeSet}
-use Rattle.dns_fields.specs.Fields.{Number, field_octets, Bitmap, Rest}
+use Rattle.dns_fields.specs.{Bitmaps.block, Bitmaps.minimal, Bitmaps.Block, Bitmaps.IsTypeSet, Fields.Number, Fields.field_octets, Fields.Bitmap, Fields.Rest}
 use Rattle.dns_canonical.specs.Steps.{StepAt, Ended, PassedWindow}
-use Rattle.dns_rdata_caa_csync.specs.{declared.csync.CSYNC.CSYNC, Steps.csync_left, Steps.csync_windows}
+use Rattle.dns_rdata_caa_csync.specs.{Steps.csync_left, Steps.csync_windows, declared.csync.CSYNC.CSYNC}
 use Rattle.dns_rdata_caa_csync.proofs.WindowOctets.{minimal_none}
 use Rattle.dns_types.specs.declared.error.ProtoError.{ProtoError}
-use Rattle.dns_names_wire.specs.{State.Writing, Terms.AppendedField, Terms.StoppedField}
+use Rattle.dns_names_wire.specs.{Terms.AppendedField, Terms.StoppedField, State.Writing}
 use Rattle.dns_names_wire.proofs.FieldWrites.{keeps_same, keeps_then, extends_then, because_map}
 
 -- the window at an index, in the octets of a head

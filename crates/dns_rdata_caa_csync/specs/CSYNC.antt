@@ -1,13 +1,12 @@
 -- CSYNC: which records of a child zone its parent copies (RFC 7477, 2.1).
-use Rattle.std.specs.Prelude.{◌≡◌, ◌≢◌, ◌⊎◌, ℕ, ◌+◌, ◌-◌, ◌*◌, ◌/◌, ◌%◌, ◌<◌, ◌≤◌, Bool, if◌then◌else◌, List, [], ◌∷◌, ◌++◌, bit_and, codes, decimal}
-use Rattle.std.specs.List.{flat_map}
+use Rattle.std.specs.{Prelude.◌++◌, Prelude.bit_and, Prelude.codes, Prelude.decimal, List.flat_map}
+use Rattle.std.specs.Prelude.{◌≡◌, ◌≢◌, ◌⊎◌, ℕ, ◌+◌, ◌-◌, ◌*◌, ◌/◌, ◌%◌, ◌<◌, ◌≤◌, Bool, if◌then◌else◌, List, [], ◌∷◌}
 use Rattle.dns_types.specs.{RecordTypes.record_type_of, RecordTypes.type_text, declared.error.DecodeError.DecodeError}
-use Rattle.dns_types.specs.declared.error.DecodeError.TheVariants as decode
 use Rattle.dns_fields.specs.Fields.{Kind, Number, Bitmap, Values}
-use Rattle.dns_names_wire.specs.{State.Reading, Terms.Took, Facts.Facts, Facts.filling}
-use Rattle.dns_rdata_base.specs.{Ordered.by_keys}
-use Rattle.dns_rdata_base.specs.FieldErrors.{FirstLack}
+use Rattle.dns_names_wire.specs.{Facts.Facts, Facts.filling, State.Reading, Terms.Took}
+use Rattle.dns_rdata_base.specs.{FieldErrors.FirstLack, Ordered.by_keys}
 use Rattle.dns_rdata_caa_csync.specs.{RecordTypeSet.IsBitmapError, declared.csync.CSYNC.CSYNC}
+use Rattle.dns_types.specs.declared.error.DecodeError.TheVariants as decode
 
 -- serial, flags, types
 abbrev pub csync_shape : List Kind

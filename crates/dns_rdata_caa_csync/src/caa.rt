@@ -2,14 +2,13 @@
 
 ghost use Rattle.std.specs.Prelude.{◌≡◌, ◌≤◌, ◌<◌, ◌+◌, ℕ, [], false, take, get_or, length as list_length, IsTrue, IfErr, IfOk, Some};
 ghost use Rattle.std.specs.Char.{is_ascii_alphanumeric};
-ghost use Rattle.dns_fields.specs.Fields.{Octets as OctetsKind, all_emittable};
 ghost use Rattle.dns_names_wire.specs.Terms.{ReadsTo, TookField, StaysBehind, Emits, Extends, IsMessage};
 ghost use Rattle.dns_names_wire.specs.Facts.{same, same_equiv, same_partial};
-ghost use Rattle.dns_rdata_caa_csync.specs.CAA.{caa_shape, caa_flags, caa_fields, caa_facts, MeetsCaaCondition, caa_key_shape, caa_keys, AreTagOctets};
-ghost use Rattle.dns_rdata_caa_csync.specs.CAA.{IsTag, caa_text, IsReadCaa, IsTagError, IsCaaError};
-ghost use Rattle.dns_rdata_caa_csync.specs.{Steps.caa_begins, TokenRows.caa_tokens};
+ghost use Rattle.dns_rdata_caa_csync.specs.{CAA.caa_text, CAA.IsReadCaa, CAA.IsTagError, CAA.IsCaaError, TokenRows.caa_tokens, Steps.caa_begins};
+ghost use Rattle.dns_rdata_caa_csync.specs.CAA.{caa_shape, caa_flags, caa_fields, caa_facts, MeetsCaaCondition, caa_key_shape, caa_keys, AreTagOctets, IsTag};
 ghost use Rattle.dns_canonical.specs.Steps.{AllShort, GivesStep, field_steps};
 ghost use Rattle.dns_tokens.specs.Reads.{ReadsTokenRow};
+ghost use Rattle.dns_fields.specs.Fields.{Octets as OctetsKind, all_emittable};
 
 mod issuer;
 mod values;

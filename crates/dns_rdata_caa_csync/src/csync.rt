@@ -1,15 +1,14 @@
 //! CSYNC: which records of a child zone its parent copies (RFC 7477, 2.1).
 
 ghost use Rattle.std.specs.Prelude.{◌≡◌, ◌≢◌, ◌+◌, ◌++◌, ℕ, List, [], map, IfErr, IfOk, Some};
-ghost use Rattle.std.specs.{Int.bytes_high_first, Iterator.Drains, Iterator.IsFinite};
-ghost use Rattle.dns_types.specs.{RecordTypes.IsTypeText, RecordTypes.number_of, declared.record_type.RecordType.RecordType as RecordTypeValue};
-ghost use Rattle.dns_names_wire.specs.{Terms.ReadsTo, Terms.Emits};
-ghost use Rattle.dns_rdata_caa_csync.specs.RecordTypeSet.{IsSetOf};
-ghost use Rattle.dns_rdata_caa_csync.specs.CSYNC.{csync_numbers_shape, csync_numbers, csync_shape, csync_flags, csync_fields, csync_facts};
-ghost use Rattle.dns_rdata_caa_csync.specs.CSYNC.{MeetsCsyncCondition, csync_text, csync_key_shape, csync_keys, IsReadCsync, IsCsyncError};
-ghost use Rattle.dns_rdata_caa_csync.specs.{Steps.csync_left, Steps.csync_windows, TokenRows.known_flags, TokenRows.type_tokens, TokenRows.csync_tokens};
+ghost use Rattle.std.specs.{Iterator.Drains, Iterator.IsFinite, Int.bytes_high_first};
+ghost use Rattle.dns_names_wire.specs.Terms.{ReadsTo, Emits};
+ghost use Rattle.dns_rdata_caa_csync.specs.{CSYNC.csync_text, CSYNC.csync_key_shape, CSYNC.csync_keys, CSYNC.IsReadCsync, CSYNC.IsCsyncError, Steps.csync_left};
+ghost use Rattle.dns_rdata_caa_csync.specs.{RecordTypeSet.IsSetOf, TokenRows.known_flags, TokenRows.type_tokens, TokenRows.csync_tokens, Steps.csync_windows};
+ghost use Rattle.dns_rdata_caa_csync.specs.CSYNC.{csync_numbers_shape, csync_numbers, csync_shape, csync_flags, csync_fields, csync_facts, MeetsCsyncCondition};
 ghost use Rattle.dns_canonical.specs.Steps.{CountsPasses, GivesStep};
 ghost use Rattle.dns_tokens.specs.Reads.{ReadsText, ReadsToken, ReadsTokenRow, GoesOn};
+ghost use Rattle.dns_types.specs.{RecordTypes.IsTypeText, RecordTypes.number_of, declared.record_type.RecordType.RecordType as RecordTypeValue};
 ghost use Rattle.dns_types.specs.declared.error.ParseError.TheVariants as parse;
 
 use crate::record_type_set::{RecordTypeSet, next_window};

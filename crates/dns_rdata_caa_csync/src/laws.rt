@@ -1,7 +1,6 @@
 //! Laws of all issuer values. A law is a call without a body, whose contract the proofs of clients may cite.
 
-ghost use Rattle.std.specs.Prelude.{◌≡◌, ℕ, List, Option};
-ghost use Rattle.std.specs.List.{AllByRecursion};
+ghost use Rattle.std.specs.{Prelude.◌≡◌, Prelude.ℕ, Prelude.List, Prelude.Option, List.AllByRecursion};
 ghost use Rattle.dns_fields.specs.Labels.{DomainName};
 ghost use Rattle.dns_rdata_caa_csync.specs.Issuer.{IsIssuer, IsNamed, IsWritable, IsParameter, Parameter, issuer_value};
 

@@ -33,9 +33,6 @@ pub struct RecordTypeSet {
 }
 
 impl Model for RecordTypeSet {
-    ghost use Rattle.std.specs.Prelude.{ℕ, List};
-    ghost use Rattle.dns_fields.specs.Bitmaps.{IsTypeSet};
-
     ghost Value = { List ℕ };
 
     ghost view = { λ s. s.numbers.items };
@@ -211,10 +208,7 @@ pub struct RecordTypes<'a> {
 }
 
 impl<'a> Model for RecordTypes<'a> {
-    ghost use Rattle.std.specs.Prelude.{List, map};
-    ghost use Rattle.dns_types.specs.{RecordTypes.record_type_of, declared.record_type.RecordType.RecordType};
-
-    ghost Value = { List RecordType };
+    ghost Value = { List RecordTypeValue };
 
     ghost view = { λ s. map record_type_of s.numbers.now };
 }

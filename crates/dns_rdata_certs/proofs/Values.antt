@@ -3,20 +3,18 @@
 use Rattle.std.proofs.Common.{◌≡◌, ◌↔◌, ℕ, List, length, Result, Ok, Err, refl, sym, ap}
 use Rattle.std.specs.Result.{IfOk}
 use Rattle.dns_types.specs.declared.error.DecodeError.{DecodeError}
-use Rattle.dns_names_wire.specs.{State.Reading, Terms.ReadsRegion}
+use Rattle.dns_names_wire.specs.{Terms.ReadsRegion, State.Reading}
 use Rattle.dns_fields.specs.Fields.{Values, Same}
-use Rattle.dns_rdata_certs.specs.Enums.{cert_type_number, cert_type_variant, cert_type_of, cert_usage_number, cert_usage_variant, cert_usage_of}
-use Rattle.dns_rdata_certs.specs.Enums.{selector_number, selector_variant, selector_of, matching_number, matching_variant, matching_of}
-use Rattle.dns_rdata_certs.specs.Enums.{cert_algorithm_number, cert_algorithm_variant, cert_algorithm_of, sshfp_algorithm_number}
-use Rattle.dns_rdata_certs.specs.Enums.{sshfp_algorithm_variant, sshfp_algorithm_of, fingerprint_type_number, fingerprint_type_variant}
-use Rattle.dns_rdata_certs.specs.Enums.{fingerprint_type_of}
-use Rattle.dns_rdata_certs.specs.{declared.tlsa.TLSA.TLSA, declared.smimea.SMIMEA.SMIMEA, declared.sshfp.SSHFP.SSHFP, declared.cert.CERT.CERT}
-use Rattle.dns_rdata_certs.specs.TLSA.{tlsa_shape, tlsa_fields, tlsa_key_shape, tlsa_keys, IsReadTlsa}
-use Rattle.dns_rdata_certs.specs.SSHFP.{sshfp_shape, sshfp_fields, sshfp_key_shape, sshfp_keys, IsReadSshfp}
-use Rattle.dns_rdata_certs.specs.SMIMEA.{smimea_shape, smimea_fields, smimea_key_shape, smimea_keys, IsReadSmimea}
 use Rattle.dns_rdata_certs.specs.CERT.{cert_shape, cert_fields, cert_key_shape, cert_keys, IsReadCert, MeetsCertCondition, cert_facts, ReadsWholeCert}
-use Rattle.dns_rdata_certs.proofs.Numbers.{cert_type_number-of, cert_algorithm_number-of, sshfp_algorithm_number-of, fingerprint_type_number-of}
+use Rattle.dns_rdata_certs.specs.{SMIMEA.smimea_shape, SMIMEA.smimea_fields, SMIMEA.smimea_key_shape, SMIMEA.smimea_keys, SMIMEA.IsReadSmimea, TLSA.tlsa_shape}
+use Rattle.dns_rdata_certs.specs.{SSHFP.sshfp_shape, SSHFP.sshfp_fields, SSHFP.sshfp_key_shape, SSHFP.sshfp_keys, SSHFP.IsReadSshfp, declared.sshfp.SSHFP.SSHFP}
+use Rattle.dns_rdata_certs.specs.{Enums.fingerprint_type_number, Enums.fingerprint_type_variant, Enums.fingerprint_type_of, declared.smimea.SMIMEA.SMIMEA}
+use Rattle.dns_rdata_certs.specs.{declared.cert.CERT.CERT, TLSA.tlsa_fields, TLSA.tlsa_key_shape, TLSA.tlsa_keys, TLSA.IsReadTlsa, declared.tlsa.TLSA.TLSA}
+use Rattle.dns_rdata_certs.specs.Enums.{cert_type_number, cert_type_variant, cert_type_of, cert_usage_number, cert_usage_variant, cert_usage_of}
+use Rattle.dns_rdata_certs.specs.Enums.{selector_number, selector_variant, selector_of, matching_number, matching_variant, matching_of, cert_algorithm_number}
+use Rattle.dns_rdata_certs.specs.Enums.{cert_algorithm_variant, cert_algorithm_of, sshfp_algorithm_number, sshfp_algorithm_variant, sshfp_algorithm_of}
 use Rattle.dns_rdata_certs.proofs.Numbers.{cert_usage_number-of, selector_number-of, matching_number-of, keyed_same}
+use Rattle.dns_rdata_certs.proofs.Numbers.{cert_type_number-of, cert_algorithm_number-of, sshfp_algorithm_number-of, fingerprint_type_number-of}
 
 -- ---- TLSA
 

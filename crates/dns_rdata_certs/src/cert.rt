@@ -2,11 +2,10 @@
 
 ghost use Rattle.std.specs.Prelude.{◌≡◌, IsTrue, length as list_length, true, IfErr, IfOk, Some};
 ghost use Rattle.std.specs.String.{string_bytes};
-ghost use Rattle.dns_names_wire.specs.{Terms.Emits};
+ghost use Rattle.dns_names_wire.specs.Terms.{Emits};
+ghost use Rattle.dns_rdata_certs.specs.{Enums.cert_algorithm_number, Enums.cert_type_number, CERT.ReadsWholeCert, CERT.IsWholeCertError, TokenRows.cert_tokens};
 ghost use Rattle.dns_rdata_certs.specs.CERT.{cert_shape, cert_fields, cert_facts, cert_key_shape, cert_keys, IsReadCert, cert_text, cert_data_text};
-ghost use Rattle.dns_rdata_certs.specs.CERT.{ReadsWholeCert, IsWholeCertError};
-ghost use Rattle.dns_rdata_certs.specs.{Enums.cert_algorithm_number, Enums.cert_type_number, TokenRows.cert_tokens};
-ghost use Rattle.dns_tokens.specs.{Forms.base64, Reads.ReadsToken, Reads.ReadsTokenRow, Reads.GoesOn};
+ghost use Rattle.dns_tokens.specs.{Reads.ReadsToken, Reads.ReadsTokenRow, Reads.GoesOn, Forms.base64};
 
 mod enums;
 
@@ -218,7 +217,7 @@ fn is_cert_front_same(a: &CERT, b: &CERT) -> bool
 impl OrderedRecord for CERT {
     /// By the octets of the certificate if the fields before it are equal.
     #[inline]
-    #[tactic(auto, using(crate::proofs::Fronts::cert_tied, crate::proofs::Fronts::cert_differ, dns_rdata_base::proofs::QuickOrders::no_difference))]
+    #[tactic(auto, using(crate::proofs::Fronts::cert_tied, crate::proofs::Fronts::differ, dns_rdata_base::proofs::QuickOrders::no_difference))]
     fn cmp_canonical_fields(&self, other: &CERT) -> Option<Ordering> {
         if is_cert_front_same(self, other) {
             return Some(rest_order(self.cert_data.as_slice(), other.cert_data.as_slice()));

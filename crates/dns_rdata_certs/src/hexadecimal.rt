@@ -1,6 +1,6 @@
 //! Octets as hexadecimal text.
 
-ghost use Rattle.std.specs.{Prelude.◌≡◌, Prelude.IfOk, String.string_bytes};
+ghost use Rattle.std.specs.{Prelude.◌≡◌, Prelude.IfOk, String.string_bytes, Prelude.Some};
 ghost use Rattle.hex.specs.Hex.{encode_lower};
 ghost use Rattle.dns_rdata_certs.specs.HEX.{is_white_space, without_blanks, DecodesHex};
 
@@ -68,9 +68,6 @@ fn is_white_space(octet: u8) -> bool
 pub struct Hexadecimal<'a>(pub &'a [u8]);
 
 impl fmt::Display for Hexadecimal<'_> {
-    ghost use Rattle.std.specs.Prelude.{Some};
-    ghost use Rattle.hex.specs.Hex.{encode_lower};
-
     ghost output = { λ h. Some (encode_lower h.0.now) };
 
     /// Two digits for each octet: `3b6b`.

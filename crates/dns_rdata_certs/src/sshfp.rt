@@ -183,7 +183,7 @@ fn is_sshfp_front_same(a: &SSHFP, b: &SSHFP) -> bool
 impl OrderedRecord for SSHFP {
     /// By the octets of the fingerprint if the fields before it are equal.
     #[inline]
-    #[tactic(auto, using(crate::proofs::Fronts::sshfp_tied, crate::proofs::Fronts::sshfp_differ, dns_rdata_base::proofs::QuickOrders::no_difference))]
+    #[tactic(auto, using(crate::proofs::Fronts::sshfp_tied, crate::proofs::Fronts::differ, dns_rdata_base::proofs::QuickOrders::no_difference))]
     fn cmp_canonical_fields(&self, other: &SSHFP) -> Option<Ordering> {
         if is_sshfp_front_same(self, other) {
             return Some(rest_order(self.fingerprint.as_slice(), other.fingerprint.as_slice()));

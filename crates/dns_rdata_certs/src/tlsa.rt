@@ -195,7 +195,7 @@ fn is_tlsa_front_same(a: &TLSA, b: &TLSA) -> bool
 impl OrderedRecord for TLSA {
     /// By the octets of the certificate data if the fields before it are equal.
     #[inline]
-    #[tactic(auto, using(crate::proofs::Fronts::tlsa_tied, crate::proofs::Fronts::tlsa_differ, dns_rdata_base::proofs::QuickOrders::no_difference))]
+    #[tactic(auto, using(crate::proofs::Fronts::tlsa_tied, crate::proofs::Fronts::differ, dns_rdata_base::proofs::QuickOrders::no_difference))]
     fn cmp_canonical_fields(&self, other: &TLSA) -> Option<Ordering> {
         if is_tlsa_front_same(self, other) {
             return Some(rest_order(self.cert_data.as_slice(), other.cert_data.as_slice()));

@@ -1,13 +1,8 @@
 -- The order of two lists by the first octet of each.
 use Rattle.std.proofs.Common.{◌≡◌, ◌≢◌, ℕ, ◌<◌, List, [], ◌∷◌, length, get_or, refl, sym, ◌∙◌, ap, arith}
-use Rattle.std.specs.{declared.cmp.Ordering.Ordering, Cmp.Lexicographic.slice_cmp, Cmp.nat_cmp_is}
 use Rattle.std.specs.declared.cmp.Ordering.TheVariants.{Less, Equal, Greater}
-use Rattle.std.specs.Ordering.{nat_cmp, ordering_then}
-
-decides : (r s : Ordering) → r ≢ Equal → r ≡ ordering_then r s
-decides Less s n = refl
-decides Equal s n = absurd (n refl)
-decides Greater s n = refl
+use Rattle.std.specs.{Ordering.nat_cmp, Ordering.ordering_then, declared.cmp.Ordering.Ordering, Cmp.Lexicographic.slice_cmp, Cmp.nat_cmp_is}
+use Rattle.dns_canonical.proofs.Comparing.{then_kept}
 
 -- where one list is empty their lengths decide
 pub first_empty : (a b : List ℕ) → length a ≡ 0 → nat_cmp (length a) (length b) ≡ slice_cmp nat_cmp a b
@@ -25,7 +20,7 @@ pub first_differs : (a b : List ℕ) (r : Ordering) → 0 < length a → 0 < len
     → r ≡ slice_cmp nat_cmp a b
 first_differs [] b r h k e n = absurd (omega (arith, h))
 first_differs (x ∷ s) [] r h k e n = absurd (omega (arith, k))
-first_differs (x ∷ s) (y ∷ t) r h k e n = decides r (slice_cmp nat_cmp s t) n ∙ ap (λ (q : Ordering). ordering_then q (slice_cmp nat_cmp s t)) e
+first_differs (x ∷ s) (y ∷ t) r h k e n = then_kept r (slice_cmp nat_cmp s t) n ∙ ap (λ (q : Ordering). ordering_then q (slice_cmp nat_cmp s t)) e
 
 -- lists of one octet that is the same
 pub only_octet : (a b : List ℕ) → length a ≡ 1 → length b ≡ 1 → Equal ≡ nat_cmp (get_or a 0 0) (get_or b 0 0) → Equal ≡ slice_cmp nat_cmp a b

@@ -1,14 +1,12 @@
 -- Where the prefix of a net's text begins.
 use Rattle.std.proofs.Common.{◌≡◌, ◌≢◌, ℕ, ◌<◌, ◌≤◌, ◌+◌, List, [], ◌∷◌, ◌++◌, length, take, drop, get_or, refl, arith, ap, sym, ◌∙◌, subst, ◌^◌}
-use Rattle.std.specs.Prelude.{MatchOption, IfSome, IfNone}
-use Rattle.std.specs.{Option.ok_or, Net.Grammar.Parses, Net.Grammar.IsIpText, declared.option.Option.Option, declared.option.Option.TheVariants.Some}
-use Rattle.std.specs.{declared.option.Option.TheVariants.None, List.AllByRecursion, Str.Pattern.RFindsChar, declared.net.ip_addr.IpAddr.IpAddr}
-use Rattle.std.specs.declared.net.ip_addr.IpAddr.TheVariants.{V4, V6}
-use Rattle.std.proofs.{NetLemmas.Theorems.IsIpText_unique, lemmas.List.take-append-drop, lemmas.Str.Parse.digit_at}
-use Rattle.std.proofs.lemmas.List.Elements.{recursion_from_All, All-from_get_or}
-use Rattle.std.proofs.lemmas.Str.Pattern.{NoCharPasses-char, drop_at_char}
+use Rattle.std.proofs.{lemmas.List.Elements.recursion_from_All, lemmas.List.Elements.All-from_get_or, NetLemmas.Theorems.IsIpText_unique}
+use Rattle.std.proofs.lemmas.{Str.Pattern.NoCharPasses-char, Str.Pattern.drop_at_char, List.take-append-drop, Str.Parse.digit_at}
+use Rattle.std.specs.{declared.net.ip_addr.IpAddr.TheVariants.V4, declared.net.ip_addr.IpAddr.TheVariants.V6, Net.Grammar.Parses, Net.Grammar.IsIpText}
+use Rattle.std.specs.{declared.option.Option.TheVariants.Some, declared.option.Option.TheVariants.None, Prelude.MatchOption, Prelude.IfSome, Prelude.IfNone}
+use Rattle.std.specs.{declared.net.ip_addr.IpAddr.IpAddr, declared.option.Option.Option, Str.Pattern.RFindsChar, List.AllByRecursion, Option.ok_or}
 use Rattle.dns_types.specs.declared.error.AddrParseError.{AddrParseError}
-use Rattle.dns_rdata_options.specs.{IpNet.address_bits, NetText.IsNetText, NetText.IsPrefixText}
+use Rattle.dns_rdata_options.specs.{NetText.IsNetText, NetText.IsPrefixText, IpNet.address_bits}
 use denote.Ref.{Bor}
 
 -- the octet c is not in s

@@ -1,22 +1,18 @@
 -- Options one after the other.
-use Rattle.std.proofs.Common.{◌≡◌, ℕ, ◌+◌, ◌≤◌, ◌<◌, ◌^◌, ◌⊎◌, inl, inr, ⊎_elim, List, [], ◌∷◌, ◌++◌, length, take, drop, refl, sym, ap, ◌∙◌, arith}
-use Rattle.std.proofs.Common.{subst, append_assoc, zero, suc, add-one, drop-cons, get_or, ◌-◌, Bool, true, map}
+use Rattle.std.proofs.lemmas.List.{length-append, take-append-drop, take_at, take-append-le, get_or-drop, length-take, length-drop, map_push, append-nil}
+use Rattle.std.proofs.Common.{append_assoc, zero, suc, add-one, drop-cons, get_or, ◌-◌, Bool, true, map}
+use Rattle.std.proofs.lemmas.{Nat.be_bytes_2, Nat.from_be_bytes-to_be_bytes_2, Grind.flat_map-append}
+use Rattle.std.proofs.Common.{◌≡◌, ℕ, ◌+◌, ◌≤◌, ◌<◌, ◌^◌, ◌⊎◌, inl, inr, ⊎_elim, List, [], ◌∷◌, ◌++◌, length, take, drop, refl, sym, ap, ◌∙◌, arith, subst}
 use Rattle.std.specs.Int.{bytes_high_first, from_be_bytes, w16}
-use Rattle.std.proofs.lemmas.List.{length-append, take-append-drop, take_at, take-append-le}
 use Rattle.dns_types.specs.declared.error.DecodeError.{DecodeError}
-use Rattle.dns_fields.specs.{Octets.At, Fields.Number, Fields.Octets, Fields.Field, Fields.Options, Fields.CompleteOptions, Fields.TruncatedOptions}
 use Rattle.dns_fields.specs.Tlvs.{Numbered, tlv, tlvs, IsTlv, AreTlvs, AllHeld, OptionValue, OptionHeld, IsTruncated}
-use Rattle.dns_fields.proofs.{Numbers.length-bytes, FieldLaws.field_same}
-use Rattle.dns_fields.proofs.Tlvs.{first_tlv, truncated_tlv, length-tlv, tlv_before}
-use Rattle.dns_names_wire.specs.{State.Reading, Terms.TookField, Terms.StaysBehind, Terms.UnlessMemory, Terms.Took, Terms.Refused}
-use Rattle.dns_names_wire.proofs.FieldReads.{unless_all, took_number}
-use Rattle.dns_names_wire.proofs.Strings.{at_front, at_rest, at_then}
-use Rattle.dns_rdata_options.specs.OPT.{IsTlvError, IsNextError, Pair, pair_value, pair_of, opt_shape, IsOptError}
+use Rattle.dns_fields.specs.{Fields.Number, Fields.Octets, Fields.Field, Fields.Options, Fields.CompleteOptions, Fields.TruncatedOptions, Octets.At}
+use Rattle.dns_fields.proofs.{Tlvs.first_tlv, Tlvs.truncated_tlv, Tlvs.length-tlv, Tlvs.tlv_before, Numbers.length-bytes, FieldLaws.field_same}
+use Rattle.dns_names_wire.specs.{Terms.TookField, Terms.StaysBehind, Terms.UnlessMemory, Terms.Took, Terms.Refused, State.Reading}
+use Rattle.dns_names_wire.proofs.{FieldReads.unless_all, FieldReads.took_number, FieldReads.unless_map, Strings.at_front, Strings.at_rest, Strings.at_then}
 use Rattle.dns_rdata_options.specs.OptionReads.{OptionsLeft, NoneLeft, TookTlv, TookCut, RefusedTlv, NoOptionValue, KeptOption}
-use Rattle.std.proofs.{lemmas.List.get_or-drop, lemmas.List.length-take, lemmas.List.length-drop, lemmas.Nat.be_bytes_2, lemmas.Nat.from_be_bytes-to_be_bytes_2, lemmas.List.map_push, lemmas.List.append-nil}
-use Rattle.std.proofs.{lemmas.Grind.flat_map-append}
-use Rattle.dns_names_wire.proofs.{FieldReads.unless_map}
-use Rattle.dns_rdata_options.proofs.{Selection.all_push}
+use Rattle.dns_rdata_options.specs.OPT.{IsTlvError, IsNextError, Pair, pair_value, pair_of, opt_shape, IsOptError}
+use Rattle.dns_rdata_options.proofs.Selection.{all_push}
 use Rattle.dns_types.specs.declared.error.DecodeError.TheVariants as decode
 
 -- ---- what begins the rest
@@ -234,6 +230,9 @@ number_there m p small l = two ∙ sym (be_bytes_2 (get_or m p 0 ∷ get_or m (p
   bound (suc zero) = small (p + 1)
   bound (suc (suc i)) = omega arith
 
+tlvs_more : (xs : List (Numbered (List ℕ))) (x : Numbered (List ℕ)) → tlvs xs ++ tlv x ≡ tlvs (xs ++ x ∷ [])
+tlvs_more xs x = sym (flat_map-append tlv xs (x ∷ []) ∙ ap (λ (t : List ℕ). tlvs xs ++ t) (append-nil (tlv x)))
+
 -- one option more
 pub counted_more : {m : List ℕ} {count offset : ℕ} (f : ℕ) → ((i : ℕ) → get_or m i 0 < 256) → offset + (4 + f) ≤ length m → f < 65536
     → f ≡ from_be_bytes w16 (get_or m (offset + 2) 0 ∷ get_or m (offset + 3) 0 ∷ []) → Counted m count offset → Counted m (count + 1) (offset + (4 + f))
@@ -260,9 +259,6 @@ counted_more {m} {count} {offset} f small l fits is h =
       number = omega (arith, h.number, length-append h.read (y ∷ []));
     }
   where
-    tlvs_more : (read : List (Numbered (List ℕ))) (y : Numbered (List ℕ)) → tlvs read ++ tlv y ≡ tlvs (read ++ y ∷ [])
-    tlvs_more read y = sym (flat_map-append tlv read (y ∷ []) ∙ ap (λ (o : List ℕ). tlvs read ++ o) (append-nil (tlv y)))
-
     code_fits : (a b : ℕ) → a < 256 → b < 256 → from_be_bytes w16 (a ∷ b ∷ []) < 256 ^ 2
     code_fits a b h k = omega (arith, h, k)
 
@@ -281,9 +277,6 @@ held_more : (xs : List (Numbered (List ℕ))) (a : List (Numbered OptionValue)) 
 held_more [] [] x v f h = (refl, h, tt)
 held_more (y ∷ ys) (a ∷ as') x v f h = (f.0, f.1, held_more ys as' x v f.2 h)
 held_more xs a x v f h = absurd f
-
-tlvs_more : (xs : List (Numbered (List ℕ))) (x : Numbered (List ℕ)) → tlvs xs ++ tlv x ≡ tlvs (xs ++ x ∷ [])
-tlvs_more xs x = sym (flat_map-append tlv xs (x ∷ []) ∙ ap (λ (t : List ℕ). tlvs xs ++ t) (append-nil (tlv x)))
 
 pub options_more : {old d b : Reading} {n end : ℕ} {done : List (Numbered OptionValue)} {x : Numbered (List ℕ)} (v : OptionValue)
     → ReadsOptions old n end done d

@@ -1,14 +1,12 @@
 -- The orders of options are those that their definitions say.
 use Rattle.std.proofs.Common.{◌≡◌, ℕ, ◌/◌, ◌%◌, ◌<◌, List, [], ◌∷◌, refl, sym, ap, ◌∙◌, arith}
-use Rattle.std.specs.{Cmp.nat_cmp_is, Cmp.ranks, Cmp.Lexicographic.slice_cmp, Ordering.MatchOrdering, Ordering.nat_cmp, Ordering.ordering_then}
-use Rattle.std.specs.{declared.cmp.Ordering.Ordering, declared.net.ip_addr.IpAddr.IpAddr, Net.Addr.octets_of, Net.Addr.ipv6_segments}
-use Rattle.std.specs.declared.cmp.Ordering.TheVariants.{Less, Equal}
-use Rattle.std.specs.declared.net.ip_addr.IpAddr.TheVariants.{V4, V6}
-use Rattle.std.specs.contracts.net.ip_addr.IpAddrOrd.TheImpl as ordered_addresses
+use Rattle.std.specs.{declared.net.ip_addr.IpAddr.TheVariants.V4, declared.net.ip_addr.IpAddr.TheVariants.V6, Net.Addr.octets_of, Net.Addr.ipv6_segments}
+use Rattle.std.specs.{declared.cmp.Ordering.TheVariants.Less, declared.cmp.Ordering.TheVariants.Equal, declared.net.ip_addr.IpAddr.IpAddr, Cmp.nat_cmp_is}
+use Rattle.std.specs.{Ordering.MatchOrdering, Ordering.nat_cmp, Ordering.ordering_then, declared.cmp.Ordering.Ordering, Cmp.Lexicographic.slice_cmp, Cmp.ranks}
 use Rattle.dns_canonical.proofs.Comparing.{then_assoc}
-use Rattle.dns_rdata_options.specs.{declared.opt.option.EdnsOption.EdnsOption, declared.opt.subnet.ClientSubnet.ClientSubnet}
-use Rattle.dns_rdata_options.specs.Order.{address_cmp, subnet_cmp, option_cmp}
-use Rattle.dns_rdata_options.specs.declared.opt.option.EdnsOption.TheVariants.{Subnet, NSID, Unknown}
+use Rattle.dns_rdata_options.specs.declared.opt.option.EdnsOption.{TheVariants.Subnet, TheVariants.NSID, TheVariants.Unknown, EdnsOption}
+use Rattle.dns_rdata_options.specs.{Order.address_cmp, Order.subnet_cmp, Order.option_cmp, declared.opt.subnet.ClientSubnet.ClientSubnet}
+use Rattle.std.specs.contracts.net.ip_addr.IpAddrOrd.TheImpl as ordered_addresses
 use Rattle.dns_rdata_options.specs.contracts.opt.option.EdnsOptionOrd.TheImpl as ordered_options
 use Rattle.dns_rdata_options.specs.contracts.opt.subnet.ClientSubnetOrd.TheImpl as ordered_subnets
 

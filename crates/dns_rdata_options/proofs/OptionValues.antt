@@ -1,26 +1,23 @@
 -- Which options codes and octets give, and the values of the wire that they hold.
-use Rattle.std.proofs.Common.{◌≡◌, ◌≢◌, ◌⊎◌, inl, inr, ℕ, ◌+◌, ◌<◌, ◌==◌, Bool, false, cond, List, [], ◌∷◌, ◌++◌, length, drop, Ok, refl, sym, ap}
-use Rattle.std.proofs.Common.{◌∙◌, arith, subst}
-use Rattle.std.proofs.lemmas.Bool.Decides.{nat_tests}
+use Rattle.std.proofs.{lemmas.Bool.Decides.nat_tests, Common.subst}
+use Rattle.std.proofs.Common.{◌≡◌, ◌≢◌, ◌⊎◌, inl, inr, ℕ, ◌+◌, ◌<◌, ◌==◌, Bool, false, cond, List, [], ◌∷◌, ◌++◌, length, drop, Ok, refl, sym, ap, ◌∙◌, arith}
 use Rattle.std.specs.Int.{bytes_high_first}
 use Rattle.dns_types.specs.declared.error.DecodeError.{DecodeError}
-use Rattle.dns_types.specs.declared.error.DecodeError.TheVariants as decode
-use Rattle.dns_fields.specs.Octets.{AreOctets, At}
 use Rattle.dns_fields.specs.Tlvs.{Numbered, tlv, OptionValue, Subnet, OpaqueOption, option_octets, OptionHeld, IsEmittableOption}
+use Rattle.dns_fields.specs.Octets.{AreOctets, At}
 use Rattle.dns_fields.proofs.OctetLaws.{AreOctets-at, AreOctets-back, AreOctets-front, AreOctets-same, AreOctets-tail}
 use Rattle.dns_rdata_base.proofs.NumberLaws.{number-numbered_of}
-use Rattle.dns_rdata_options.specs.{OPT.Pair, OPT.option_of, declared.opt.code.EdnsCode.EdnsCode, declared.opt.option.EdnsOption.EdnsOption}
-use Rattle.dns_rdata_options.specs.EdnsCode.{edns_code_number, named_edns_codes, other_edns_code, edns_code_of}
 use Rattle.dns_rdata_options.specs.ClientSubnet.{subnet_value, subnet_of, NoSubnet, ReadsSubnet, IsSubnetError}
-use Rattle.dns_rdata_options.specs.EdnsOption.{option_value, IsOptionOf, IsOptionError}
-use Rattle.dns_rdata_options.specs.OptionReads.{KeptOption, NoOptionValue, NoneLeft, TookTlv}
-use Rattle.dns_rdata_options.specs.declared.opt.subnet.ClientSubnet.{ClientSubnet}
-use Rattle.dns_names_wire.specs.{State.Reading, Terms.StaysBehind, Terms.UnlessMemory}
+use Rattle.dns_rdata_options.specs.EdnsCode.{edns_code_number, named_edns_codes, other_edns_code, edns_code_of}
+use Rattle.dns_rdata_options.specs.{OptionReads.KeptOption, OptionReads.NoOptionValue, OptionReads.NoneLeft, OptionReads.TookTlv, OPT.Pair, OPT.option_of}
+use Rattle.dns_rdata_options.specs.{EdnsOption.option_value, EdnsOption.IsOptionOf, EdnsOption.IsOptionError, declared.opt.subnet.ClientSubnet.ClientSubnet}
+use Rattle.dns_rdata_options.specs.declared.opt.{option.EdnsOption.EdnsOption, code.EdnsCode.EdnsCode}
+use Rattle.dns_names_wire.specs.{Terms.StaysBehind, Terms.UnlessMemory, State.Reading}
 use Rattle.dns_names_wire.proofs.FieldReads.{unless_all}
+use Rattle.dns_rdata_options.proofs.{Subnets.value_back, Subnets.made_read, Subnets.at_zero, Subnets.begun, OptionLists.RefusedHere, OptionLists.no_value}
+use Rattle.dns_types.specs.declared.error.DecodeError.TheVariants as decode
 use Rattle.dns_rdata_options.specs.declared.opt.code.EdnsCode.TheVariants as codes
 use Rattle.dns_rdata_options.specs.declared.opt.option.EdnsOption.TheVariants as edns
-use Rattle.dns_rdata_options.proofs.OptionLists.{RefusedHere, no_value}
-use Rattle.dns_rdata_options.proofs.Subnets.{value_back, made_read, at_zero, begun}
 
 pub edns_code_number-of : (n : ℕ) → edns_code_number (edns_code_of n) ≡ n
 unfolding edns_code_of

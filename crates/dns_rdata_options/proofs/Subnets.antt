@@ -1,18 +1,16 @@
 -- The subnet that begins octets, and why none does.
-use Rattle.std.proofs.Common.{◌≡◌, ◌⊎◌, inl, inr, ℕ, zero, suc, ◌+◌, ◌-◌, ◌<◌, ◌≤◌, List, [], ◌∷◌, ◌++◌, length, take, drop, replicate, get_or, false}
-use Rattle.std.proofs.Common.{◌==◌, refl, sym, ap, ◌∙◌, arith, subst, append_assoc}
-use Rattle.std.specs.{Int.w16, Int.from_be_bytes, Int.bytes_high_first, Net.Addr.segments_of, Net.Addr.ipv6_segments}
-use Rattle.std.specs.{declared.net.ip_addr.IpAddr.TheVariants.V6, declared.net.ipv6_addr.Ipv6Addr.Ipv6Addr}
-use Rattle.std.proofs.{lemmas.Bool.Decides.nat_tests, lemmas.Nat.be_bytes_2}
 use Rattle.std.proofs.lemmas.List.{length-append, length-take-le, length-drop, length-replicate, take-append-drop, take_at}
-use Rattle.dns_fields.specs.Octets.{At, AreOctets}
-use Rattle.dns_fields.specs.Tlvs.{OptionValue, Subnet, option_octets, IsAddress, IsEmittableOption}
-use Rattle.dns_fields.proofs.Numbers.{length-bytes}
+use Rattle.std.proofs.{Common.refl, Common.sym, Common.ap, Common.◌∙◌, Common.arith, Common.subst, Common.append_assoc, lemmas.Bool.Decides.nat_tests}
+use Rattle.std.proofs.lemmas.Nat.{be_bytes_2}
+use Rattle.std.proofs.Common.{◌≡◌, ◌⊎◌, inl, inr, ℕ, zero, suc, ◌+◌, ◌-◌, ◌<◌, ◌≤◌, List, [], ◌∷◌, ◌++◌, length, take, drop, replicate, get_or, false, ◌==◌}
+use Rattle.std.specs.{Int.w16, Int.from_be_bytes, Int.bytes_high_first, Net.Addr.segments_of, Net.Addr.ipv6_segments, declared.net.ipv6_addr.Ipv6Addr.Ipv6Addr}
+use Rattle.std.specs.declared.net.ip_addr.IpAddr.TheVariants.{V6}
+use Rattle.dns_fields.specs.{Tlvs.OptionValue, Tlvs.Subnet, Tlvs.option_octets, Tlvs.IsAddress, Tlvs.IsEmittableOption, Octets.At, Octets.AreOctets}
 use Rattle.dns_fields.proofs.OctetLaws.{AreOctets-nil, AreOctets-cons, AreOctets-append, AreOctets-take, AreOctets-drop}
+use Rattle.dns_fields.proofs.Numbers.{length-bytes}
 use Rattle.dns_rdata_base.proofs.Addresses.{octets_of-segments}
-use Rattle.dns_rdata_options.specs.ClientSubnet.{family_of, address_octets, prefix_octets, family_octets, padded, address_of, subnet_of, subnet_value}
-use Rattle.dns_rdata_options.specs.ClientSubnet.{IsReadSubnet, SubnetAt, IsFamily, SubnetHead}
-use Rattle.dns_rdata_options.specs.declared.opt.subnet.ClientSubnet.{ClientSubnet}
+use Rattle.dns_rdata_options.specs.ClientSubnet.{IsReadSubnet, SubnetAt, IsFamily, SubnetHead, family_of, address_octets, prefix_octets, family_octets, padded}
+use Rattle.dns_rdata_options.specs.{declared.opt.subnet.ClientSubnet.ClientSubnet, ClientSubnet.address_of, ClientSubnet.subnet_of, ClientSubnet.subnet_value}
 
 -- octets as numbers of eight bits, as code knows them
 abbrev pub Eights : List ℕ → Type 0

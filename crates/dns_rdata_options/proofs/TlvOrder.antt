@@ -1,24 +1,17 @@
 -- The order of the octets of options, and of lists that they begin.
 use Rattle.std.proofs.Common.{Some, ◌≡◌, ℕ, ◌<◌, ◌^◌, nat_le, true, List, [], ◌∷◌, ◌++◌, length, map, count_by, refl, sym, ap, ◌∙◌}
 use Rattle.std.proofs.lemmas.List.{append-nil}
-use Rattle.std.specs.{Int.bytes_high_first, List.flat_map, List.AllByRecursion, Cmp.first_so, Cmp.second_so, FinMap.nat_cmp-IsAntisymmetric}
-use Rattle.std.specs.{Cmp.Lexicographic.slice_cmp, declared.cmp.Ordering.Ordering}
-use Rattle.std.specs.Ordering.{is_eq, eq_by_cmp, nat_cmp, ordering_then}
-use Rattle.std.specs.declared.cmp.Ordering.TheVariants.{Less, Equal, Greater}
+use Rattle.std.specs.{Ordering.is_eq, Ordering.eq_by_cmp, Ordering.nat_cmp, Ordering.ordering_then, List.flat_map, List.AllByRecursion, Int.bytes_high_first}
+use Rattle.std.specs.{FinMap.nat_cmp-IsAntisymmetric, Cmp.first_so, Cmp.second_so, Cmp.Lexicographic.slice_cmp}
 use Rattle.dns_fields.specs.{Fields.Options, Fields.field_octets, Fields.option_tlvs, Tlvs.tlv, Tlvs.option_octets, Sorting.sorted}
-use Rattle.dns_fields.proofs.{Sorted.sorted_all, Sorted.map_sorted, Sorted.flat_map_all, Multisets.count_sorted, Multisets.sorted_risen}
-use Rattle.dns_fields.proofs.{Multisets.same_counts, Numbers.length-bytes, Tlvs.parts, Tlvs.number_first, Tlvs.tlv_before}
+use Rattle.dns_fields.proofs.{Multisets.count_sorted, Multisets.sorted_risen, Multisets.same_counts, Sorted.sorted_all, Sorted.map_sorted, Sorted.flat_map_all}
+use Rattle.dns_fields.proofs.{Tlvs.parts, Tlvs.number_first, Tlvs.tlv_before, Numbers.length-bytes}
 use Rattle.dns_canonical.specs.Fronts.{canonical_cmp}
-use Rattle.dns_canonical.proofs.{Fronts.alone}
-use Rattle.dns_rdata_options.specs.{EdnsOption.option_value, EdnsCode.edns_code_number, OPT.Pair, OPT.pair_value, OPT.opt_shape, OPT.opt_fields}
-use Rattle.dns_rdata_options.specs.{Order.pair_cmp, Order.risen, Order.opt_eq, OrderLaws.pair_total, OrderLaws.opt_ties}
-use Rattle.dns_rdata_options.specs.Steps.{octets_cmp, tlv_cmp, own_tlv, pair_emittable, pairs_emittable}
+use Rattle.dns_canonical.proofs.Fronts.{alone, behind}
+use Rattle.dns_rdata_options.specs.{Steps.octets_cmp, Steps.tlv_cmp, Steps.own_tlv, Steps.pair_emittable, Steps.pairs_emittable, EdnsCode.edns_code_number}
+use Rattle.dns_rdata_options.specs.{OPT.Pair, OPT.pair_value, OPT.opt_shape, OPT.opt_fields, Order.pair_cmp, Order.risen, Order.opt_eq, EdnsOption.option_value}
+use Rattle.dns_rdata_options.specs.OrderLaws.{pair_total, opt_ties}
 use Rattle.dns_rdata_options.proofs.Pairs.{is_short}
-
-behind : (o s t u : Ordering) → (o ≡ Equal → s ≡ ordering_then t u) → ordering_then o s ≡ ordering_then (ordering_then o t) u
-behind Less s t u h = refl
-behind Equal s t u h = h refl
-behind Greater s t u h = refl
 
 -- if neither octets are the beginning of the other, the first difference decides; if they are the same, what follows decides
 free_then : (p q u v : List ℕ) → ((r s : List ℕ) → p ++ r ≡ q ++ s → p ≡ q) → octets_cmp (p ++ u) (q ++ v) ≡ ordering_then (octets_cmp p q) (octets_cmp u v)

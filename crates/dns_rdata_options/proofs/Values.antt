@@ -1,27 +1,25 @@
 -- Records of options by their fields: one that was read is told by them, and fields that are make one. `==` of records
 -- tells whether one is the other in another order; of two that were read, whether their fields are.
-use Rattle.std.proofs.Common.{◌≡◌, ◌↔◌, ◌⊎◌, inl, inr, ℕ, ◌-◌, ◌==◌, Bool, true, false, cond, List, [], ◌∷◌, ◌++◌, map, count_by, get_or, slice_get}
-use Rattle.std.proofs.Common.{Some, refl, sym, ap, ◌∙◌, subst}
-use Rattle.std.specs.{Bool.Decides, Cmp.unsigned_Decides, Cmp.first_so, Cmp.second_so, Cmp.Lexicographic.pointwise, Cmp.Lexicographic.pointwise_decides, Ordering.is_eq}
-use Rattle.std.specs.{Ordering.eq_by_cmp, FinMap.IsAntisymmetric, List.Sorted.IsPermutation, Int.bytes_high_first, declared.net.ip_addr.IpAddr.IpAddr}
-use Rattle.std.specs.declared.net.ip_addr.IpAddr.TheVariants.{V4, V6}
-use Rattle.std.proofs.{lemmas.Option.get_or_from_slice_get, lemmas.List.Sorted.IsPermutation-map}
-use Rattle.std.proofs.lemmas.Bool.Decides.{same_from_decides, Decides-like}
-use Rattle.std.specs.contracts.net.ip_addr.IpAddrPartialEq.TheImpl as equal_addresses
-use Rattle.dns_fields.specs.{Octets.AreOctets, Fields.Values, Fields.CompleteOptions, Fields.TruncatedOptions, Fields.Stands, Fields.Same, Equal.values_eq}
+use Rattle.std.proofs.{lemmas.Bool.Decides.same_from_decides, lemmas.Bool.Decides.Decides-like, Common.sym, Common.ap, Common.◌∙◌, Common.subst}
+use Rattle.std.proofs.lemmas.{List.Sorted.IsPermutation-map, Option.get_or_from_slice_get}
+use Rattle.std.proofs.Common.{◌≡◌, ◌↔◌, ◌⊎◌, inl, inr, ℕ, ◌-◌, ◌==◌, Bool, true, false, cond, List, [], ◌∷◌, ◌++◌, map, count_by, get_or, slice_get, Some, refl}
+use Rattle.std.specs.{declared.net.ip_addr.IpAddr.TheVariants.V4, declared.net.ip_addr.IpAddr.TheVariants.V6, Cmp.unsigned_Decides, Cmp.first_so, Cmp.second_so}
+use Rattle.std.specs.{Cmp.Lexicographic.pointwise, Cmp.Lexicographic.pointwise_decides, Ordering.is_eq, Ordering.eq_by_cmp, declared.net.ip_addr.IpAddr.IpAddr}
+use Rattle.std.specs.{List.Sorted.IsPermutation, FinMap.IsAntisymmetric, Int.bytes_high_first, Bool.Decides}
 use Rattle.dns_fields.specs.Tlvs.{Numbered, tlv, tlvs, AllHeld, OptionValue, Subnet, OpaqueOption, OptionHeld}
-use Rattle.dns_fields.proofs.{EqualLaws.values_decide, Multisets.count_ext, Multisets.counts_decide, Sorted.permutation_counts}
-use Rattle.dns_fields.proofs.OctetLaws.{AreOctets-at, AreOctets-front, AreOctets-back}
-use Rattle.dns_rdata_options.specs.{EdnsOption.option_value, Order.pair_eq, Order.pair_cmp, Order.opt_eq, declared.opt.code.EdnsCode.EdnsCode}
-use Rattle.dns_rdata_options.specs.{declared.opt.option.EdnsOption.EdnsOption, declared.opt.subnet.ClientSubnet.ClientSubnet}
-use Rattle.dns_rdata_options.specs.EdnsCode.{edns_code_number, edns_code_variant, edns_code_of}
+use Rattle.dns_fields.specs.{Fields.Values, Fields.CompleteOptions, Fields.TruncatedOptions, Fields.Stands, Fields.Same, Octets.AreOctets, Equal.values_eq}
+use Rattle.dns_fields.proofs.{OctetLaws.AreOctets-at, OctetLaws.AreOctets-front, OctetLaws.AreOctets-back, Multisets.count_ext, Multisets.counts_decide}
+use Rattle.dns_fields.proofs.{Sorted.permutation_counts, EqualLaws.values_decide}
 use Rattle.dns_rdata_options.specs.OPT.{Pair, pair_value, option_of, pair_of, opt_shape, opt_fields, opt_from, IsReadOpt, code_eq}
-use Rattle.dns_rdata_options.specs.OrderLaws.{pair_total, pair_ties, opt_ties}
+use Rattle.dns_rdata_options.specs.{EdnsCode.edns_code_number, EdnsCode.edns_code_variant, EdnsCode.edns_code_of, declared.opt.subnet.ClientSubnet.ClientSubnet}
+use Rattle.dns_rdata_options.specs.{OrderLaws.pair_total, OrderLaws.pair_ties, OrderLaws.opt_ties, Order.pair_eq, Order.pair_cmp, Order.opt_eq}
+use Rattle.dns_rdata_options.specs.{declared.opt.option.EdnsOption.EdnsOption, declared.opt.code.EdnsCode.EdnsCode, EdnsOption.option_value}
+use Rattle.dns_rdata_options.proofs.{OptionValues.edns_code_number-of, OptionValues.held_octets, Subnets.value_back}
+use Rattle.std.specs.contracts.net.ip_addr.IpAddrPartialEq.TheImpl as equal_addresses
 use Rattle.dns_rdata_options.specs.declared.opt.code.EdnsCode.TheVariants as codes
 use Rattle.dns_rdata_options.specs.declared.opt.option.EdnsOption.TheVariants as edns
 use Rattle.dns_rdata_options.specs.contracts.opt.option.EdnsOptionPartialEq.TheImpl as equal_options
 use Rattle.dns_rdata_options.specs.contracts.opt.subnet.ClientSubnetPartialEq.TheImpl as equal_subnets
-use Rattle.dns_rdata_options.proofs.{OptionValues.edns_code_number-of, OptionValues.held_octets, Subnets.value_back}
 
 -- ---- values that were read
 

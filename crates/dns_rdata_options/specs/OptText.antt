@@ -1,12 +1,11 @@
 -- The text of options, for people.
 use Rattle.std.specs.Prelude.{ℕ, ◌/◌, ◌%◌, false, List, [], ◌∷◌, ◌++◌, flat_map, codes, decimal}
-use Rattle.std.specs.{Fmt.digits, Net.Text.ip_text}
-use Rattle.dns_rdata_options.specs.{OPT.Pair, declared.opt.code.EdnsCode.EdnsCode}
-use Rattle.dns_rdata_options.specs.declared.opt.option.EdnsOption.{EdnsOption}
+use Rattle.std.specs.{Net.Text.ip_text, Fmt.digits}
+use Rattle.dns_rdata_options.specs.declared.opt.code.EdnsCode.{TheVariants.Unknown, EdnsCode}
+use Rattle.dns_rdata_options.specs.{declared.opt.option.EdnsOption.EdnsOption, OPT.Pair}
+use Rattle.dns_rdata_options.specs.declared.opt.code.EdnsCode.TheVariants.{Zero, LLQ, UL, NSID, DAU, DHU, N3U, Subnet}
+use Rattle.dns_rdata_options.specs.declared.opt.code.EdnsCode.TheVariants.{Expire, Cookie, Keepalive, Padding, Chain}
 use Rattle.dns_rdata_options.specs.declared.opt.option.EdnsOption.TheVariants as option
-use Rattle.dns_rdata_options.specs.declared.opt.code.EdnsCode.TheVariants.{Zero, LLQ, UL, NSID, DAU, DHU, N3U}
-use Rattle.dns_rdata_options.specs.declared.opt.code.EdnsCode.TheVariants.{Subnet, Expire, Cookie, Keepalive, Padding}
-use Rattle.dns_rdata_options.specs.declared.opt.code.EdnsCode.TheVariants.{Chain, Unknown}
 
 -- the names of IANA's registry "DNS EDNS0 Option Codes (OPT)" in lower case, with `ecs` for edns-client-subnet and
 -- `keepalive` for edns-tcp-keepalive; or `option` and the number

@@ -1,14 +1,13 @@
 -- When records of options are equal, their order, and what they feed a hasher: all in the rising order of their pairs.
 -- How codes, subnets, payloads and options themselves are ordered.
-use Rattle.std.specs.Prelude.{ℕ, Bool, List}
-use Rattle.std.specs.{Cmp.Lexicographic.pointwise, Cmp.Lexicographic.slice_cmp, declared.cmp.Ordering.Ordering, declared.net.ip_addr.IpAddr.IpAddr}
+use Rattle.std.specs.declared.net.ip_addr.IpAddr.{TheVariants.V4, TheVariants.V6, IpAddr}
+use Rattle.std.specs.declared.cmp.Ordering.{TheVariants.Less, TheVariants.Greater, Ordering}
 use Rattle.std.specs.Ordering.{nat_cmp, then_cmp, ordering_then, eq_of_both}
-use Rattle.std.specs.declared.cmp.Ordering.TheVariants.{Less, Greater}
-use Rattle.std.specs.declared.net.ip_addr.IpAddr.TheVariants.{V4, V6}
-use Rattle.dns_rdata_options.specs.{ClientSubnet.address_octets, OPT.Pair, OPT.code_eq, declared.opt.code.EdnsCode.EdnsCode}
-use Rattle.dns_rdata_options.specs.{declared.opt.option.EdnsOption.EdnsOption, declared.opt.subnet.ClientSubnet.ClientSubnet}
-use Rattle.dns_rdata_options.specs.EdnsCode.{edns_code_number, edns_code_variant}
+use Rattle.std.specs.{Cmp.Lexicographic.pointwise, Cmp.Lexicographic.slice_cmp, Prelude.ℕ, Prelude.Bool, Prelude.List}
 use Rattle.dns_rdata_options.specs.declared.opt.option.EdnsOption.TheVariants.{Subnet, NSID, Unknown}
+use Rattle.dns_rdata_options.specs.{EdnsCode.edns_code_number, EdnsCode.edns_code_variant, ClientSubnet.address_octets}
+use Rattle.dns_rdata_options.specs.declared.opt.{subnet.ClientSubnet.ClientSubnet, code.EdnsCode.EdnsCode}
+use Rattle.dns_rdata_options.specs.{declared.opt.option.EdnsOption.EdnsOption, OPT.Pair, OPT.code_eq}
 use Rattle.dns_fields.specs.Sorting.{sorted}
 use Rattle.dns_rdata_base.specs.Numbered.{numbered_cmp}
 use Rattle.dns_rdata_options.specs.contracts.opt.option.EdnsOptionPartialEq.TheImpl as equal_options

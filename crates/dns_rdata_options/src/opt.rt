@@ -1,12 +1,13 @@
 //! OPT: the options of EDNS (RFC 6891).
 
-ghost use Rattle.std.specs.Prelude.{◌≡◌, ◌↔◌, ◌+◌, ◌^◌, ◌<◌, ◌++◌, ◌∷◌, [], length, map, slice_get, IfOk, IsTrue, OnOk, OnErr};
-ghost use Rattle.std.specs.{Option.option_copied, Slice.Iter.iter_rest, Iterator.Adapters.IterYieldsInOrder};
-ghost use Rattle.dns_rdata_options.specs.{declared.opt.code.EdnsCode.EdnsCode as Code, declared.opt.option.EdnsOption.EdnsOption as Content};
+ghost use Rattle.std.specs.Prelude.{◌≡◌, ◌↔◌, ◌+◌, ◌^◌, ◌<◌, ◌++◌, ◌∷◌, [], length, map, slice_get, IfOk, IsTrue, OnOk, OnErr, List, count_by, refl};
+ghost use Rattle.std.specs.{Cmp.partial_equiv_from_equiv, Cmp.partial_order_from_agreeing_total, Iterator.Adapters.IterYieldsInOrder, Ordering.as_partial_cmp};
+ghost use Rattle.std.specs.{List.Sorted.IsPermutation, Option.option_copied, Slice.Iter.iter_rest};
 ghost use Rattle.dns_fields.specs.Tlvs.{tlv, as_tlv, option_octets, OptionFits};
 ghost use Rattle.dns_names_wire.specs.Terms.{Emits, EmitsFitting};
-ghost use Rattle.dns_rdata_options.specs.{EdnsCode.edns_code_number, EdnsOption.code_of};
-ghost use Rattle.dns_rdata_options.specs.{OPT.opt_shape, OPT.opt_fields, OPT.opt_facts, OPT.pair_value, OPT.options_of, OPT.without, Order.opt_cmp};
+ghost use Rattle.dns_rdata_options.specs.{OPT.opt_shape, OPT.opt_fields, OPT.opt_facts, OPT.pair_value, OPT.options_of, OPT.without, EdnsCode.edns_code_number};
+ghost use Rattle.dns_rdata_options.specs.{OrderLaws.opt_equiv, OrderLaws.opt_total, OrderLaws.opt_ties, Order.pair_eq, Order.opt_cmp, EdnsOption.code_of};
+ghost use Rattle.dns_rdata_options.specs.{declared.opt.code.EdnsCode.EdnsCode as Code, declared.opt.option.EdnsOption.EdnsOption as Content, OPT.Pair, Order.opt_eq};
 
 mod code;
 mod net;
@@ -60,9 +61,6 @@ pub struct OPT {
 }
 
 impl Model for OPT {
-    ghost use Rattle.std.specs.Prelude.{List};
-    ghost use Rattle.dns_rdata_options.specs.{declared.opt.code.EdnsCode.EdnsCode as Code, declared.opt.option.EdnsOption.EdnsOption as Content};
-
     ghost Value = { List (Code × Content) };
 
     ghost view = { λ o. o.options.items };
@@ -249,10 +247,6 @@ impl BinEncodable for OPT {
 }
 
 impl PartialEq for OPT {
-    ghost use Rattle.std.specs.Prelude.{◌≡◌, ◌↔◌, IsTrue, count_by};
-    ghost use Rattle.std.specs.{List.Sorted.IsPermutation, Cmp.partial_equiv_from_equiv};
-    ghost use Rattle.dns_rdata_options.specs.{OPT.Pair, Order.pair_eq, Order.opt_eq, OrderLaws.opt_equiv};
-
     ghost eq = { opt_eq };
 
     ghost laws = { partial_equiv_from_equiv opt_equiv };
@@ -273,16 +267,10 @@ impl PartialEq for OPT {
 }
 
 impl Eq for OPT {
-    ghost use Rattle.dns_rdata_options.specs.OrderLaws.{opt_equiv};
-
     ghost laws = { opt_equiv };
 }
 
 impl PartialOrd for OPT {
-    ghost use Rattle.std.specs.Prelude.{refl};
-    ghost use Rattle.std.specs.{Ordering.as_partial_cmp, Cmp.partial_order_from_agreeing_total};
-    ghost use Rattle.dns_rdata_options.specs.{Order.opt_cmp, OrderLaws.opt_total, OrderLaws.opt_ties};
-
     ghost partial_cmp = { as_partial_cmp opt_cmp };
 
     ghost laws = { partial_order_from_agreeing_total opt_cmp opt_total (λ _ _. refl) opt_ties };
@@ -294,9 +282,6 @@ impl PartialOrd for OPT {
 }
 
 impl Ord for OPT {
-    ghost use Rattle.std.specs.Prelude.{refl};
-    ghost use Rattle.dns_rdata_options.specs.{Order.opt_cmp, OrderLaws.opt_total, OrderLaws.opt_ties};
-
     ghost cmp = { opt_cmp };
 
     ghost total = { opt_total };

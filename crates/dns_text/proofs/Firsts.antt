@@ -1,6 +1,5 @@
 -- How what is read from a text goes on behind what was read already.
-use Rattle.std.proofs.Common.{◌≡◌, ℕ, ◌<◌, map, Bool, false, arith, List, [], ◌∷◌, ◌++◌, length, drop, get_or, refl, sym, ◌∙◌, ap, subst}
-use Rattle.std.proofs.Common.{append_assoc}
+use Rattle.std.proofs.Common.{◌≡◌, ℕ, ◌<◌, map, Bool, false, arith, List, [], ◌∷◌, ◌++◌, length, drop, get_or, refl, sym, ◌∙◌, ap, subst, append_assoc}
 use Rattle.std.proofs.lemmas.List.{append-nil, drop_more, map-append}
 use Rattle.dns_text.specs.{Octets.BeginsOtherwise, Quoted.First}
 

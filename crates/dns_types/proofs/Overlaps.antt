@@ -1,8 +1,7 @@
 -- Lists that are the same up to one index, and from that index or an earlier one on.
-use Rattle.std.proofs.Common.{◌≡◌, ◌≤◌, ◌-◌, ◌∙◌, ℕ, Bool, true, false, IsTrue, ◌↔◌, List, [], ◌∷◌, take, drop, length, refl, sym, ap, suc, zero}
-use Rattle.std.proofs.Common.{arith, take_all, nat_eq}
-use Rattle.std.proofs.{Math.Bool.◌&&◌, lemmas.Bool.and_parts, lemmas.Bool.eqb-true, lemmas.Bool.eq-eqb, Math.Seq.take-add}
-use Rattle.std.proofs.lemmas.List.{length-drop, length-take-le, take-append-drop}
+use Rattle.std.proofs.{lemmas.List.length-drop, lemmas.List.length-take-le, lemmas.List.take-append-drop, Common.take_all, Common.nat_eq, Math.Seq.take-add}
+use Rattle.std.proofs.{lemmas.Bool.and_parts, lemmas.Bool.eqb-true, lemmas.Bool.eq-eqb, Math.Bool.◌&&◌}
+use Rattle.std.proofs.Common.{◌≡◌, ◌≤◌, ◌-◌, ◌∙◌, ℕ, Bool, true, false, IsTrue, ◌↔◌, List, [], ◌∷◌, take, drop, length, refl, sym, ap, suc, zero, arith}
 use Rattle.std.specs.Prelude.{◌+◌, ◌++◌, replicate}
 
 both : {X : Type 0} (i j : ℕ) (a b : List X) → j ≤ i → take i a ≡ take i b → drop j a ≡ drop j b → a ≡ b

@@ -1,10 +1,9 @@
 -- Codes and numbers tell types apart.
-use Rattle.std.proofs.Common.{◌≡◌, ℕ, ◌+◌, ◌*◌, ◌/◌, ◌%◌, ◌==◌, Bool, true, false, cond, List, [], ◌∷◌, find, unwrap_or, Option, Some, eqb-true, refl}
-use Rattle.std.proofs.Common.{sym, ◌∙◌, ap, arith}
-use Rattle.std.proofs.lemmas.Bool.Decides.{nat_tests}
-use Rattle.std.specs.{Bool.Decides, Cmp.unsigned_Decides}
-use Rattle.dns_types.specs.{declared.record_type.RecordType.RecordType, declared.record_type.RecordType.TheVariants.Unknown}
+use Rattle.std.proofs.{lemmas.Bool.Decides.nat_tests, Common.ap, Common.arith}
+use Rattle.std.proofs.Common.{◌≡◌, ℕ, ◌+◌, ◌*◌, ◌/◌, ◌%◌, ◌==◌, Bool, true, false, cond, List, [], ◌∷◌, find, unwrap_or, Option, Some, eqb-true, refl, sym, ◌∙◌}
+use Rattle.std.specs.{Cmp.unsigned_Decides, Bool.Decides}
 use Rattle.dns_types.specs.RecordTypes.{number_of, named_types, record_type_of, code_of}
+use Rattle.dns_types.specs.declared.record_type.RecordType.{TheVariants.Unknown, RecordType}
 
 -- the type of a code
 type_of_code : ℕ → RecordType

@@ -1,12 +1,11 @@
 -- A text is read as one type at most: a name is no TYPE with a number, and each type has a name of its own.
-use Rattle.std.proofs.Common.{◌≡◌, ℕ, ◌<◌, ◌^◌, ◌==◌, Bool, true, false, ◌&&◌, cond, List, [], ◌∷◌, ◌++◌, drop, find, Option, Some, None, Result, Ok}
-use Rattle.std.proofs.Common.{Err, MatchOption, codes, decimal, refl, sym, ◌∙◌, ap, subst, inl, inr, lit<, arith}
-use Rattle.std.specs.{Cmp.Lexicographic.pointwise, Cmp.Lexicographic.pointwise_decides, Cmp.unsigned_Decides, Option.ok_or, Str.Parse.digits_value}
-use Rattle.dns_types.specs.{declared.error.DecodeError.DecodeError, declared.error.DecodeError.TheVariants.UnknownRecordTypeStr}
-use Rattle.dns_types.specs.{declared.record_type.RecordType.RecordType, declared.record_type.RecordType.TheVariants.Unknown}
-use Rattle.dns_types.specs.RecordTypes.{number_of, is_named, named_types, record_type_of, type_text, has_name, IsTypeName, IsNumberText, IsTypeText}
-use Rattle.dns_types.specs.RecordTypes.{ReadsType, ReadsPrinted}
+use Rattle.std.proofs.Common.{MatchOption, codes, decimal, refl, sym, ◌∙◌, ap, subst, inl, inr, lit<, arith}
 use Rattle.std.proofs.lemmas.Fmt.{decimal_is_IsNumeral, length-decimal-le}
+use Rattle.std.proofs.Common.{◌≡◌, ℕ, ◌<◌, ◌^◌, ◌==◌, Bool, true, false, ◌&&◌, cond, List, [], ◌∷◌, ◌++◌, drop, find, Option, Some, None, Result, Ok, Err}
+use Rattle.std.specs.{Cmp.Lexicographic.pointwise, Cmp.Lexicographic.pointwise_decides, Str.Parse.digits_value, Cmp.unsigned_Decides, Option.ok_or}
+use Rattle.dns_types.specs.declared.{error.DecodeError.TheVariants.UnknownRecordTypeStr, record_type.RecordType.TheVariants.Unknown}
+use Rattle.dns_types.specs.{declared.record_type.RecordType.RecordType, declared.error.DecodeError.DecodeError, RecordTypes.ReadsPrinted}
+use Rattle.dns_types.specs.RecordTypes.{number_of, is_named, named_types, record_type_of, type_text, has_name, IsTypeName, IsNumberText, IsTypeText, ReadsType}
 use Rattle.dns_types.proofs.RecordTypeLaws.{number_of-record_type_of}
 
 -- what a first match is

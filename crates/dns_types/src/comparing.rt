@@ -1,7 +1,6 @@
 //! Octets compared by blocks of one size.
 
-ghost use Rattle.std.specs.Prelude.{◌≡◌, ◌<◌, ◌≤◌, ◌↔◌, IsTrue, length};
-ghost use Rattle.std.specs.Int.{from_le_bytes, w32, w64};
+ghost use Rattle.std.specs.{Prelude.◌≡◌, Prelude.◌<◌, Prelude.◌≤◌, Prelude.◌↔◌, Prelude.IsTrue, Prelude.length, Int.from_le_bytes, Int.w32, Int.w64};
 
 /// Whether the octets are the same. It returns what `==` of slices returns, and is quicker for few octets.
 #[inline]

@@ -1,6 +1,5 @@
 //! Values from outside, before they are looked at.
-ghost use Rattle.std.specs.Prelude.{◌≡◌, true, false, IfOk, IfErr};
-ghost use Rattle.std.specs.Fn.{FnOnceTakesAt, FnOnceReturnsAt};
+ghost use Rattle.std.specs.{Prelude.◌≡◌, Prelude.true, Prelude.false, Prelude.IfOk, Prelude.IfErr, Fn.FnOnceTakesAt, Fn.FnOnceReturnsAt};
 
 use std::marker::Model;
 

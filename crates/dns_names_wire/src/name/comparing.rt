@@ -1,11 +1,10 @@
 //! Names compared without ASCII case.
 
-ghost use Rattle.std.specs.Prelude.{◌≡◌, ◌↔◌, IsTrue, map};
-ghost use Rattle.std.specs.{Char.to_ascii_lowercase, Cmp.partial_order_from_own_ties, Ordering.as_partial_cmp};
-ghost use Rattle.std.specs.Cmp.Rules.{comparing, hashing};
+ghost use Rattle.std.specs.{Prelude.◌≡◌, Prelude.◌↔◌, Prelude.IsTrue, Prelude.map, Cmp.Rules.comparing, Cmp.Rules.hashing, Cmp.partial_order_from_own_ties};
+ghost use Rattle.std.specs.{Char.to_ascii_lowercase, Ordering.as_partial_cmp};
 ghost use Rattle.std.proofs.Common.{rules};
 ghost use Rattle.dns_names_wire.specs.NameValues.{IsInZone};
-ghost use Rattle.dns_fields.specs.{Labels.lowname, Comparing.name_cmp, Comparing.name_eq, Comparing.name_fed};
+ghost use Rattle.dns_fields.specs.{Comparing.name_cmp, Comparing.name_eq, Comparing.name_fed, Labels.lowname};
 
 use crate::name::Name;
 use crate::name::building::without_first;

@@ -1,6 +1,6 @@
 //! Whether a name is fully qualified, in a machine token of its own.
 
-ghost use Rattle.std.specs.Prelude.{◌≡◌};
+ghost use Rattle.std.specs.Prelude.{◌≡◌, Bool, ◌==◌};
 
 use std::marker::Model;
 
@@ -14,8 +14,6 @@ pub struct FqdnFlag {
 }
 
 impl Model for FqdnFlag {
-    ghost use Rattle.std.specs.Prelude.{Bool, ◌==◌};
-
     ghost Value = { Bool };
 
     ghost view = { λ m. m.token == 1 };

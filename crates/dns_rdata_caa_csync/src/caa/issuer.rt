@@ -1,7 +1,7 @@
 //! The values of issuer properties (RFC 8659, 4.2).
 
-ghost use Rattle.std.specs.Prelude.{◌≡◌, ◌↔◌, ◌++◌, ◌∷◌, ◌==◌, ◌⊎◌, ℕ, List, not, IsTrue, IfOk, IfErr, OnOk, MatchResult, Option};
-ghost use Rattle.std.specs.{List.list_all, List.AllByRecursion, Option.option_copied, Str.IsUtf8, Char.is_ascii_alphanumeric};
+ghost use Rattle.std.specs.Prelude.{◌≡◌, ◌↔◌, ◌++◌, ◌∷◌, ◌==◌, ◌⊎◌, ℕ, List, not, IsTrue, IfOk, IfErr, OnOk, MatchResult, Option, ◌&&◌};
+ghost use Rattle.std.specs.{List.list_all, List.AllByRecursion, Option.option_copied, Str.IsUtf8, Char.is_ascii_alphanumeric, String.string_bytes};
 ghost use Rattle.std.specs.{Cmp.Lexicographic.pointwise, Cmp.Rules.comparing, Cmp.Rules.hashing};
 ghost use Rattle.std.specs.Hash as fed;
 ghost use Rattle.std.proofs.Common.{rules};
@@ -28,17 +28,12 @@ pub struct KeyValue {
 }
 
 impl Model for KeyValue {
-    ghost use Rattle.std.specs.String.{string_bytes};
-    ghost use Rattle.dns_rdata_caa_csync.specs.Issuer.{Parameter};
-
     ghost Value = { Parameter };
 
     ghost view = { λ x. record { key = string_bytes x.key; value = string_bytes x.value } };
 }
 
 impl KeyValue {
-    ghost use Rattle.std.specs.String.{string_bytes};
-
     /// Makes a parameter of these texts, which are moved.
     #[inline]
     pub fn new(key: String, value: String) -> KeyValue
@@ -65,8 +60,6 @@ impl KeyValue {
 }
 
 impl PartialEq for KeyValue {
-    ghost use Rattle.std.specs.Prelude.{◌&&◌};
-
     ghost eq = { λ a b. pointwise ◌==◌ a.key b.key && pointwise ◌==◌ a.value b.value };
 
     ghost laws = { Prim.search (comparing, rules) };

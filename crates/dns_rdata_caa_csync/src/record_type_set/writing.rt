@@ -99,9 +99,8 @@ fn put_token(octets: &mut [u8], at: usize, token: u64)
 // Sets bit b of a window, the highest of its octet first.
 #[inline]
 #[tactic(auto, using(crate::proofs::Windows::marked))]
-fn mark_bit(octets: &mut [u8], b: usize)
+fn mark_bit(octets: &mut [u8; 32], b: usize)
     requires bit { b < 256 }
-    requires window { length octets.old ≡ 32 }
     ensures { (n : ℕ) → n < 256 → bit_at (slice_index octets.new (n / 8)) (7 - n % 8)
         ≡ (if b == n then 1 else bit_at (slice_index octets.old (n / 8)) (7 - n % 8)) }
 {

@@ -1,7 +1,8 @@
 //! An address with the length of a prefix.
 
-ghost use Rattle.std.specs.Prelude.{◌≡◌, ◌<◌, ◌≤◌, IfSome, IfNone};
+ghost use Rattle.std.specs.Prelude.{◌≡◌, ◌<◌, ◌≤◌, IfSome, IfNone, ℕ};
 ghost use Rattle.dns_rdata_options.specs.IpNet.{address_bits, masked_octet, masked_octets, masked_address};
+ghost use Rattle.std.specs.declared.net.ip_addr.IpAddr.{IpAddr as IpAddrValue};
 
 use std::marker::Model;
 use std::net::{IpAddr, Ipv4Addr, Ipv6Addr};
@@ -14,10 +15,6 @@ pub struct IpNet {
 }
 
 impl Model for IpNet {
-    ghost use Rattle.std.specs.Prelude.{ℕ, ◌≤◌};
-    ghost use Rattle.std.specs.declared.net.ip_addr.IpAddr.{IpAddr as IpAddrValue};
-    ghost use Rattle.dns_rdata_options.specs.IpNet.{address_bits};
-
     ghost Value = { IpAddrValue × ℕ };
 
     ghost view = { λ n. (n.addr, n.prefix_len) };

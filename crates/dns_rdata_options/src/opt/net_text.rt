@@ -1,7 +1,7 @@
 //! Texts of nets: an address, `/`, and how many of its bits are a prefix.
 
-ghost use Rattle.std.specs.Prelude.{ℕ, ◌^◌, ◌<◌, IfNone, IfSome};
-ghost use Rattle.dns_rdata_options.specs.NetText.{IsPrefixText};
+ghost use Rattle.std.specs.{Prelude.ℕ, Prelude.◌^◌, Prelude.◌<◌, Prelude.IfNone, Prelude.IfSome, Net.Grammar.Parses};
+ghost use Rattle.dns_rdata_options.specs.NetText.{IsPrefixText, IsNetText, IsSubnetText};
 
 use crate::opt::net::IpNet;
 use crate::opt::subnet::ClientSubnet;
@@ -25,9 +25,6 @@ fn prefix_of(digits: &str) -> Option<u8>
 impl FromStr for IpNet {
     type Err = AddrParseError;
 
-    ghost use Rattle.std.specs.Net.Grammar.{Parses};
-    ghost use Rattle.dns_rdata_options.specs.NetText.{IsNetText};
-
     ghost from_str_gives = { Parses IsNetText };
 
     fn from_str(text: &str) -> Result<IpNet, AddrParseError> {
@@ -48,9 +45,6 @@ impl FromStr for IpNet {
 /// [`AddrParseError`]. Allocates nothing.
 impl FromStr for ClientSubnet {
     type Err = AddrParseError;
-
-    ghost use Rattle.std.specs.Net.Grammar.{Parses};
-    ghost use Rattle.dns_rdata_options.specs.NetText.{IsSubnetText};
 
     ghost from_str_gives = { Parses IsSubnetText };
 

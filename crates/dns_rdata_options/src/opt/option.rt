@@ -1,6 +1,6 @@
 //! The options of EDNS (RFC 6891, 6.1.2).
 
-ghost use Rattle.std.specs.Prelude.{◌≡◌, ◌⊎◌, ◌≤◌, ◌<◌, ◌↔◌, ℕ, [], length, IsTrue, IfOk, IfErr};
+ghost use Rattle.std.specs.Prelude.{◌≡◌, ◌⊎◌, ◌≤◌, ◌<◌, ◌↔◌, length, IsTrue, IfOk, IfErr, ℕ, []};
 ghost use Rattle.dns_fields.specs.Tlvs.{option_octets, IsEmittableOption};
 ghost use Rattle.dns_names_wire.specs.Terms.{EmitsFitting, IsMessage};
 ghost use Rattle.dns_rdata_options.specs.EdnsOption.{option_value, option_len, code_of, ReadsOption};

@@ -1,6 +1,6 @@
 //! The payload of an NSID option (RFC 5001, 2.3).
 
-ghost use Rattle.std.specs.Prelude.{◌≡◌, ◌⊎◌, ◌<◌, ◌≤◌, All, length, IfOk, IfErr};
+ghost use Rattle.std.specs.Prelude.{◌≡◌, ◌⊎◌, ◌<◌, ◌≤◌, All, length, IfOk, IfErr, ℕ, List};
 ghost use Rattle.dns_names_wire.specs.Terms.{IsMessage};
 
 use dns_names_wire::{DecodeError, Octets, ProtoError};
@@ -19,8 +19,6 @@ pub struct NSIDPayload {
 }
 
 impl Model for NSIDPayload {
-    ghost use Rattle.std.specs.Prelude.{ℕ, List, ◌≤◌, length};
-
     ghost Value = { List ℕ };
 
     ghost view = { λ p. p.octets };

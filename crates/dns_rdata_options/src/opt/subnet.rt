@@ -1,11 +1,11 @@
 //! The subnet of a client (RFC 7871, 6).
 
-ghost use Rattle.std.specs.Prelude.{◌≡◌, ◌+◌, ◌<◌, ◌≤◌, ◌/◌, ◌⊎◌, IfSome, IfNone, Bool, false, length, drop, take, Result, IfOk, IfErr, OnErr};
+ghost use Rattle.std.specs.Prelude.{◌≡◌, ◌+◌, ◌<◌, ◌≤◌, ◌/◌, ◌⊎◌, IfSome, IfNone, false, length, drop, take, Result, IfOk, IfErr, OnErr, Bool};
 ghost use Rattle.dns_fields.specs.Tlvs.{option_octets, IsEmittableOption, IsAddress, Subnet as SubnetValue};
 ghost use Rattle.dns_names_wire.specs.Terms.{ReadsBy, EmitsFitting, IsMessage};
 ghost use Rattle.dns_rdata_options.specs.{IpNet.masked_address};
-ghost use Rattle.dns_rdata_options.specs.ClientSubnet.{subnet_value, SubnetAt, NoSubnet, IsSubnetError, ReadsSubnet, prefix_octets, family_octets};
-ghost use Rattle.dns_rdata_options.specs.ClientSubnet.{address_of, address_octets, family_of, padded, IsFamily};
+ghost use Rattle.dns_rdata_options.specs.ClientSubnet.{subnet_value, SubnetAt, IsSubnetError, ReadsSubnet, prefix_octets, family_octets};
+ghost use Rattle.dns_rdata_options.specs.ClientSubnet.{address_of, IsFamily};
 
 use crate::opt::net::{IpNet, masked_address};
 use dns_names_wire::{BinDecodable, BinDecoder, BinEncodable, BinEncoder, DecodeError, ProtoError};
@@ -142,8 +142,6 @@ impl ClientSubnet {
 }
 
 impl From<IpNet> for ClientSubnet {
-    ghost use Rattle.std.specs.Prelude.{◌≡◌};
-
     ghost from_gives = { λ net x. x ≡ record { address = net.0; source_prefix = net.1; scope_prefix = 0 } };
 
     /// Makes a subnet of the net's address, with its prefix as the source prefix and 0 as the scope prefix.

@@ -1,6 +1,5 @@
 use Rattle.dns_labels.proofs.WritingSteps.{next_matched, is_matched}
-use Rattle.std.proofs.Common.{arith}
-use Rattle.std.proofs.lemmas.List.{take_rest}
+use Rattle.std.proofs.{lemmas.List.take_rest, Common.arith}
 use Rattle.dns_labels.proofs.matching.stands_at.Goals as goal
 
 pub returns-in_default-stop : goal.returns-in_default-stop

@@ -1,5 +1,4 @@
-use Rattle.std.proofs.Common.{ap, ℕ, take, drop, arith}
-use Rattle.std.proofs.{lemmas.Bool.OnTrue_at, lemmas.Bool.OnTrue_from, lemmas.List.take_rest}
+use Rattle.std.proofs.{Common.ap, Common.ℕ, Common.take, Common.drop, Common.arith, lemmas.Bool.OnTrue_at, lemmas.Bool.OnTrue_from, lemmas.List.take_rest}
 use Rattle.dns_labels.specs.Emission.{StandsFor}
 use Rattle.dns_labels.proofs.Tails.{stands_two}
 use Rattle.dns_labels.proofs.matching.stands_in_two.Goals as goal

@@ -1,7 +1,6 @@
-use Rattle.std.proofs.Common.{arith, length, length-drop, ◌+◌, ◌<◌}
-use Rattle.std.proofs.lemmas.List.{take_rest}
-use Rattle.dns_labels.proofs.NameSteps.{name_ends, name_dotted, name_more, name_refused, said_of_err}
+use Rattle.std.proofs.{Common.arith, Common.length, Common.length-drop, Common.◌+◌, Common.◌<◌, lemmas.List.take_rest}
 use Rattle.dns_labels.proofs.text.read_name.Goals.{else-text-eq1-via-then-text-eq1+else-text-eq46, else-text-eq1-via-else-text-eq1}
+use Rattle.dns_labels.proofs.NameSteps.{name_ends, name_dotted, name_more, name_refused, said_of_err}
 use Rattle.dns_labels.proofs.text.read_name.Goals as goal
 
 pub returns-in_err-taken-clause-none : goal.returns-in_err-taken-clause-none

@@ -1,5 +1,4 @@
-use Rattle.std.proofs.Common.{arith, length-append}
-use Rattle.std.proofs.lemmas.List.{take_rest, drop_all}
+use Rattle.std.proofs.{lemmas.List.take_rest, lemmas.List.drop_all, Common.arith, Common.length-append}
 use Rattle.dns_labels.proofs.LabelSteps.{label_done, label_refused, label_more, label_full, at_dot}
 use Rattle.dns_labels.proofs.text.read_octets.Goals.{then-octets-test+else-text-at-ne46, else-octets-test}
 use Rattle.dns_labels.proofs.text.read_octets.Goals as goal

@@ -1,5 +1,4 @@
-use Rattle.dns_rdata_caa_csync.proofs.Rising.{set_drop}
-use Rattle.dns_rdata_caa_csync.proofs.WindowSteps.{WindowMade, window_given, window_passed, window_none}
+use Rattle.dns_rdata_caa_csync.proofs.{WindowSteps.WindowMade, WindowSteps.window_given, WindowSteps.window_passed, WindowSteps.window_none, Rising.set_drop}
 use Rattle.dns_rdata_caa_csync.proofs.csync.window_step.Goals as goal
 
 pub next_window-window-requires-clause-set : goal.next_window-window-requires-clause-set

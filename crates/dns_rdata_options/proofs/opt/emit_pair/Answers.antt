@@ -1,5 +1,4 @@
-use Rattle.std.proofs.Common.{arith}
-use Rattle.std.proofs.lemmas.Result.{err_from_is_err_and}
+use Rattle.std.proofs.{lemmas.Result.err_from_is_err_and, Common.arith}
 use Rattle.dns_rdata_options.proofs.Pairs.{stopped_front}
 use Rattle.dns_rdata_options.proofs.opt.emit_pair.Goals as goal
 

@@ -1,10 +1,9 @@
 use Rattle.std.proofs.Common.{◌∙◌, sym, ap}
 use Rattle.std.specs.Ordering.{is_ne}
 use Rattle.dns_canonical.specs.Fronts.{canonical_cmp}
-use Rattle.dns_rdata_options.specs.{OPT.opt_shape, OPT.opt_fields, Order.opt_eq, Steps.pairs_emittable}
-use Rattle.dns_rdata_options.proofs.{TlvOrder.some_same, TlvOrder.by_tlvs, TlvOrder.same_equal}
-use Rattle.dns_rdata_options.proofs.order.opt_order.Goals.{then-is_ne-via-then-is_ne, then-is_ne-via-else-is_ne+then-same}
-use Rattle.dns_rdata_options.proofs.order.opt_order.Goals.{then-is_ne-via-else-is_ne+else-same+then-eq}
+use Rattle.dns_rdata_options.specs.{OPT.opt_shape, OPT.opt_fields, Steps.pairs_emittable, Order.opt_eq}
+use Rattle.dns_rdata_options.proofs.order.opt_order.Goals.{then-is_ne-via-else-is_ne+else-same+then-eq, then-is_ne-via-then-is_ne}
+use Rattle.dns_rdata_options.proofs.{TlvOrder.some_same, TlvOrder.by_tlvs, TlvOrder.same_equal, order.opt_order.Goals.then-is_ne-via-else-is_ne+then-same}
 use Rattle.dns_rdata_options.proofs.order.opt_order.Goals as goal
 
 pub returns-then-is_ne : goal.returns-then-is_ne

@@ -1,5 +1,4 @@
-use Rattle.std.proofs.Common.{arith, ◌≡◌, [], ◌∙◌}
-use Rattle.std.proofs.lemmas.List.{nil_from_length}
+use Rattle.std.proofs.{Common.arith, Common.◌≡◌, Common.[], Common.◌∙◌, lemmas.List.nil_from_length}
 use Rattle.dns_text.proofs.ListSteps.{run_step, comma_step, last_some}
 use Rattle.dns_text.proofs.segments.next_segment.Goals as goal
 

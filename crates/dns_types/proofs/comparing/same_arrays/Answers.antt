@@ -1,5 +1,4 @@
-use Rattle.std.proofs.Common.{arith, sym}
-use Rattle.std.proofs.lemmas.List.{length-take-le}
+use Rattle.std.proofs.{lemmas.List.length-take-le, Common.arith, Common.sym}
 use Rattle.dns_types.proofs.Overlaps.{by_ends}
 use Rattle.dns_types.proofs.comparing.same_arrays.Goals as goal
 

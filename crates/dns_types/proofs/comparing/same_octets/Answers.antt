@@ -1,5 +1,4 @@
-use Rattle.std.proofs.Common.{◌-◌, length, arith, sym}
-use Rattle.std.proofs.lemmas.List.{length-take-le}
+use Rattle.std.proofs.{Common.◌-◌, Common.length, Common.arith, Common.sym, lemmas.List.length-take-le}
 use Rattle.dns_types.proofs.Overlaps.{by_ends}
 use Rattle.dns_types.proofs.comparing.same_octets.Goals as goal
 

@@ -1,5 +1,4 @@
-use Rattle.std.proofs.Common.{◌<◌, slice_index_or, arith}
-use Rattle.std.proofs.lemmas.Grind.{get_or_default_zero}
+use Rattle.std.proofs.{Common.◌<◌, Common.slice_index_or, Common.arith, lemmas.Grind.get_or_default_zero}
 use Rattle.dns_types.proofs.octets.bounded.Goals as goal
 
 pub returns-clause-octets : goal.returns-clause-octets

@@ -1,6 +1,5 @@
 -- An empty body. The borrow is opened and closed at another ghost value.
-use Rattle.std.proofs.Common.{◌+◌, List, [], ◌∷◌, refl}
-use Rattle.std.proofs.raw_atomic.Walks.{proved}
+use Rattle.std.proofs.{Common.◌+◌, Common.List, Common.[], Common.◌∷◌, Common.refl, raw_atomic.Walks.proved}
 use mir.Syntax.{named}
 use mir.Val.{Val, vunit, vptr}
 use base.Logic.{id⊢}
@@ -13,9 +12,9 @@ use denote.Signature.{plain}
 use denote.Steps.{opens, closes, nothing}
 use denote.Triple.Walked.{says, Stays, stay_ref, Goes-ref, ends_at}
 use Rattle.dns_canonical.specs.declared.count.Count.{Count}
+use Rattle.dns_canonical.proofs.count.Count.tick.Statement.{statement}
 use Rattle.dns_canonical.specs.contracts.count.Count as T
 use Rattle.dns_canonical.specs.contracts.count.Count.tick as f
-use Rattle.dns_canonical.proofs.count.Count.tick.Statement.{statement}
 use Rattle.dns_canonical.proofs.count.Count.tick.Code as code
 
 abbrev stayed : Stays f.ended.signature.params f.ended.kept

@@ -1,7 +1,6 @@
 use Rattle.std.proofs.Common.{◌≡◌, ◌+◌, length}
-use Rattle.std.specs.{Ordering.nat_cmp, Cmp.Lexicographic.slice_cmp}
-use Rattle.dns_canonical.specs.Runs.{common}
-use Rattle.dns_canonical.specs.Cursor.{Chooses, Advances}
+use Rattle.std.specs.{Cmp.Lexicographic.slice_cmp, Ordering.nat_cmp}
+use Rattle.dns_canonical.specs.{Cursor.Chooses, Cursor.Advances, Runs.common}
 use Rattle.dns_canonical.proofs.cursor.Cursor.compare.Given as goal
 
 abbrev pub decreases-octets : goal.decreases-octets

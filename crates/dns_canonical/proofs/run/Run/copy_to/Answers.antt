@@ -1,5 +1,4 @@
-use Rattle.std.proofs.Common.{drop}
-use Rattle.std.proofs.lemmas.List.{drop-drop, take_rest}
+use Rattle.std.proofs.{lemmas.List.drop-drop, lemmas.List.take_rest, Common.drop}
 use Rattle.dns_canonical.proofs.Copying.{copies_both}
 use Rattle.dns_canonical.proofs.run.Run.copy_to.Goals as goal
 

@@ -1,5 +1,4 @@
-use Rattle.std.proofs.Common.{arith}
-use Rattle.std.proofs.lemmas.List.{take_rest}
+use Rattle.std.proofs.{lemmas.List.take_rest, Common.arith}
 use Rattle.dns_labels.proofs.CutSteps.{cut_found, cut_more, cut_all}
 use Rattle.dns_labels.proofs.name_offsets.NameOffsets.shorter_tail.Goals as goal
 

@@ -1,6 +1,5 @@
 use Rattle.std.proofs.Common.{◌≡◌, ℕ, List, ◌∷◌, ◌++◌}
-use Rattle.std.specs.Prelude.{flat_map}
-use Rattle.std.specs.Fmt.{HasWritten, IsPlainFormatter}
+use Rattle.std.specs.{Fmt.HasWritten, Fmt.IsPlainFormatter, Prelude.flat_map}
 use Rattle.dns_labels.specs.Text.{label_text, joined_text}
 use Rattle.dns_labels.proofs.text.NameText.write_labels.Given as goal
 

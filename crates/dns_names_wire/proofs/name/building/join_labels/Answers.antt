@@ -1,6 +1,5 @@
-use Rattle.std.proofs.Common.{◌≡◌, ◌∙◌, ap, sym, Err}
-use Rattle.std.proofs.lemmas.Result.{err_from_is_err_and}
-use Rattle.dns_labels.specs.{declared.error.NameError.NameError, declared.error.NameError.TheVariants.Invalid}
+use Rattle.std.proofs.{Common.◌≡◌, Common.◌∙◌, Common.ap, Common.sym, Common.Err, lemmas.Result.err_from_is_err_and}
+use Rattle.dns_labels.specs.declared.error.NameError.{TheVariants.Invalid, NameError}
 use Rattle.dns_names_wire.proofs.Building.{no_more}
 use Rattle.dns_names_wire.proofs.name.building.join_labels.Goals as goal
 

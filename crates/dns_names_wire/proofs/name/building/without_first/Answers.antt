@@ -1,5 +1,4 @@
-use Rattle.std.proofs.Common.{arith}
-use Rattle.std.proofs.lemmas.List.{take_rest}
+use Rattle.std.proofs.{lemmas.List.take_rest, Common.arith}
 use Rattle.dns_labels.proofs.Octets.{first_label}
 use Rattle.dns_names_wire.proofs.Building.{rest_labels}
 use Rattle.dns_names_wire.proofs.name.building.without_first.Goals as goal

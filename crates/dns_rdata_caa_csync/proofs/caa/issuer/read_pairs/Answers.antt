@@ -1,5 +1,6 @@
 use Rattle.std.proofs.{Common.arith, lemmas.Result.err_from_is_err_and}
-use Rattle.dns_rdata_caa_csync.proofs.IssuerSteps.{pending_first, pending_step, pending_stop, pending_last, error_map}
+use Rattle.dns_names_wire.proofs.Building.{error_map}
+use Rattle.dns_rdata_caa_csync.proofs.IssuerSteps.{pending_first, pending_step, pending_stop, pending_last}
 use Rattle.dns_rdata_caa_csync.proofs.caa.issuer.read_pairs.Goals as goal
 
 pub pairs-init : goal.pairs-init

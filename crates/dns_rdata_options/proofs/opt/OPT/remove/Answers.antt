@@ -1,6 +1,5 @@
-use Rattle.std.proofs.Common.{rules, ap, ◌∙◌}
+use Rattle.std.proofs.{Common.rules, Common.ap, Common.◌∙◌, lemmas.Fn.filter_same}
 use Rattle.dns_rdata_options.specs.OPT.{without}
-use Rattle.std.proofs.lemmas.Fn.{filter_same}
 use Rattle.dns_rdata_options.proofs.opt.OPT.remove.Goals as goal
 
 pub returns : goal.returns

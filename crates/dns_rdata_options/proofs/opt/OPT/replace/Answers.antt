@@ -1,5 +1,4 @@
-use Rattle.std.proofs.Common.{rules, List, [], ◌∷◌, ◌++◌, ap, ◌∙◌}
-use Rattle.std.proofs.lemmas.Fn.{filter_same}
+use Rattle.std.proofs.{Common.rules, Common.List, Common.[], Common.◌∷◌, Common.◌++◌, Common.ap, Common.◌∙◌, lemmas.Fn.filter_same}
 use Rattle.dns_rdata_options.specs.OPT.{Pair, without}
 use Rattle.dns_rdata_options.proofs.opt.OPT.replace.Goals as goal
 

@@ -1,7 +1,6 @@
-use Rattle.std.proofs.Common.{◌++◌, ◌∷◌, [], arith}
-use Rattle.std.proofs.lemmas.Result.{err_from_is_err_and}
-use Rattle.dns_rdata_options.proofs.{OptionLists.tlv_refused, OptionValues.refused_option}
-use Rattle.dns_rdata_options.proofs.OptionLists.{options_more, options_refused, options_cut, read_more}
+use Rattle.std.proofs.{Common.◌++◌, Common.◌∷◌, Common.[], Common.arith, lemmas.Result.err_from_is_err_and}
+use Rattle.dns_rdata_options.proofs.OptionLists.{tlv_refused, options_more, options_refused, options_cut, read_more}
+use Rattle.dns_rdata_options.proofs.OptionValues.{refused_option}
 use Rattle.dns_rdata_options.proofs.opt.reading.read_options.Goals as goal
 
 pub returns-in_err-number : goal.returns-in_err-number

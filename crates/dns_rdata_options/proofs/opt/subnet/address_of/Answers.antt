@@ -1,5 +1,4 @@
-use Rattle.std.proofs.Common.{ℕ, List, ◌++◌, ap, ◌∙◌, length, drop, replicate}
-use Rattle.std.proofs.lemmas.List.{drop-replicate}
+use Rattle.std.proofs.{Common.ℕ, Common.List, Common.◌++◌, Common.ap, Common.◌∙◌, Common.length, Common.drop, Common.replicate, lemmas.List.drop-replicate}
 use Rattle.std.specs.Net.Addr.{segments_of}
 use Rattle.dns_rdata_options.proofs.Subnets.{six}
 use Rattle.dns_rdata_options.proofs.opt.subnet.address_of.Goals as goal

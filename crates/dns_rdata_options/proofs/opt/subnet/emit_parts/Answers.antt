@@ -1,5 +1,4 @@
-use Rattle.std.proofs.Common.{arith, refl}
-use Rattle.std.proofs.lemmas.Result.{err_from_is_err_and}
+use Rattle.std.proofs.{lemmas.Result.err_from_is_err_and, Common.arith, Common.refl}
 use Rattle.dns_rdata_options.proofs.Pairs.{stopped_front, stopped_two}
 use Rattle.dns_rdata_options.proofs.opt.subnet.emit_parts.Goals as goal
 
