@@ -22,21 +22,21 @@ use std::fmt;
 /// key; a caller may put any variant under any key.
 #[derive(Debug, Drop, PartialEq, Eq, Hash)]
 pub enum SvcParamValue {
-    /// Keys that a client must know.
+    /// Keys that a client must know. In a token: a list of keys.
     Mandatory(Mandatory),
-    /// Protocols.
+    /// Protocols. In a token: a list of names.
     Alpn(Alpn),
-    /// The scheme's default protocol is not supported.
+    /// The scheme's default protocol is not supported. A token has no value and no `=`.
     NoDefaultAlpn,
-    /// A port.
+    /// A port. In a token: a decimal number of 16 bits.
     Port(u16),
-    /// IPv4 addresses.
+    /// IPv4 addresses. In a token: a list of addresses.
     Ipv4Hint(IpHint<A>),
-    /// An ECHConfigList for Encrypted ClientHello.
+    /// An ECHConfigList for Encrypted ClientHello. In a token: base64 (RFC 4648, section 4).
     EchConfigList(EchConfigList),
-    /// IPv6 addresses.
+    /// IPv6 addresses. In a token: a list of addresses.
     Ipv6Hint(IpHint<AAAA>),
-    /// The template of the path of DNS queries over HTTPS.
+    /// The template of the path of DNS queries over HTTPS (RFC 9461, section 5). In a token: the path.
     DohPath(DohPath),
     /// The octets of any other key.
     Unknown(Unknown),
