@@ -1,5 +1,6 @@
 -- Items of a list, read one by one.
 use Rattle.std.proofs.Common.{◌≡◌, ℕ, List, [], ◌∷◌, ◌++◌, sym, ◌∙◌, ap, subst, append_assoc, ◌≢◌, Result, Ok, Err, Option, Some, None, refl, map}
+use Rattle.std.proofs.lemmas.Slice.Zip.{all_zipped_more}
 use Rattle.std.specs.{Iterator.Yields, Prelude.IfErr, List.AllZip}
 use Rattle.dns_text.specs.Lists.{segments_of, IsItem}
 use Rattle.dns_rdata_service.specs.ParameterTokens.{ItemOf, ListOf, IsParameterToken}
@@ -11,18 +12,11 @@ use Rattle.dns_tokens.specs.Reads.{UnlessParseMemory, TookTokens, RefusedTokens}
 use Rattle.dns_tokens.proofs.{Steps.holds_token, Steps.holds_all, Steps.holds_drained, Yielded.holds_yielded}
 use Rattle.dns_types.specs.declared.error.ParseError.TheVariants as parse
 
-module _ {A B : Type 0} (R : A → B → Type 0) where
-  pub zip_more : (us : List A) (bs : List B) (a : A) (b : B) → AllZip R us bs → R a b → AllZip R (us ++ a ∷ []) (bs ++ b ∷ [])
-  zip_more [] [] a b h r = (r, tt)
-  zip_more [] (y ∷ bs) a b h r = absurd h
-  zip_more (x ∷ us) [] a b h r = absurd h
-  zip_more (x ∷ us) (y ∷ bs) a b h r = (h.0, zip_more us bs a b h.1 r)
-
-  pub zip_at : (front : List A) (a : A) (us : List A) (bs : List B) → AllZip R (front ++ a ∷ us) bs → (b : B) × R a b
-  zip_at [] a us [] h = absurd h
-  zip_at [] a us (b ∷ bs) h = (b, h.0)
-  zip_at (x ∷ front) a us [] h = absurd h
-  zip_at (x ∷ front) a us (b ∷ bs) h = zip_at front a us bs h.1
+zip_at : {A B : Type 0} (R : A → B → Type 0) (front : List A) (a : A) (us : List A) (bs : List B) → AllZip R (front ++ a ∷ us) bs → (b : B) × R a b
+zip_at R [] a us [] h = absurd h
+zip_at R [] a us (b ∷ bs) h = (b, h.0)
+zip_at R (x ∷ front) a us [] h = absurd h
+zip_at R (x ∷ front) a us (b ∷ bs) h = zip_at R front a us bs h.1
 
 -- the values are of the segments before the rest
 pub record SoFar {T : Type 0} (Is : List ℕ → T → Type 0) (text rest : List ℕ) (xs : List T) : Type 0 where
@@ -35,7 +29,7 @@ pub so_far_more : {T : Type 0} (Is : List ℕ → T → Type 0) (text rest segme
 so_far_more Is text rest segment more xs all x s e i a = rw a (record {
   front = s.front ++ segment ∷ [];
   divided = s.divided ∙ (ap (λ (p : List (List ℕ)). s.front ++ p) e ∙ sym (append_assoc s.front (segment ∷ []) (segments_of more)));
-  each = zip_more (ItemOf Is) s.front xs segment x s.each i;
+  each = all_zipped_more (ItemOf Is) s.front xs segment x s.each i;
 })
 
 pub so_far_refused : {T : Type 0} (Is : List ℕ → T → Type 0) (text rest segment more : List ℕ) (xs : List T) → SoFar Is text rest xs

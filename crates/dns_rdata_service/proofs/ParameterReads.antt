@@ -1,19 +1,19 @@
 -- Reading parameters one after the other.
 use Rattle.std.proofs.Common.{◌≡◌, inl, inr, ℕ, ◌+◌, ◌<◌, ◌≤◌, List, [], ◌∷◌, ◌++◌, length, drop, map, Option, Some, refl, sym, ap, ◌∙◌, arith, subst}
-use Rattle.std.proofs.{lemmas.List.length-append, lemmas.List.length-drop, lemmas.List.map_push, Common.◌-◌, Common.Err}
+use Rattle.std.proofs.{lemmas.List.length-append, lemmas.List.length-drop, lemmas.List.map_push, Common.◌≢◌, Common.Ok, Common.Err}
 use Rattle.std.specs.Int.{bytes_high_first}
 use Rattle.dns_types.specs.declared.error.DecodeError.{DecodeError}
-use Rattle.dns_fields.specs.Fields.{Number, Octets, Rest, Parameters, Field, Values, Kind, Name, Value, Stands, EndsItself}
-use Rattle.dns_fields.specs.{Tlvs.Numbered, Tlvs.ParameterValue, Tlvs.ParameterHeld, Tlvs.tlv, Tlvs.rising, Octets.At, Octets.AreOctets}
+use Rattle.dns_fields.specs.Fields.{Number, Octets, Rest, Parameters, Field, Values, Name}
+use Rattle.dns_fields.specs.{Tlvs.Numbered, Tlvs.ParameterValue, Tlvs.ParameterHeld, Tlvs.tlv, Tlvs.rising, Octets.At}
 use Rattle.dns_fields.specs.Labels.{DomainName}
-use Rattle.dns_fields.proofs.{Tlvs.tlv_before, Tlvs.heads_same, Tlvs.first_tlv, FieldLaws.field_inside, FieldLaws.field_end}
+use Rattle.dns_fields.proofs.{Tlvs.tlv_before, Tlvs.heads_same, Tlvs.first_tlv, FieldLaws.field_inside}
 use Rattle.dns_fields.proofs.Numbers.{length-bytes}
-use Rattle.dns_names_wire.specs.Terms.{TookField, StaysBehind, UnlessMemory, TookRegion, RefusedRegion, NoRegion, Region}
+use Rattle.dns_names_wire.specs.Terms.{TookField, StaysBehind, UnlessMemory, Refused, Lacks, TookRegion, RefusedRegion}
 use Rattle.dns_names_wire.specs.State.{Reading}
-use Rattle.dns_names_wire.proofs.FieldReads.{unless_map, unless_all, stays, took_stays, stands_inside, refused_then, refused_past}
+use Rattle.dns_names_wire.proofs.FieldReads.{unless_map, unless_all, stays, took_stays, stands_inside, took_last, took_then, lacks_then, refused_then, refused_past}
 use Rattle.dns_names_wire.proofs.{RegionReads.Given, RegionReads.filled_region, Strings.at_then}
 use Rattle.dns_rdata_base.specs.FieldErrors.{FirstLack}
-use Rattle.dns_rdata_service.specs.Parameters.{Parameter, parameter_of, parameter_from, AreRead, HaveTexts, IsAbove, TruncatedValue, RefusedValue}
+use Rattle.dns_rdata_service.specs.Parameters.{Parameter, parameter_of, parameter_from, AreRead, HaveTexts, FillTo, IsAbove, TruncatedValue, RefusedValue}
 use Rattle.dns_rdata_service.specs.{Parameters.IsParameterError, Parameters.IsParametersError, SvcParamValue.value_of, SvcParamValue.HasText}
 use Rattle.dns_rdata_service.specs.{SVCB.svcb_shape, SVCB.svcb_fields, SVCB.MeetsSvcbCondition, declared.svcb.SVCB.SVCB, SvcParamKey.key_number}
 use Rattle.dns_rdata_service.specs.Hints.{StandEach}
@@ -140,9 +140,6 @@ on_taken {ps = ps} {last = last} on =
 
 -- ---- how the loop ends, where n octets are left of the record
 
-abbrev pub HaveParameterTexts : Values (Parameters ∷ []) → Type 0
-HaveParameterTexts vs = HaveTexts vs.0
-
 -- all that are encoded there have one more, if octets are left
 pub record NextOf (m : List ℕ) (p end : ℕ) (xs v : List (Numbered ParameterValue)) : Type 0 where
   pub next : Numbered ParameterValue
@@ -162,30 +159,30 @@ next_of {old} {d} {ps} {last} {end} {v} on lt f =
     some [] same s = absurd (omega (arith, lt, s))
     some (x ∷ rest) same s = record { next = x; rest = rest; same = same; offset = s.0; one = s.1; before = each_inside old.message s.0 rest end s.2 }
 
--- no region, if no parameters are encoded to its end
-no_region : {old : Reading} {n : ℕ} → ((v : List (Numbered ParameterValue)) → Field old.message old.index Parameters v (old.index + n) → HaveTexts v → ⊥)
-    → NoRegion old.message old.index n (Parameters ∷ []) HaveParameterTexts
-no_region {old} {n} none = record
-    { none = λ vs w. none vs.0 (subst (λ (q : ℕ). Field old.message old.index Parameters vs.0 q) w.stands.2 w.stands.1) w.holds }
+-- parameters end nowhere else, if none are encoded to that end
+no_fill : {old : Reading} {end : ℕ} → ((v : List (Numbered ParameterValue)) → Field old.message old.index Parameters v end → HaveTexts v → ⊥)
+    → Lacks old (Parameters ∷ []) (FillTo end)
+no_fill {old} {end} none = record
+    { none = λ vs q s c. none vs.0 (subst (λ (p : ℕ). Field old.message old.index Parameters vs.0 p) (s.2 ∙ c.0) s.1) c.1 }
 
 -- a parameter is rejected
-pub on_refused : {e : DecodeError} {old d b : Reading} {ps : List Parameter} {last : Option ℕ} (n : ℕ) → d.index + 4 ≤ old.index + n
-    → ParametersOn old ps last d → IsParameterError d e b → RefusedRegion e old n (Parameters ∷ []) HaveParameterTexts b
-on_refused {e} {old} {d} {b} {ps} {last} n room on h = record {
+pub on_refused : {e : DecodeError} {old d b : Reading} {ps : List Parameter} {last : Option ℕ} {end : ℕ} → d.index + 4 ≤ end
+    → ParametersOn old ps last d → IsParameterError d e b → Refused e old (Parameters ∷ []) (FillTo end) b
+on_refused {e} {old} {d} {b} {ps} {last} room on h = record {
   behind = stays_then on.each.behind (parameter_behind e h);
-  none = unless_map e _ _ (λ (l : NoParameter d). no_region (λ v f u.
+  none = unless_map e _ _ (λ (l : NoParameter d). no_fill (λ v f u.
       let x = next_of on (omega (arith, room)) f in
       let text = all_behind (λ y. HasText y.0 y.1) (map parameter_of ps) (x.next ∷ x.rest) (subst HaveTexts x.same u) in
       l.none x.next x.offset (subst (λ (m : List ℕ). OneOf m d.index x.next x.offset) (sym on.each.behind.message) x.one) text.0)) (parameter_none e h);
 }
 
 -- a key is not above the last one
-pub on_order : {old d b : Reading} {ps : List Parameter} {last : Option ℕ} {x : Numbered ParameterValue} (e : DecodeError) (n : ℕ)
-    → d.index + 4 ≤ old.index + n → ParametersOn old ps last d → TookField d Parameters (x ∷ []) b → (IsAbove last x.0 → ⊥)
-    → RefusedRegion e old n (Parameters ∷ []) HaveParameterTexts b
-on_order {old} {d} {b} {ps} {last} {x} e n room on f fails = record {
+pub on_order : {old d b : Reading} {ps : List Parameter} {last : Option ℕ} {x : Numbered ParameterValue} {end : ℕ} (e : DecodeError)
+    → d.index + 4 ≤ end → ParametersOn old ps last d → TookField d Parameters (x ∷ []) b → (IsAbove last x.0 → ⊥)
+    → Refused e old (Parameters ∷ []) (FillTo end) b
+on_order {old} {d} {b} {ps} {last} {x} e room on f fails = record {
   behind = stays_then on.each.behind (took_stays f (stays b));
-  none = unless_all e (no_region (λ v g u.
+  none = unless_all e (no_fill (λ v g u.
       let y = next_of on (omega (arith, room)) g in
       let same : y.next ≡ x = (one_once y.one (one_here on f)).0 in
       let whole : v ≡ map parameter_of ps ++ x ∷ y.rest = y.same ∙ ap (λ (z : Numbered ParameterValue). map parameter_of ps ++ z ∷ y.rest) same in
@@ -193,29 +190,22 @@ on_order {old} {d} {b} {ps} {last} {x} e n room on f fails = record {
 }
 
 -- a parameter ends after the end of RDATA
-pub on_passed : {old d b : Reading} {ps : List Parameter} {last : Option ℕ} {x : Numbered ParameterValue} (e : DecodeError) (n : ℕ)
-    → d.index + 4 ≤ old.index + n → ParametersOn old ps last d → TookField d Parameters (x ∷ []) b → old.index + n < b.index
-    → RefusedRegion e old n (Parameters ∷ []) HaveParameterTexts b
-on_passed {old} {d} {b} {ps} {last} {x} e n room on f past = record {
+pub on_passed : {old d b : Reading} {ps : List Parameter} {last : Option ℕ} {x : Numbered ParameterValue} {end : ℕ} (e : DecodeError)
+    → d.index + 4 ≤ end → ParametersOn old ps last d → TookField d Parameters (x ∷ []) b → end < b.index
+    → Refused e old (Parameters ∷ []) (FillTo end) b
+on_passed {old} {d} {b} {ps} {last} {x} e room on f past = record {
   behind = stays_then on.each.behind (took_stays f (stays b));
-  none = unless_all e (no_region (λ v g u.
+  none = unless_all e (no_fill (λ v g u.
       let y = next_of on (omega (arith, room)) g in
       omega (arith, (one_once y.one (one_here on f)).1, y.before, past)));
 }
 
 -- or fewer than four octets are left
-pub on_done : {old d : Reading} {ps : List Parameter} {last : Option ℕ} (n : ℕ) → Given old n → d.index ≤ old.index + n
-    → old.index + n < d.index + 4 → ParametersOn old ps last d → TookRegion old n (Parameters ∷ []) HaveParameterTexts (map parameter_of ps, tt) d
-on_done {old} {d} {ps} {last} n g le short on = record {
-  behind = on.each.behind;
-  here = λ same.
-      let f : Field old.message old.index Parameters (map parameter_of ps) (old.index + n) =
-      subst (λ (q : ℕ). Field old.message old.index Parameters (map parameter_of ps) q) same (on_taken on).field in
-      record { octets = g.octets; short = g.short; within = (field_inside f).1; stands = (old.index + n, f, refl); holds = on.texts };
-  elsewhere = λ ne. no_region (λ v f u.
-      let x = next_of on (omega (arith, le, ne)) f in
-      omega (arith, one_long x.one, x.before, short));
-}
+pub on_done : {old d : Reading} {ps : List Parameter} {last : Option ℕ} {end : ℕ} → d.index ≤ end → end < d.index + 4 → ParametersOn old ps last d
+    → d.index ≢ end → Lacks old (Parameters ∷ []) (FillTo end)
+on_done le short on ne = no_fill (λ v f u.
+    let x = next_of on (omega (arith, le, ne)) f in
+    omega (arith, one_long x.one, x.before, short))
 
 -- ---- why it is rejected
 
@@ -243,75 +233,31 @@ pub passed_error : {old d : Reading} {ps : List Parameter} {last : Option ℕ} (
 passed_error {ps = ps} p n size on passed index =
     inr (inr (inr (record { taken = map parameter_of ps; size = size; took = on_taken on; error = refl; passed = passed; index = index })))
 
--- the condition on the fields after the first
-abbrev pub BehindOne : (k : Kind) (kinds : List Kind) → (Values kinds → Type 0) → Values (k ∷ kinds) → Type 0
-BehindOne k kinds C vs = C vs.1
-
-none_then : {d b : Reading} {k : Kind} {v : Value k} {kinds : List Kind} {n r : ℕ} (C : Values kinds → Type 0) → EndsItself k → TookField d k v b
-    → b.index + r ≡ d.index + n → NoRegion b.message b.index r kinds C → NoRegion d.message d.index n (k ∷ kinds) (BehindOne k kinds C)
-none_then {d} {b} {k} {v} {kinds} {n} {r} C ends f all h = record {
-  none = λ vs w.
-      let s = w.stands in
-      let there : s.0 ≡ b.index = field_end ends s.1 f.field in
-      let rest : Stands b.message b.index kinds vs.1 (b.index + r) = subst (λ (e : ℕ). Stands b.message b.index kinds vs.1 e) (sym all)
-      (subst (λ (m : List ℕ). Stands m b.index kinds vs.1 (d.index + n)) (sym f.message)
-      (subst (λ (q : ℕ). Stands d.message q kinds vs.1 (d.index + n)) there s.2)) in
-      h.none vs.1 (record {
-        octets = subst AreOctets (sym f.message) w.octets;
-        short = omega (arith, w.short, all, (field_inside f.field).0);
-        within =
-            omega (arith, w.within, all, ap length f.message);
-        stands = rest;
-        holds = w.holds;
-      });
-}
-
-took_then : {d b e : Reading} {k : Kind} {v : Value k} {kinds : List Kind} {vs : Values kinds} {n r : ℕ} (C : Values kinds → Type 0) → EndsItself k
-    → TookField d k v b → n < 65536 → b.index + r ≡ d.index + n → TookRegion b r kinds C vs e
-    → TookRegion d n (k ∷ kinds) (BehindOne k kinds C) (v, vs) e
-took_then {d} {b} {e} {k} {v} {kinds} {vs} {n} {r} C ends f short all h = record {
-  behind = took_stays f h.behind;
-  here = λ same.
-      let w : Region b.message b.index r kinds C vs = h.here (omega (arith, same, all)) in
-      let rest : Stands d.message b.index kinds vs (d.index + n) = subst (λ (m : List ℕ). Stands m b.index kinds vs (d.index + n)) f.message
-      (subst (λ (q : ℕ). Stands b.message b.index kinds vs q) all w.stands) in
-      record {
-        octets = subst AreOctets f.message w.octets;
-        short = short;
-        within = omega (arith, w.within, all, ap length f.message);
-        stands =
-            (b.index, f.field, rest);
-        holds = w.holds;
-      };
-  elsewhere = λ ne. none_then C ends f all (h.elsewhere (λ same. ne (omega (arith, same, all))));
-}
-
-refused_behind : {e : DecodeError} {d b c : Reading} {k : Kind} {v : Value k} {kinds : List Kind} {n r : ℕ} (C : Values kinds → Type 0)
-    → EndsItself k → TookField d k v b → b.index + r ≡ d.index + n → RefusedRegion e b r kinds C c
-    → RefusedRegion e d n (k ∷ kinds) (BehindOne k kinds C) c
-refused_behind {e} C ends f all h = record { behind = took_stays f h.behind; none = unless_map e _ _ (none_then C ends f all) h.none }
-
 -- ---- SVCB
 
-abbrev Tail : List Kind
-Tail = Parameters ∷ []
+-- the fields end there, and meet the condition
+abbrev EndsAt : ℕ → Values svcb_shape → ℕ → Type 0
+EndsAt end vs q = (q ≡ end) × MeetsSvcbCondition vs
 
-abbrev BehindName : Values (Name ∷ Tail) → Type 0
-BehindName = BehindOne Name Tail HaveParameterTexts
+pub svcb_took : {d a b e : Reading} {priority : ℕ} {target : DomainName} {v : List (Numbered ParameterValue)} (n end : ℕ) → Given d n
+    → TookField d (Number 2) priority a → TookField a Name target b → d.index + n ≡ end → TookField b Parameters v e → HaveTexts v
+    → (e.index ≢ end → Lacks b (Parameters ∷ []) (FillTo end)) → TookRegion d n svcb_shape MeetsSvcbCondition (priority, (target, (v, tt))) e
+svcb_took {d} {a} {b} {e} {priority} {target} {v} n end given f g all took texts none =
+    let whole = took_then f (took_then g (took_then took (took_last e))) in
+    record {
+      behind = took_stays f (took_stays g (took_stays took (stays e)));
+      here = λ same. (filled_region svcb_shape MeetsSvcbCondition (λ (vs : Values svcb_shape). vs) (Ok (priority, (target, (v, tt)))) d e n tt given
+          (whole, (same, texts))).here same;
+      elsewhere = λ ne.
+          let lacks : Lacks d svcb_shape (EndsAt end) = lacks_then tt f (lacks_then tt g (none (λ same. ne (same ∙ sym all)))) in
+          record { none = λ vs w. lacks.none vs (d.index + n) w.stands (all, w.holds) };
+    }
 
-pub svcb_took : {d a b e : Reading} {priority : ℕ} {target : DomainName} {vs : Values Tail} (n r : ℕ) → TookField d (Number 2) priority a
-    → TookField a Name target b → n < 65536 → b.index + r ≡ d.index + n → TookRegion b r Tail HaveParameterTexts vs e
-    → TookRegion d n svcb_shape MeetsSvcbCondition (priority, (target, vs)) e
-svcb_took {d} {a} {b} {e} {priority} {target} {vs} n r f g short all h =
-    let left : a.index + (d.index + n - a.index) ≡ d.index + n = omega (arith, (field_inside g.field).0, all) in
-    took_then BehindName tt f short left (took_then HaveParameterTexts tt g (omega (arith, left, (field_inside f.field).0, short)) (omega (arith, left, all)) h)
-
-pub svcb_refused : {e : DecodeError} {d a b c : Reading} {priority : ℕ} {target : DomainName} (n r : ℕ) → TookField d (Number 2) priority a
-    → TookField a Name target b → b.index + r ≡ d.index + n → RefusedRegion e b r Tail HaveParameterTexts c
+pub svcb_refused : {e : DecodeError} {d a b c : Reading} {priority : ℕ} {target : DomainName} (n end : ℕ) → Given d n
+    → TookField d (Number 2) priority a → TookField a Name target b → d.index + n ≡ end → Refused e b (Parameters ∷ []) (FillTo end) c
     → RefusedRegion e d n svcb_shape MeetsSvcbCondition c
-svcb_refused {e} {d} {a} {b} {c} n r f g all h =
-    let left : a.index + (d.index + n - a.index) ≡ d.index + n = omega (arith, (field_inside g.field).0, all) in
-    refused_behind BehindName tt f left (refused_behind HaveParameterTexts tt g (omega (arith, left, all)) h)
+svcb_refused {e} {d} {a} {b} {c} n end given f g all h = filled_region {T = SVCB} svcb_shape MeetsSvcbCondition svcb_fields (Err e) d c n tt given
+    (refused_then f tt (refused_then g tt (subst (λ (q : ℕ). Refused e b (Parameters ∷ []) (FillTo q) c) (sym all) h)))
 
 pub svcb_passed : {d a b : Reading} {priority : ℕ} {target : DomainName} (e : DecodeError) (n : ℕ) → Given d n → TookField d (Number 2) priority a
     → TookField a Name target b → d.index + n < b.index → RefusedRegion e d n svcb_shape MeetsSvcbCondition b

@@ -4,7 +4,7 @@ use Rattle.std.proofs.Common.{Option, Some, None, Result, Ok, Err, drop, ap, fin
 use Rattle.std.proofs.lemmas.Str.Pattern.{IsSplitOnceResult, split_parts, split_after}
 use Rattle.std.proofs.{lemmas.List.append_cancel_right, lemmas.List.get_or_default, Math.Seq.get_or-append_seam}
 use Rattle.std.specs.{Cmp.Lexicographic.pointwise, Cmp.Lexicographic.pointwise_decides, Str.Parse.digits_value, Str.Parse.without_leading_plus}
-use Rattle.std.specs.{Prelude.IfOk, Prelude.IfErr, Prelude.codes, Cmp.unsigned_Decides}
+use Rattle.std.specs.{List.AllByRecursion, Prelude.IfOk, Prelude.IfErr, Prelude.codes, Cmp.unsigned_Decides}
 use denote.Ref.{Bor}
 use Rattle.dns_types.specs.declared.error.ParseError.{ParseError}
 use Rattle.dns_rdata_service.specs.ParameterTokens.{IsKeyText, ItemOf, ListOf, IsValueAlone, IsValueText, IsUnquoted, HasNoEquals, HasValue}
@@ -20,16 +20,6 @@ use Rattle.dns_types.specs.declared.error.ProtoError.TheVariants as proto
 -- a value that begins with no quote
 pub bare : (value : List ℕ) → ((rest : List ℕ) → value ≢ 34 ∷ rest) → IsUnquoted value value
 bare value n = inr (refl, n [], λ inner q. n (inner ++ 34 ∷ []) q)
-
--- no list of names
-pub no_names : (text : List ℕ) → ((xs : List (List ℕ)) → ListOf (λ item name. name ≡ item) text xs → ⊥) → (v : SvcParamValue) → IsValueText keys.Alpn text v → ⊥
-no_names text none (values.Alpn x) is = none x.0 is
-no_names text none v is = is
-
--- no path
-pub no_path : (text : List ℕ) → ((x : List ℕ) → ItemOf (λ item path. path ≡ item) text x → ⊥) → (v : SvcParamValue) → IsValueText keys.DohPath text v → ⊥
-no_path text none (values.DohPath x) is = none x.0 is
-no_path text none v is = is
 
 -- ---- one text at most
 
@@ -87,13 +77,12 @@ token_refused d (Ok p) h = tt
 token_refused d (Err e) h = λ m p is. h m p (d.only p is)
 
 -- a text that is no name and has no number is of no key
-pub no_key : (text : List ℕ) → text ≢ codes "mandatory" → text ≢ codes "alpn" → text ≢ codes "no-default-alpn" → text ≢ codes "port"
-    → text ≢ codes "ipv4hint" → text ≢ codes "ech" → text ≢ codes "ipv6hint" → text ≢ codes "dohpath" → text ≢ codes "key65535"
-    → ((n : ℕ) → ¬ (IsNumberedKey text n)) → (key : SvcParamKey) → IsKeyText text key → ⊥
+pub no_key : (text : List ℕ) → AllByRecursion (λ k. text ≢ key_text k) named_keys → ((n : ℕ) → ¬ (IsNumberedKey text n)) → (key : SvcParamKey)
+    → IsKeyText text key → ⊥
 unfolding key_text
-no_key text a b c d e f g h i none (Key n) is = none n is.0
-no_key text a b c d e f g h i none (Unknown n) is = is
-no_key text a b c d e f g h i none key is = grind (arith, is)
+no_key text other none (Key n) is = none n is.0
+no_key text other none (Unknown n) is = is
+no_key text other none key is = grind (arith, is, other)
 
 pub not_memory : (why : Bor (List ℕ)) → proto.Message why ≢ proto.Memory
 not_memory why e = absurd cc

@@ -12,8 +12,8 @@ use Rattle.dns_fields.proofs.Numbers.{number_cmp, length-bytes, same_number}
 use Rattle.dns_canonical.specs.Fronts.{canonical_cmp, field_cmp}
 use Rattle.dns_canonical.proofs.{Comparing.cmp_shared, Comparing.then_kept, Comparing.then_equal, Fronts.fields_decide, Fronts.front_then}
 use Rattle.dns_rdata_service.proofs.OwnValues.{value_given}
-use Rattle.dns_rdata_service.specs.ParameterOrder.{OrderFirst, joined, behind_length, value_rank, Differ}
-use Rattle.dns_rdata_service.specs.SvcParamValue.{value_key, value_of, sized, key_numbers}
+use Rattle.dns_rdata_service.specs.ParameterOrder.{OrderFirst, joined, behind_length}
+use Rattle.dns_rdata_service.specs.SvcParamValue.{value_key, value_of, sized, key_numbers, value_rank, Differ}
 use Rattle.dns_rdata_service.specs.{SVCB.svcb_shape, SVCB.svcb_fields, SVCB.svcb_key_shape, SVCB.svcb_keys, declared.svcb.key.SvcParamKey.SvcParamKey}
 use Rattle.dns_rdata_service.specs.{declared.svcb.value.SvcParamValue.SvcParamValue, SvcParamKey.key_number, SvcParamKey.key_variant}
 use Rattle.dns_rdata_service.specs.{Parameters.Parameter, Parameters.own_parameter, OwnKeys.value_eq, OwnKeys.value_same, declared.svcb.SVCB.SVCB}

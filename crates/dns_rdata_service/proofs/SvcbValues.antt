@@ -1,7 +1,7 @@
 -- SVCB and HTTPS by their fields: a record that was read is told by them, and fields of a region make one.
 use Rattle.std.proofs.Common.{◌≡◌, inl, inr, ℕ, ◌==◌, ◌&&◌, Bool, true, false, if◌then◌else◌, List, [], ◌∷◌, length, map, refl, sym, ap, ◌∙◌, arith}
 use Rattle.std.proofs.{lemmas.Bool.Decides.same_from_decides, lemmas.Bool.Decides.Decides-like, lemmas.Bool.Decides.nat_tests, lemmas.Simd.map-map}
-use Rattle.std.proofs.{Common.◌⊎◌, Common.nat_le, Common.◌≤◌, lemmas.Grind.common_steps}
+use Rattle.std.proofs.{Common.◌⊎◌, Common.nat_le, Common.◌≤◌, Common.subst, lemmas.Grind.common_steps}
 use Rattle.std.specs.List.{flat_map, AllByRecursion}
 use Rattle.dns_fields.specs.Tlvs.{Numbered, ParameterValue, Mandatory, Alpn, NoDefaultAlpn, Port, Ipv4Hint, Ipv6Hint, Opaque, ParameterHeld}
 use Rattle.dns_fields.specs.Tlvs.{AllHeld, tlv, tlvs, ParameterForm, Keys, Names, AnyOctets, form_for}
@@ -11,12 +11,13 @@ use Rattle.dns_fields.proofs.EqualLaws.{field_decide}
 use Rattle.dns_names_wire.specs.{State.Reading, Terms.Region}
 use Rattle.dns_rdata_base.proofs.{Addresses.octets_of-segments, Addresses.segments_of-octets_of, NumberLaws.number-numbered_of}
 use Rattle.dns_rdata_service.specs.Parameters.{Parameter, parameter_of, parameter_from, own_parameter, AreRead, IsParameterError}
-use Rattle.dns_rdata_service.specs.SvcParamValue.{value_of, value_from, a_octets, a_of, aaaa_octets, aaaa_of, IsFormError, IsKeyError, IsValueOf}
+use Rattle.dns_rdata_service.specs.SvcParamValue.{value_of, value_from, a_octets, a_of, aaaa_octets, aaaa_of, IsFormError, IsKeyError, IsValueOf, opaque_from, is_text_key}
 use Rattle.dns_rdata_service.specs.declared.svcb.key.SvcParamKey.TheVariants.{Key, Key65535, Unknown}
+use Rattle.dns_rdata_service.specs.declared.svcb.key.SvcParamKey.TheVariants as keys
 use Rattle.dns_rdata_service.specs.SvcParamKey.{key_number, key_of, key_variant, named_keys, other_key}
 use Rattle.dns_rdata_service.specs.SVCB.{svcb_shape, svcb_fields, svcb_key_shape, svcb_keys, IsReadSvcb, IsSvcbError}
 use Rattle.dns_rdata_service.specs.HTTPS.{https_shape, https_fields, https_key_shape, https_keys, IsReadHttps}
-use Rattle.dns_rdata_service.specs.{declared.svcb.value.SvcParamValue.TheVariants.Unknown as OtherValue, declared.svcb.key.SvcParamKey.SvcParamKey}
+use Rattle.dns_rdata_service.specs.{declared.svcb.key.SvcParamKey.SvcParamKey}
 use Rattle.dns_rdata_service.specs.{declared.svcb.value.SvcParamValue.SvcParamValue, declared.svcb.unknown.Unknown.Unknown as Other}
 use Rattle.dns_rdata_service.specs.{declared.svcb.ip_hint.IpHint.IpHint, Parameters.IsParametersError, declared.https.HTTPS.HTTPS}
 use Rattle.dns_rdata_service.specs.declared.svcb.SVCB.{SVCB}
@@ -40,27 +41,26 @@ map_back f g h (x ∷ xs) = ap (λ y. y ∷ xs) (h x) ∙ ap (λ ys. g (f x) ∷
 pub aaaa_list_back : (xs : List AAAA) → xs ≡ map aaaa_of (map aaaa_octets xs)
 aaaa_list_back = map_back aaaa_octets aaaa_of (λ x. ap (λ (s : List ℕ). record { 0 = record { segments = s } }) (sym (segments_of-octets_of x.0.segments)))
 
--- the numbers below 8 are those of keys with forms
-above_named : (n : ℕ) → 8 ≤ key_variant (key_of n) → 8 ≤ n
+-- a key without a form of its own: its octets are unknown, it has no text, and its number has no form
+unnamed : (k : SvcParamKey) → ((x : ℕ) × (k ≡ Key x)) ⊎ ((k ≡ Key65535) ⊎ ((x : ℕ) × (k ≡ Unknown x)))
+    → ((s : List ℕ) → opaque_from k s ≡ variants.Unknown (record { 0 = s })) × (is_text_key k ≡ false) × (8 ≤ key_variant k)
+unnamed k (inl h) = rw h.1 ((λ s. refl), refl, omega arith)
+unnamed k (inr (inl h)) = rw h ((λ s. refl), refl, omega arith)
+unnamed k (inr (inr h)) = rw h.1 ((λ s. refl), refl, omega arith)
+
+unnamed_form : (n : ℕ) → 8 ≤ key_variant (key_of n) → form_for n ≡ AnyOctets
 unfolding key_of
-above_named n h = grind (arith, nat_tests, h)
+unnamed_form n h = grind (arith, common_steps, nat_tests, h)
 
-pub unnamed_key : (k : SvcParamKey) → k ≡ key_of (key_number k) → ((x : ℕ) × (k ≡ Key x)) ⊎ ((k ≡ Key65535) ⊎ ((x : ℕ) × (k ≡ Unknown x))) → 8 ≤ key_number k
-unnamed_key k g (inl h) = above_named (key_number k) (rw (← g) (rw h.1 (omega arith)))
-unnamed_key k g (inr (inl h)) = above_named (key_number k) (rw (← g) (rw h (omega arith)))
-unnamed_key k g (inr (inr h)) = above_named (key_number k) (rw (← g) (rw h.1 (omega arith)))
-
--- the value of a key without a form of its own
-pub unnamed_value : (n : ℕ) (body : List ℕ) (x : Other) → 8 ≤ n → body ≡ x.0 → IsValueOf n body (OtherValue x)
-unnamed_value n body x h e = record { held = (sym form, tt, e); given = rw (other, no_path) refl; text = λ is. absurd (omega (arith, is, h)) } where
-  form : form_for n ≡ AnyOctets
-  form = grind (arith, common_steps, nat_tests, h)
-
-  other : (n == 5) ≡ false
-  other = grind (arith, common_steps, nat_tests, h)
-
-  no_path : (n == 7) ≡ false
-  no_path = grind (arith, common_steps, nat_tests, h)
+pub unnamed_value : (k : SvcParamKey) (body : List ℕ) (x : Other) → k ≡ key_of (key_number k)
+    → ((x : ℕ) × (k ≡ Key x)) ⊎ ((k ≡ Key65535) ⊎ ((x : ℕ) × (k ≡ Unknown x))) → body ≡ x.0 → IsValueOf (key_number k) body (variants.Unknown x)
+unnamed_value k body x given other e =
+    let own = unnamed k other in
+    record {
+      held = (sym (unnamed_form (key_number k) (subst (λ (j : SvcParamKey). 8 ≤ key_variant j) given own.2)), tt, e);
+      given = sym (ap (λ (j : SvcParamKey). opaque_from j x.0) (sym given) ∙ own.0 x.0);
+      text = λ is. absurd (cc (is, ap is_text_key given, own.1));
+    }
 
 pub hint4_back : (x : IpHint A) → x ≡ record { 0 = map a_of (map a_octets x.0) }
 hint4_back x = ap (λ (as' : List A). record { 0 = as' }) (map_back a_octets a_of (λ a. refl) x.0)
@@ -76,11 +76,9 @@ svcb_from-fields x r = ap (λ (ps : List Parameter). record x { svc_params = ps 
 
 -- ---- what fields give has the fields, where addresses are octets
 
-opaque_value : (b c : Bool) (s : List ℕ)
-    → value_of (if b then variants.EchConfigList (record { 0 = s }) else if c then variants.DohPath (record { 0 = s }) else variants.Unknown (record { 0 = s })) ≡ Opaque s
-opaque_value true c s = refl
-opaque_value false true s = refl
-opaque_value false false s = refl
+opaque_value : (k : SvcParamKey) (s : List ℕ) → value_of (opaque_from k s) ≡ Opaque s
+opaque_value keys.EchConfigList s = refl
+opaque_value k s = refl
 
 abbrev IsWide : ParameterValue → Type 0
 IsWide (Ipv6Hint addresses) = AllByRecursion (λ s. (length s ≡ 16) × AreOctets s) addresses
@@ -97,7 +95,7 @@ value_back n NoDefaultAlpn h = refl
 value_back n (Port p) h = refl
 value_back n (Ipv4Hint ss) h = ap Ipv4Hint (sym (map_back a_of a_octets (λ s. refl) ss))
 value_back n (Ipv6Hint ss) h = ap Ipv6Hint (wide_back ss h)
-value_back n (Opaque s) h = opaque_value (n == 5) (n == 7) s
+value_back n (Opaque s) h = opaque_value (key_of n) s
 
 parameters_back : (v : List (Numbered ParameterValue)) → AllByRecursion (λ x. IsWide x.1) v → map parameter_of (map parameter_from v) ≡ v
 parameters_back [] h = refl

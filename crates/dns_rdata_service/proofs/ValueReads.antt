@@ -1,6 +1,7 @@
 -- Reading values to the end of a message.
 use Rattle.std.proofs.Common.{◌≡◌, ℕ, ◌%◌, ◌<◌, ◌≤◌, ◌^◌, inl, inr, List, [], ◌∷◌, ◌++◌, length, drop, map, refl, ap, ◌∙◌, arith, subst, ◌≢◌, ◌*◌, Ok}
 use Rattle.std.proofs.lemmas.List.{drop_all, length-append, length-drop, map-id, append-nil, length-take}
+use Rattle.std.proofs.{lemmas.Bool.Decides.nat_tests, lemmas.Grind.common_steps}
 use Rattle.std.proofs.Common.{sym, append_assoc, true, false, ◌+◌, take, Result, Err}
 use Rattle.std.specs.{Prelude.IsUtf8, Prelude.IfOk, Prelude.IfErr, List.flat_map, List.AllByRecursion, Int.bytes_high_first}
 use Rattle.dns_types.specs.{declared.error.DecodeError.DecodeError, declared.error.ProtoError.ProtoError}
@@ -11,7 +12,7 @@ use Rattle.dns_names_wire.specs.Terms.{TookField, StaysBehind, UnlessMemory, Lac
 use Rattle.dns_names_wire.specs.State.{Reading, Writing}
 use Rattle.dns_names_wire.proofs.{FieldReads.stays, FieldReads.unless_map, FieldReads.unless_all, FieldWrites.because_map}
 use Rattle.dns_rdata_base.specs.{declared.aaaa.AAAA.AAAA, Numbered.NumberedAt, declared.a.A.A}
-use Rattle.dns_rdata_service.specs.SvcParamValue.{mandatory_value, alpn_value, AreGiven, ToEnd, MandatoryAt, AlpnAt, TruncatedName, WrongName, HasText}
+use Rattle.dns_rdata_service.specs.SvcParamValue.{mandatory_value, alpn_value, AreGiven, ToEnd, MandatoryAt, AlpnAt, TruncatedName, WrongName, IsText, HasText}
 use Rattle.dns_rdata_service.specs.SvcParamValue.{IsValueError, IsFormError, IsKeyError, a_octets, aaaa_octets, a_of, aaaa_of}
 use Rattle.dns_rdata_service.specs.{Hints.StandEach, Hints.StopsBefore, Hints.StandToEnd, Hints.ReadsEach, Hints.EmitsEach}
 use Rattle.dns_rdata_service.specs.{declared.svcb.mandatory.Mandatory.Mandatory as MandatoryKeys, SvcParamKey.key_number, SvcParamKey.key_of}
@@ -123,15 +124,19 @@ value_none form body e (inr h) = unless_all e (record { none = refused_none form
 pub record NoKeyValue (key : ℕ) (body : List ℕ) : Type 0 where
   pub none : (v : ParameterValue) → ParameterHeld key body v → HasText key v → ⊥
 
-no_path : (key : ℕ) (body : List ℕ) → key ≡ 7 → (IsUtf8 body → ⊥) → (v : ParameterValue) → ParameterHeld key body v → HasText key v → ⊥
-no_path key body is wrong (Opaque s) h text = wrong (subst IsUtf8 (sym h.2) (text is))
-no_path key body is wrong v h text = let e : form_of v ≡ form_for 7 = h.0 ∙ ap form_for is in absurd (cc e)
+text_form : (key : ℕ) → IsText key → form_for key ≡ AnyOctets
+unfolding key_of
+text_form key is = grind (arith, common_steps, nat_tests, is)
+
+no_text : (key : ℕ) (body : List ℕ) → IsText key → (IsUtf8 body → ⊥) → (v : ParameterValue) → ParameterHeld key body v → HasText key v → ⊥
+no_text key body is wrong (Opaque s) h text = wrong (subst IsUtf8 (sym h.2) (text is))
+no_text key body is wrong v h text = let e : form_of v ≡ AnyOctets = h.0 ∙ text_form key is in absurd (cc e)
 
 pub key_none : (key : ℕ) (body : List ℕ) (e : DecodeError) → IsKeyError key body e → UnlessMemory e (NoKeyValue key body)
 key_none key body e (inl h) = unless_map e _ _ (λ (n : HoldsNone (form_for key) body). record { none = λ v held text. n.none v held.0 held.1 held.2 })
     (value_none (form_for key) body e h)
 key_none key body e (inr (is, inl m)) = subst (λ (x : DecodeError). UnlessMemory x (NoKeyValue key body)) (sym m) tt
-key_none key body e (inr (is, inr h)) = unless_all e (record { none = no_path key body is h.1 })
+key_none key body e (inr (is, inr h)) = unless_all e (record { none = no_text key body is h.1 })
 
 -- what is rejected is none of the values of a type
 pub refused_by : {T : Type 0} (form : ParameterForm) (view : T → ParameterValue) (S : List ℕ → ℕ → T → ℕ → Type 0) (old new : Reading) (e : DecodeError)

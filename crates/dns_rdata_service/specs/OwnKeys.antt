@@ -40,19 +40,16 @@ pub value_same : (v w : SvcParamValue) → value_eq v w ≡ key_eq (value_key v)
 value_same (variants.Mandatory x) (variants.Mandatory y) =
     pointwise_view (numbered_eq key_number key_variant) (pointwise nat_eq) key_numbers numbers_same
     x.0 y.0
+value_same v variants.NoDefaultAlpn = sym (and_true (value_eq v variants.NoDefaultAlpn))
 value_same (variants.Alpn x) (variants.Alpn y) = refl
-value_same variants.NoDefaultAlpn variants.NoDefaultAlpn = refl
 value_same (variants.Port m) (variants.Port n) = sym (and_true (nat_eq m n && true) ∙ and_true (nat_eq m n))
 value_same (variants.Ipv4Hint x) (variants.Ipv4Hint y) =
     pointwise_view (λ (a b : A). pointwise nat_eq (a_octets a) (a_octets b)) (pointwise nat_eq)
     a_octets (λ a b. refl) x.0 y.0
-value_same (variants.EchConfigList x) (variants.EchConfigList y) = sym (and_true (pointwise nat_eq x.0 y.0))
 value_same (variants.Ipv6Hint x) (variants.Ipv6Hint y) =
     pointwise_view (λ (a b : AAAA). values_eq aaaa_shape (aaaa_fields a) (aaaa_fields b))
     (pointwise nat_eq) aaaa_octets aaaa_same x.0 y.0
-value_same (variants.DohPath x) (variants.DohPath y) = sym (and_true (pointwise nat_eq x.0 y.0))
-value_same (variants.Unknown x) (variants.Unknown y) = sym (and_true (pointwise nat_eq x.0 y.0))
-value_same v w = refl
+value_same v w = sym (and_true (value_eq v w))
 
 one_after : (a b x : Bool) → (a && b) && x ≡ (a && true) && ((b && true) && x)
 one_after true true x = refl

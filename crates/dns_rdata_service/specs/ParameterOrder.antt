@@ -3,36 +3,10 @@ use Rattle.std.specs.{Prelude.ℕ, Prelude.◌≡◌, Prelude.List, Prelude.◌+
 use Rattle.std.specs.{declared.cmp.Ordering.Ordering, Cmp.Lexicographic.slice_cmp, Int.bytes_high_first}
 use Rattle.dns_fields.specs.{Tlvs.tlv, Tlvs.as_tlv, Tlvs.parameter_octets, Equal.key_cmp, Equal.parameter_key}
 use Rattle.dns_rdata_service.specs.Parameters.{Parameter, own_parameter, parameter_of}
-use Rattle.dns_rdata_service.specs.declared.svcb.value.SvcParamValue.{SvcParamValue}
-use Rattle.dns_rdata_service.specs.declared.svcb.value.SvcParamValue.TheVariants as variants
 
 -- by the keys that parameters are compared by
 abbrev pub parameter_order : Parameter → Parameter → Ordering
 parameter_order p q = key_cmp (parameter_key (own_parameter p)) (parameter_key (own_parameter q))
-
--- the rank of the variant
-abbrev pub value_rank : SvcParamValue → ℕ
-value_rank (variants.Mandatory x) = 0
-value_rank (variants.Alpn x) = 1
-value_rank variants.NoDefaultAlpn = 2
-value_rank (variants.Port n) = 3
-value_rank (variants.Ipv4Hint x) = 4
-value_rank (variants.EchConfigList x) = 5
-value_rank (variants.Ipv6Hint x) = 6
-value_rank (variants.DohPath x) = 7
-value_rank (variants.Unknown x) = 8
-
--- they are not of one variant with a value inside
-abbrev pub Differ : SvcParamValue → SvcParamValue → Type 0
-Differ (variants.Mandatory x) (variants.Mandatory y) = ⊥
-Differ (variants.Alpn x) (variants.Alpn y) = ⊥
-Differ (variants.Port m) (variants.Port n) = ⊥
-Differ (variants.Ipv4Hint x) (variants.Ipv4Hint y) = ⊥
-Differ (variants.EchConfigList x) (variants.EchConfigList y) = ⊥
-Differ (variants.Ipv6Hint x) (variants.Ipv6Hint y) = ⊥
-Differ (variants.DohPath x) (variants.DohPath y) = ⊥
-Differ (variants.Unknown x) (variants.Unknown y) = ⊥
-Differ v w = Unit {0}
 
 -- they are ordered so whatever follows; if they tie, what follows decides
 abbrev pub OrderFirst : Ordering → List ℕ → List ℕ → Type 0

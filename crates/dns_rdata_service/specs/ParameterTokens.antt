@@ -33,6 +33,10 @@ pub record ItemOf {T : Type 0} (Is : List ℕ → T → Type 0) (text : List ℕ
 pub record ListOf {T : Type 0} (Is : List ℕ → T → Type 0) (text : List ℕ) (xs : List T) : Type 0 where
   pub each : AllZip (ItemOf Is) (segments_of text) xs
 
+-- the item's octets as they are
+pub record IsItself (item octets : List ℕ) : Type 0 where
+  pub same : octets ≡ item
+
 -- ---- values
 
 -- The value of a key that nothing follows: no-default-alpn has none, and that of a key without a format is empty.
@@ -45,13 +49,13 @@ IsValueAlone key value = ⊥
 -- base64 (RFC 4648, 4) or a path; for a key without a format the octets of the text. Other keys have none.
 abbrev pub IsValueText : SvcParamKey → List ℕ → SvcParamValue → Type 0
 IsValueText keys.Mandatory text (values.Mandatory x) = ListOf IsKeyText text x.0
-IsValueText keys.Alpn text (values.Alpn x) = ListOf (λ item name. name ≡ item) text x.0
+IsValueText keys.Alpn text (values.Alpn x) = ListOf IsItself text x.0
 IsValueText keys.Port text (values.Port n) = ItemOf (λ item port. IsNumberToken 16 port item) text n
 IsValueText keys.Ipv4Hint text (values.Ipv4Hint x) = ListOf (λ item a. IsIpv4Text item a.0) text x.0
 IsValueText keys.EchConfigList text (values.EchConfigList x) =
     ItemOf (λ item config. decode_of standard item ≡ Ok config.0) text x
 IsValueText keys.Ipv6Hint text (values.Ipv6Hint x) = ListOf (λ item a. IsIpv6Text item a.0) text x.0
-IsValueText keys.DohPath text (values.DohPath x) = ItemOf (λ item path. path ≡ item) text x.0
+IsValueText keys.DohPath text (values.DohPath x) = ItemOf IsItself text x.0
 IsValueText (keys.Key n) text (values.Unknown x) = x.0 ≡ text
 IsValueText key text value = ⊥
 

@@ -3,7 +3,7 @@ use Rattle.std.specs.Prelude.{◌≡◌, ◌⊎◌, ℕ, ◌+◌, ◌<◌, ◌�
 use Rattle.std.specs.List.{AllByRecursion}
 use Rattle.dns_types.specs.{declared.error.DecodeError.DecodeError, declared.error.ProtoError.ProtoError}
 use Rattle.dns_types.specs.declared.error.DecodeError.TheVariants as decode
-use Rattle.dns_fields.specs.Fields.{Number, Rest, Parameters}
+use Rattle.dns_fields.specs.Fields.{Number, Rest, Parameters, Values}
 use Rattle.dns_fields.specs.Tlvs.{Numbered, ParameterValue, Alpn, ParameterFits, tlv, as_tlv, parameter_octets, Rising}
 use Rattle.dns_names_wire.specs.{State.Reading, State.Writing, Terms.Took, Terms.TookField, Terms.EmitsOctets}
 use Rattle.dns_rdata_base.specs.FieldErrors.{FirstLack}
@@ -34,6 +34,10 @@ AreRead ps = ps ≡ map parameter_from (map parameter_of ps)
 -- a path of DNS queries is UTF-8, if there is one
 abbrev pub HaveTexts : List (Numbered ParameterValue) → Type 0
 HaveTexts v = AllByRecursion (λ x. HasText x.0 x.1) v
+
+-- parameters end there, and a path of DNS queries among them is UTF-8
+abbrev pub FillTo : ℕ → Values (Parameters ∷ []) → ℕ → Type 0
+FillTo end vs q = (q ≡ end) × HaveTexts vs.0
 
 -- of the n octets from p, parameters are read up to the last three octets or further, and none past the end
 pub record TookParameters (p n : ℕ) (old : Reading) (ps : List Parameter) (new : Reading) : Type 0 where

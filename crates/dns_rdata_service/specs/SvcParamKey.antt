@@ -1,6 +1,6 @@
 -- The keys of service parameters: the numbers of their variants (RFC 9460, 14.3.2; RFC 9461, 5). A variant with a
 -- number inside has that number.
-use Rattle.std.specs.Prelude.{ℕ, nat_le, if◌then◌else◌, List, [], ◌∷◌, ◌++◌, codes, decimal}
+use Rattle.std.specs.Prelude.{ℕ, nat_le, Bool, true, false, if◌then◌else◌, List, [], ◌∷◌, ◌++◌, codes, decimal}
 use Rattle.dns_rdata_base.specs.Numbered.{numbered_of}
 use Rattle.dns_rdata_service.specs.declared.svcb.key.SvcParamKey.{SvcParamKey}
 use Rattle.dns_rdata_service.specs.declared.svcb.key.SvcParamKey.TheVariants.{Mandatory, Alpn, NoDefaultAlpn, Port, Ipv4Hint, EchConfigList, Ipv6Hint}
@@ -35,6 +35,13 @@ key_variant (Unknown n) = 10
 
 abbrev pub named_keys : List SvcParamKey
 named_keys = Mandatory ∷ Alpn ∷ NoDefaultAlpn ∷ Port ∷ Ipv4Hint ∷ EchConfigList ∷ Ipv6Hint ∷ DohPath ∷ Key65535 ∷ []
+
+-- whether a key has no name of its own and no format
+abbrev pub is_unnamed : SvcParamKey → Bool
+is_unnamed (Key n) = true
+is_unnamed Key65535 = true
+is_unnamed (Unknown n) = true
+is_unnamed key = false
 
 -- for the other numbers: from 65280 on they are for private use
 abbrev pub other_key : ℕ → SvcParamKey

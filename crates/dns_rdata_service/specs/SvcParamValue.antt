@@ -1,6 +1,6 @@
 -- The values of service parameters: what each holds, the octets that it is read from, and its text (RFC 9460, 7 and 8;
 -- RFC 9461, 5).
-use Rattle.std.specs.Prelude.{◌≡◌, ◌≢◌, ◌⊎◌, ℕ, ◌%◌, ◌^◌, ◌<◌, ◌==◌, ◌&&◌, nat_le, Bool, false, if◌then◌else◌, List, [], ◌∷◌, ◌++◌, length, drop, map, codes}
+use Rattle.std.specs.Prelude.{◌≡◌, ◌≢◌, ◌⊎◌, ℕ, ◌%◌, ◌^◌, ◌<◌, ◌&&◌, nat_le, Bool, true, false, Option, Some, None, List, [], ◌∷◌, ◌++◌, length, drop, map, codes}
 use Rattle.std.specs.{Net.Addr.ipv4_octets, Net.Addr.ipv6_octets, Net.Addr.segments_of, Prelude.decimal, Prelude.IsUtf8, Prelude.Result}
 use Rattle.std.specs.{Int.bytes_high_first, List.flat_map}
 use Rattle.base64.specs.{GeneralPurpose.encode_of, Engines.standard}
@@ -16,6 +16,7 @@ use Rattle.dns_rdata_service.specs.{declared.svcb.mandatory.Mandatory.Mandatory 
 use Rattle.dns_rdata_service.specs.{declared.svcb.doh_path.DohPath.DohPath as Path, declared.svcb.unknown.Unknown.Unknown as Other}
 use Rattle.dns_rdata_service.specs.{declared.svcb.alpn.Alpn.Alpn as Protocols, declared.svcb.ip_hint.IpHint.IpHint}
 use Rattle.dns_types.specs.declared.error.DecodeError.TheVariants as decode
+use Rattle.dns_rdata_service.specs.declared.svcb.key.SvcParamKey.TheVariants as keys
 use Rattle.dns_rdata_service.specs.declared.svcb.value.SvcParamValue.TheVariants as variants
 
 -- ---- as values of the grammar
@@ -64,6 +65,12 @@ a_of s = record { 0 = record { octets = s } }
 abbrev pub aaaa_of : List ℕ → AAAA
 aaaa_of s = record { 0 = record { segments = segments_of s } }
 
+-- the value of a key that octets give
+abbrev pub opaque_from : SvcParamKey → List ℕ → SvcParamValue
+opaque_from keys.EchConfigList s = variants.EchConfigList (record { 0 = s })
+opaque_from keys.DohPath s = variants.DohPath (record { 0 = s })
+opaque_from key s = variants.Unknown (record { 0 = s })
+
 -- the value that a key's value of the grammar gives
 abbrev pub value_from : ℕ → ParameterValue → SvcParamValue
 value_from key (Mandatory keys) = variants.Mandatory (record { 0 = map key_of keys })
@@ -72,10 +79,19 @@ value_from key NoDefaultAlpn = variants.NoDefaultAlpn
 value_from key (Port n) = variants.Port n
 value_from key (Ipv4Hint addresses) = variants.Ipv4Hint (record { 0 = map a_of addresses })
 value_from key (Ipv6Hint addresses) = variants.Ipv6Hint (record { 0 = map aaaa_of addresses })
-value_from key (Opaque s) =
-    if key == 5 then variants.EchConfigList (record { 0 = s }) else
-    if key == 7 then variants.DohPath (record { 0 = s }) else
-    variants.Unknown (record { 0 = s })
+value_from key (Opaque s) = opaque_from (key_of key) s
+
+-- the key whose values have the format of this value
+abbrev pub own_key : SvcParamValue → Option SvcParamKey
+own_key (variants.Mandatory x) = Some keys.Mandatory
+own_key (variants.Alpn x) = Some keys.Alpn
+own_key variants.NoDefaultAlpn = Some keys.NoDefaultAlpn
+own_key (variants.Port x) = Some keys.Port
+own_key (variants.Ipv4Hint x) = Some keys.Ipv4Hint
+own_key (variants.EchConfigList x) = Some keys.EchConfigList
+own_key (variants.Ipv6Hint x) = Some keys.Ipv6Hint
+own_key (variants.DohPath x) = Some keys.DohPath
+own_key (variants.Unknown x) = None
 
 -- ---- as keys of their own, for comparing
 
@@ -95,11 +111,42 @@ value_key (variants.Ipv6Hint x) = (6 ∷ []) ∷ map aaaa_octets x.0
 value_key (variants.DohPath x) = (7 ∷ []) ∷ x.0 ∷ []
 value_key (variants.Unknown x) = (8 ∷ []) ∷ x.0 ∷ []
 
+-- the rank of the variant
+abbrev pub value_rank : SvcParamValue → ℕ
+value_rank (variants.Mandatory x) = 0
+value_rank (variants.Alpn x) = 1
+value_rank variants.NoDefaultAlpn = 2
+value_rank (variants.Port n) = 3
+value_rank (variants.Ipv4Hint x) = 4
+value_rank (variants.EchConfigList x) = 5
+value_rank (variants.Ipv6Hint x) = 6
+value_rank (variants.DohPath x) = 7
+value_rank (variants.Unknown x) = 8
+
+-- they are not of one variant with a value inside
+abbrev pub Differ : SvcParamValue → SvcParamValue → Type 0
+Differ (variants.Mandatory x) (variants.Mandatory y) = ⊥
+Differ (variants.Alpn x) (variants.Alpn y) = ⊥
+Differ (variants.Port m) (variants.Port n) = ⊥
+Differ (variants.Ipv4Hint x) (variants.Ipv4Hint y) = ⊥
+Differ (variants.EchConfigList x) (variants.EchConfigList y) = ⊥
+Differ (variants.Ipv6Hint x) (variants.Ipv6Hint y) = ⊥
+Differ (variants.DohPath x) (variants.DohPath y) = ⊥
+Differ (variants.Unknown x) (variants.Unknown y) = ⊥
+Differ v w = Unit {0}
+
 -- ---- reading
 
--- the path of DNS queries, key 7, is UTF-8 (RFC 9461, 5)
+-- the keys whose values are UTF-8: the path of DNS queries (RFC 9461, 5)
+abbrev pub is_text_key : SvcParamKey → Bool
+is_text_key keys.DohPath = true
+is_text_key key = false
+
+abbrev pub IsText : ℕ → Type 0
+IsText key = is_text_key (key_of key) ≡ true
+
 abbrev pub HasText : ℕ → ParameterValue → Type 0
-HasText key value = key ≡ 7 → IsUtf8 (parameter_octets value)
+HasText key value = IsText key → IsUtf8 (parameter_octets value)
 
 -- the octets are the value of the key with this number
 pub record IsValueOf (key : ℕ) (body : List ℕ) (v : SvcParamValue) : Type 0 where
@@ -170,7 +217,7 @@ IsPathError body e = (e ≡ decode.Memory) ⊎ ((e ≡ decode.Utf8) × (IsUtf8 b
 
 -- why octets are no value of a key
 abbrev pub IsKeyError : ℕ → List ℕ → DecodeError → Type 0
-IsKeyError key body e = IsValueError (form_for key) body e ⊎ ((key ≡ 7) × IsPathError body e)
+IsKeyError key body e = IsValueError (form_for key) body e ⊎ (IsText key × IsPathError body e)
 
 -- ---- emitting
 

@@ -2,11 +2,11 @@
 
 ghost use Rattle.std.specs.{Cmp.Lexicographic.slice_cmp, Prelude.◌≡◌, Prelude.map, Ordering.nat_cmp};
 ghost use Rattle.dns_fields.specs.{Equal.key_cmp, Equal.parameter_keys, Order.values_cmp};
-ghost use Rattle.dns_rdata_service.specs.{ParameterOrder.parameter_order, ParameterOrder.value_rank, ParameterOrder.Differ, SVCB.svcb_key_shape, SVCB.svcb_keys};
+ghost use Rattle.dns_rdata_service.specs.{ParameterOrder.parameter_order, SvcParamValue.value_rank, SvcParamValue.Differ, SVCB.svcb_key_shape, SVCB.svcb_keys};
 ghost use Rattle.dns_rdata_service.specs.{SvcParamValue.key_numbers, SvcParamValue.value_key, Parameters.own_parameter};
 
 use crate::hints::hints_cmp;
-use crate::svcb::{Parameter, SVCB, SvcParamKey, SvcParamValue};
+use crate::svcb::{Parameter, SVCB, SvcParamKey, SvcParamValue, each_value, with_octets};
 use std::cmp::Ordering;
 
 // The order of two lists of keys: key by key, each by number and then by variant.
@@ -17,24 +17,6 @@ fn keys_cmp(a: &[SvcParamKey], b: &[SvcParamKey]) -> Ordering
     a.cmp(b)
 }
 
-// The rank of the variant.
-#[inline]
-fn rank(value: &SvcParamValue) -> u8
-    ensures { result ≡ value_rank value.now }
-{
-    match value {
-        SvcParamValue::Mandatory(_) => 0,
-        SvcParamValue::Alpn(_) => 1,
-        SvcParamValue::NoDefaultAlpn => 2,
-        SvcParamValue::Port(_) => 3,
-        SvcParamValue::Ipv4Hint(_) => 4,
-        SvcParamValue::EchConfigList(_) => 5,
-        SvcParamValue::Ipv6Hint(_) => 6,
-        SvcParamValue::DohPath(_) => 7,
-        SvcParamValue::Unknown(_) => 8,
-    }
-}
-
 // The order of two values of different variants: by rank.
 #[inline]
 #[tactic(auto, using(crate::proofs::SvcbFronts::differ_order))]
@@ -42,24 +24,21 @@ fn places_cmp(a: &SvcParamValue, b: &SvcParamValue) -> Ordering
     requires { Differ a.now b.now }
     ensures { result ≡ slice_cmp (slice_cmp nat_cmp) (value_key a.now) (value_key b.now) }
 {
-    rank(a).cmp(&rank(b))
+    a.rank().cmp(&b.rank())
 }
 
 // The order of two values: by variant, and then by what both hold.
 fn value_cmp(a: &SvcParamValue, b: &SvcParamValue) -> Ordering
     ensures { result ≡ slice_cmp (slice_cmp nat_cmp) (value_key a.now) (value_key b.now) }
 {
-    match (a, b) {
+    with_octets!(each_value, ((a, b), x, y => x.0.cmp(&y.0),
         (SvcParamValue::Mandatory(x), SvcParamValue::Mandatory(y)) => keys_cmp(&x.0, &y.0),
         (SvcParamValue::Alpn(x), SvcParamValue::Alpn(y)) => x.0.as_slice().cmp(y.0.as_slice()),
         (SvcParamValue::Port(m), SvcParamValue::Port(n)) => m.cmp(n),
         (SvcParamValue::Ipv4Hint(x), SvcParamValue::Ipv4Hint(y)) => hints_cmp(&x.0, &y.0),
-        (SvcParamValue::EchConfigList(x), SvcParamValue::EchConfigList(y)) => x.0.cmp(&y.0),
         (SvcParamValue::Ipv6Hint(x), SvcParamValue::Ipv6Hint(y)) => hints_cmp(&x.0, &y.0),
-        (SvcParamValue::DohPath(x), SvcParamValue::DohPath(y)) => x.0.cmp(&y.0),
-        (SvcParamValue::Unknown(x), SvcParamValue::Unknown(y)) => x.0.cmp(&y.0),
         _ => places_cmp(a, b),
-    }
+    ))
 }
 
 // The order of two parameters: by key, and then by value.

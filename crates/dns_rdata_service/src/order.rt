@@ -13,7 +13,7 @@ use crate::hints::hints_order;
 use crate::https::HTTPS;
 use crate::items::Items;
 use crate::steps::{names_size, octets_size, svcb_is_emittable};
-use crate::svcb::{Parameter, SVCB, SvcParamValue};
+use crate::svcb::{Parameter, SVCB, SvcParamValue, each_value, with_octets};
 use dns_canonical::order::slices_behind;
 use dns_canonical::{name_behind, two_behind};
 use dns_names_wire::SmallOctets;
@@ -122,18 +122,13 @@ fn value_order(a: &SvcParamValue, b: &SvcParamValue) -> Option<Ordering>
     ensures order { IfSome result (λ o. OrderFirst o (sized (value_of a.now)) (sized (value_of b.now))) }
     ensures alike { IfSome result (λ o. o ≡ Equal → value_key a.now ≡ value_key b.now) }
 {
-    match (a, b) {
+    with_octets!(each_value, ((a, b), x, y => octets_order(x.0.as_slice(), y.0.as_slice()),
         (SvcParamValue::Alpn(x), SvcParamValue::Alpn(y)) => names_order(&x.0, &y.0),
         (SvcParamValue::Port(x), SvcParamValue::Port(y)) => Some(port_order(*x, *y)),
         (SvcParamValue::Ipv4Hint(x), SvcParamValue::Ipv4Hint(y)) => hints_order(&x.0, &y.0),
-        (SvcParamValue::EchConfigList(x), SvcParamValue::EchConfigList(y)) => {
-            octets_order(x.0.as_slice(), y.0.as_slice())
-        }
         (SvcParamValue::Ipv6Hint(x), SvcParamValue::Ipv6Hint(y)) => hints_order(&x.0, &y.0),
-        (SvcParamValue::DohPath(x), SvcParamValue::DohPath(y)) => octets_order(&x.0, &y.0),
-        (SvcParamValue::Unknown(x), SvcParamValue::Unknown(y)) => octets_order(&x.0, &y.0),
         _ => if a == b { Some(Ordering::Equal) } else { None },
-    }
+    ))
 }
 
 // The order of two ports after their length.

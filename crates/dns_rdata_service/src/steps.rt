@@ -9,7 +9,7 @@ ghost use Rattle.dns_canonical.specs.Steps.{GivesStep};
 
 use crate::hints::{Address, hints_size};
 use crate::https::HTTPS;
-use crate::svcb::{Parameter, SVCB, SvcParamKey, SvcParamValue, is_above};
+use crate::svcb::{Parameter, SVCB, SvcParamKey, SvcParamValue, each_value, is_above, with_octets};
 use dns_canonical::{Head, Step, Tail};
 use dns_names_wire::SmallOctets;
 
@@ -55,17 +55,14 @@ pub(crate) fn octets_size(octets: &[u8]) -> Option<u16>
 fn value_size(value: &SvcParamValue) -> Option<u16>
     ensures { IsSizeOf (value_of value.now) result }
 {
-    match value {
+    with_octets!(each_value, (value, octets => octets_size(octets.0.as_slice()),
         SvcParamValue::Mandatory(keys) => keys_size(keys.0.as_slice()),
         SvcParamValue::Alpn(names) => names_size(names.0.as_slice()),
         SvcParamValue::NoDefaultAlpn => Some(0),
         SvcParamValue::Port(_) => Some(2),
         SvcParamValue::Ipv4Hint(addresses) => hints_size(addresses.0.as_slice()),
-        SvcParamValue::EchConfigList(octets) => octets_size(octets.0.as_slice()),
         SvcParamValue::Ipv6Hint(addresses) => hints_size(addresses.0.as_slice()),
-        SvcParamValue::DohPath(path) => octets_size(path.0.as_slice()),
-        SvcParamValue::Unknown(octets) => octets_size(octets.0.as_slice()),
-    }
+    ))
 }
 
 // The key with this index.
@@ -138,16 +135,13 @@ fn put_front<'a>(value: &'a SvcParamValue, head: &mut Head) -> Tail<'a>
     requires { length head.old ≤ 4 }
     ensures { head.new ++ result ≡ head.old ++ value_front (value_of value.now) }
 {
-    match value {
+    with_octets!(each_value, (value, octets => return Tail::rest(octets.0.as_slice()),
         SvcParamValue::Port(port) => {
             head.two(*port);
             return Tail::none();
         }
-        SvcParamValue::EchConfigList(octets) => return Tail::rest(octets.0.as_slice()),
-        SvcParamValue::DohPath(path) => return Tail::rest(path.0.as_slice()),
-        SvcParamValue::Unknown(octets) => return Tail::rest(octets.0.as_slice()),
         _ => return Tail::none(),
-    }
+    ))
 }
 
 // The head of the parameter with this index: its key, the length of its value, and the value if it is one run of

@@ -4,7 +4,7 @@ ghost use Rattle.std.specs.{List.Sorted.IsPermutation, List.Sorted.IsNonDecreasi
 ghost use Rattle.std.specs.{Prelude.◌≡◌, Prelude.◌≤◌, Prelude.length, Prelude.IfOk, Option.option_copied, Ordering.nat_cmp};
 ghost use Rattle.dns_names_wire.specs.Facts.{same, same_equiv, same_partial};
 ghost use Rattle.dns_rdata_service.specs.SVCB.{svcb_facts, svcb_key_shape, svcb_keys, number_of_parameter, value_at};
-ghost use Rattle.dns_rdata_service.specs.{OwnKeys.value_eq, OwnKeys.parameter_eq, SvcParamKey.key_number};
+ghost use Rattle.dns_rdata_service.specs.{OwnKeys.parameter_eq, SvcParamKey.key_number};
 
 mod alpn;
 mod changing;
@@ -36,6 +36,8 @@ use std::hash::{Hash, Hasher};
 use std::{fmt, mem};
 pub use unknown::Unknown;
 pub use value::SvcParamValue;
+use value::same_value;
+pub(crate) use value::{each_value, with_octets};
 
 // A key and its value.
 pub(crate) type Parameter = (SvcParamKey, SvcParamValue);
@@ -177,25 +179,6 @@ impl EncodesFields for SVCB {
         self.target_name.emit(encoder)?;
         parameters::emit_parameters(encoder, self.svc_params.as_slice())?;
         Ok(())
-    }
-}
-
-// Whether both values are of one variant, and equal. Inlined, so that a list is compared without a call for each value.
-#[inline(always)]
-fn same_value(a: &SvcParamValue, b: &SvcParamValue) -> bool
-    ensures { result ≡ value_eq a.now b.now }
-{
-    match (a, b) {
-        (SvcParamValue::Mandatory(a), SvcParamValue::Mandatory(b)) => *a == *b,
-        (SvcParamValue::Alpn(a), SvcParamValue::Alpn(b)) => *a == *b,
-        (SvcParamValue::NoDefaultAlpn, SvcParamValue::NoDefaultAlpn) => true,
-        (SvcParamValue::Port(a), SvcParamValue::Port(b)) => *a == *b,
-        (SvcParamValue::Ipv4Hint(a), SvcParamValue::Ipv4Hint(b)) => *a == *b,
-        (SvcParamValue::EchConfigList(a), SvcParamValue::EchConfigList(b)) => *a == *b,
-        (SvcParamValue::Ipv6Hint(a), SvcParamValue::Ipv6Hint(b)) => *a == *b,
-        (SvcParamValue::DohPath(a), SvcParamValue::DohPath(b)) => *a == *b,
-        (SvcParamValue::Unknown(a), SvcParamValue::Unknown(b)) => *a == *b,
-        _ => false,
     }
 }
 

@@ -40,10 +40,9 @@ impl SVCB {
     /// `sort_params` puts them in order, and `emit` returns an error if they do not strictly rise.
     ///
     /// A parameter is a key, and perhaps a `=` and a value; the first `=` divides them. The key is a text of
-    /// [`SvcParamKey`]. Quotes around the value are dropped; a single quote alone is an error. The rest is, for
-    /// `mandatory`, `alpn`, `ipv4hint` and `ipv6hint`, a list of keys, names or addresses; for `port` a decimal number
-    /// of 16 bits; for `ech` base64 (RFC 4648, section 4); for `dohpath` a path (RFC 9461, section 5); for `key` with a
-    /// number its octets, which are none without a `=`. `no-default-alpn` has no value and no `=`.
+    /// [`SvcParamKey`]. Quotes around the value are dropped; a single quote alone is an error. The variants of
+    /// [`SvcParamValue`] say what the rest is for each key; for `key` with a number it is the value's octets, which are
+    /// none without a `=`.
     ///
     /// The iterator must end.
     ///

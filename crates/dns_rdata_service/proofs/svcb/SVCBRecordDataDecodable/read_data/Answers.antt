@@ -10,13 +10,15 @@ returns-then-len-read-clause-region c =
 
 pub returns-in_err-svc_params-clause-region : goal.returns-in_err-svc_params-clause-region
 returns-in_err-svc_params-clause-region c =
-    rw (is_err _ _ c.from_residual-in_err-svc_params.ensures.1) (svcb_refused c.args.length _ c.in_ok-read_u16.ensures.taken c.in_ok-target_name.ensures.field
-    (omega (arith, c.index-start.ensures.offset, c.index.ensures.offset, c.if-len-read.false, c.unverified-len.ensures)) c.in_err-svc_params.ensures.region)
+    rw (is_err _ _ c.from_residual-in_err-svc_params.ensures.1) (svcb_refused c.args.length _
+    (record { octets = c.index-start.ensures.octets; short = omega arith }) c.in_ok-read_u16.ensures.taken c.in_ok-target_name.ensures.field
+    (omega (arith, c.index-start.ensures.offset, c.unverified-len.ensures)) c.in_err-svc_params.ensures.region)
 
 pub returns-clause-region : goal.returns-clause-region
 returns-clause-region c =
-    rw c.unverified-svc_priority.ensures (svcb_took c.args.length _ c.in_ok-read_u16.ensures.taken c.in_ok-target_name.ensures.field (omega arith)
-    (omega (arith, c.index-start.ensures.offset, c.index.ensures.offset, c.if-len-read.false, c.unverified-len.ensures)) c.in_ok-svc_params.ensures.region)
+    let params = c.in_ok-svc_params.ensures in
+    rw c.unverified-svc_priority.ensures (svcb_took c.args.length _ (record { octets = c.index-start.ensures.octets; short = omega arith }) c.in_ok-read_u16.ensures.taken
+    c.in_ok-target_name.ensures.field (omega (arith, c.index-start.ensures.offset, c.unverified-len.ensures)) params.taken.took params.taken.texts params.elsewhere)
 
 pub returns-clause-after_read : goal.returns-clause-after_read
 returns-clause-after_read c =

@@ -1,6 +1,6 @@
-use Rattle.dns_rdata_service.proofs.SvcbValues.{unnamed_key, unnamed_value}
+use Rattle.dns_rdata_service.proofs.SvcbValues.{unnamed_value}
 use Rattle.dns_rdata_service.proofs.svcb.value.SvcParamValue.of_octets.Goals as goal
 
 pub returns-in_ok-read-in-Key-clause-read : goal.returns-in_ok-read-in-Key-clause-read
-returns-in_ok-read-in-Key-clause-read c = unnamed_value _ _ _ (unnamed_key c.args.key c.requires c.in-Key.is)
-    (rw c.new-decoder.ensures at c.in_ok-read-in-Key.ensures.reads.1.body)
+returns-in_ok-read-in-Key-clause-read c =
+    unnamed_value c.args.key _ _ c.requires c.in-Key.is (rw c.new-decoder.ensures at c.in_ok-read-in-Key.ensures.reads.1.body)
