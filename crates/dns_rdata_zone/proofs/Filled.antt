@@ -7,7 +7,7 @@ use Rattle.dns_fields.specs.{Labels.DomainName, Labels.AreLabels, Labels.wire, O
 use Rattle.dns_fields.specs.Fields.{Kind, Value, Values, Name, Options, Field, Stands, CompleteOptions, TruncatedOptions, option_tlvs, all_emittable}
 use Rattle.dns_fields.specs.Fields.{canonical}
 use Rattle.dns_fields.specs.Tlvs.{Numbered, tlv, tlvs, string, as_tlv, AllHeld, IsTlv, OptionValue, Subnet, OpaqueOption, option_octets}
-use Rattle.dns_fields.specs.Tlvs.{OptionHeld, ParameterHeld, IsEmittable, IsBody}
+use Rattle.dns_fields.specs.Tlvs.{OptionHeld, ParameterHeld, IsEmittable, IsBody, parameter_octets}
 use Rattle.dns_fields.proofs.OctetLaws.{AreOctets-nil, AreOctets-cons, AreOctets-head, AreOctets-tail, AreOctets-same, AreOctets-append}
 use Rattle.dns_fields.proofs.OctetLaws.{AreOctets-front, AreOctets-back, AreOctets-at, labels_octets, tlv_octets, tlv_body, field_octets_are}
 use Rattle.dns_fields.proofs.Stays.{labels_stand}
@@ -21,8 +21,7 @@ use Rattle.dns_rdata_certs.specs.{TLSA.tlsa_shape, TLSA.tlsa_fields, declared.tl
 use Rattle.dns_rdata_service.specs.{Parameters.Parameter, Parameters.parameter_of, SVCB.svcb_shape, SVCB.svcb_fields, SvcParamKey.key_number}
 use Rattle.dns_rdata_service.specs.{declared.svcb.SVCB.SVCB, declared.svcb.value.SvcParamValue.SvcParamValue}
 use Rattle.dns_rdata_service.specs.SvcParamValue.{value_of, a_octets, aaaa_octets}
-use Rattle.dns_rdata_service.specs.declared.svcb.value.SvcParamValue.TheVariants.{Mandatory, Alpn, NoDefaultAlpn, Port, Ipv4Hint, EchConfigList}
-use Rattle.dns_rdata_service.specs.declared.svcb.value.SvcParamValue.TheVariants.{Ipv6Hint, DohPath, Unknown}
+use Rattle.dns_rdata_service.specs.declared.svcb.value.SvcParamValue.TheVariants.{Mandatory, Alpn, NoDefaultAlpn, Port, Ipv4Hint, Ipv6Hint}
 use Rattle.dns_rdata_zone.specs.{ZoneGives.AreDataOf, ZoneGives.TextGives, ZoneReads.FillsGive, ZoneReads.FillsPrint, ZoneReads.FillsTell}
 use Rattle.dns_rdata_zone.specs.Readable.{IsString, IsWritable, IsWritableTlsa, IsWritableValue, IsWritableParameter, IsWritableService, FieldsFit}
 use Rattle.dns_rdata_zone.specs.Readable.{IsReadable}
@@ -121,10 +120,8 @@ value_fits (Alpn x) body e b o = (e.0, texts_are x.0 (AreOctets-same body (flat_
 value_fits NoDefaultAlpn body e b o = tt
 value_fits (Port n) body e b o = e
 value_fits (Ipv4Hint x) body e b o = hints4 x.0 e (AreOctets-same body (flat_map (λ s. s) (map a_octets x.0)) b o)
-value_fits (EchConfigList x) body e b o = AreOctets-same body x.0 b o
 value_fits (Ipv6Hint x) body e b o = hints6 x.0 e (AreOctets-same body (flat_map (λ s. s) (map aaaa_octets x.0)) b o)
-value_fits (DohPath x) body e b o = AreOctets-same body x.0 b o
-value_fits (Unknown x) body e b o = AreOctets-same body x.0 b o
+value_fits v body e b o = AreOctets-same body (parameter_octets (value_of v)) b o
 
 parameters_fit : (read : List (Numbered (List ℕ))) (ps : List Parameter) → AllByRecursion IsTlv read → AllHeld ParameterHeld read (map parameter_of ps)
     → AreOctets (tlvs read) → AllByRecursion IsWritableParameter ps

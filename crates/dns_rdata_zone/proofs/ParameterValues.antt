@@ -3,7 +3,7 @@ use Rattle.std.proofs.Common.{rules, ◌≡◌, ◌≢◌, ℕ, zero, suc, ◌+�
 use Rattle.std.proofs.Common.{◌++◌, map, length, take, drop, get_or, All, inl, inr, decimal, codes, Ok, refl, sym, ◌∙◌, ap, subst, append_assoc}
 use Rattle.std.proofs.Common.{arith}
 use Rattle.std.specs.Prelude.{flat_map, slice_index, not, bytes_eq}
-use Rattle.std.specs.{Int.bytes_high_first, List.AllByRecursion, List.AllZip, List.list_all, List.Sorted.IsStrictlyIncreasing}
+use Rattle.std.specs.{Int.bytes_high_first, List.AllByRecursion, List.AllZip, List.list_all, List.join_with_byte, List.Sorted.IsStrictlyIncreasing}
 use Rattle.std.specs.Net.Addr.{IsIpv4Addr, IsIpv6Addr, ipv4_octets, ipv6_segments, octets_of}
 use Rattle.std.specs.Net.Text.{ipv4_text, ipv6_text, hex_groups_text}
 use Rattle.std.proofs.{NetLemmas.Texts.AllSegments, NetLemmas.Texts.AllSegments-drop, lemmas.Str.Parse.digit_at, lemmas.Bool.Decides.nat_tests}
@@ -18,13 +18,15 @@ use Rattle.dns_rdata_service.specs.{SvcParamKey.key_number, declared.svcb.key.Sv
 use Rattle.dns_rdata_service.specs.SvcParamValue.{a_octets, aaaa_octets}
 use Rattle.dns_tokens.proofs.Printed.{ipv4_back, ipv6_back}
 use Rattle.dns_zone_tokens.specs.Letters.{Letter, plain, letters, octet_of, escapes_stand}
-use Rattle.dns_zone_parameters.specs.{Values.HasOctets, Values.IsPort, Values.forbids_escapes, Values.IsValue, declared.key.ParameterKey.ParameterKey}
-use Rattle.dns_zone_parameters.specs.Lists.{items_from, items_in, unescaped_from, escapes_end_from, IsItem, IsList, IsListedKey, IsKeyList}
+use Rattle.dns_zone_parameters.specs.{Values.HasOctets, Values.IsPort, Values.forbids_escapes, Values.IsValue, Laws.IsPlainItem, Laws.IsProtocolName}
+use Rattle.dns_zone_parameters.proofs.WrittenLists.{plain_items, names_read}
+use Rattle.dns_zone_parameters.specs.Lists.{items_in, IsItem, IsList, IsListedKey, IsKeyList}
 use Rattle.dns_zone_parameters.specs.declared.lists.ListItem.TheVariants as items
 use Rattle.dns_rdata_zone.specs.{Lists.commas, Spellings.escaped, Spellings.item_octet, Spellings.protocol_octet}
 use Rattle.dns_rdata_zone.specs.Parameters.{key_name, named_key, protocol, rises_from}
-use Rattle.dns_rdata_zone.proofs.{Dividing.is_run_octet, Dividing.AreRunOctets, Dividing.run_both, Letters.first_true, Letters.second_true, ParameterForms.key_of}
-use Rattle.dns_rdata_zone.proofs.{ParameterForms.key_is, ParameterForms.by_key, RowForms.bytes_of, RowForms.bounded, TokenForms.text_form}
+use Rattle.dns_rdata_zone.proofs.{Dividing.is_run_octet, Dividing.AreRunOctets, Dividing.run_both, Letters.first_true, Letters.second_true, ParameterForms.zone_key}
+use Rattle.dns_rdata_zone.proofs.ParameterForms.{key_is, AreItemOctets, item_run, name_items}
+use Rattle.dns_rdata_zone.proofs.{RowForms.bytes_of, RowForms.bounded, TokenForms.text_form}
 
 -- ---- texts of values
 
@@ -49,7 +51,7 @@ no_slash [] h = tt
 no_slash (c ∷ s) h = (run_slash c h.0, no_slash s h.1)
 
 -- a value whose text needs no escape
-pub plain_value : (key : ParameterKey) (s octets : List ℕ) → AreRunOctets s → HasOctets key s octets → length octets < 2 ^ 16 → IsValue key s octets
+pub plain_value : (key : SvcParamKey) (s octets : List ℕ) → AreRunOctets s → HasOctets key s octets → length octets < 2 ^ 16 → IsValue key s octets
 plain_value key s octets h has fits = record {
   plain = λ _. no_slash s h;
   escapes = plain_escapes s h;
@@ -58,7 +60,7 @@ plain_value key s octets h has fits = record {
 }
 
 -- a value whose text was escaped, of a key that does not forbid it
-pub escaped_value : (key : ParameterKey) (s octets : List ℕ) → forbids_escapes key ≡ false → AreOctets s → HasOctets key s octets → length octets < 2 ^ 16
+pub escaped_value : (key : SvcParamKey) (s octets : List ℕ) → forbids_escapes key ≡ false → AreOctets s → HasOctets key s octets → length octets < 2 ^ 16
     → IsValue key (flat_map escaped s) octets
 escaped_value key s octets free h has fits =
     let form = text_form true s h in
@@ -71,41 +73,27 @@ escaped_value key s octets free h has fits =
 
 -- ---- lists whose items have no comma and no `\`
 
--- it needs no escape in a token, and is no comma
-abbrev pub AreItemOctets : List ℕ → Type 0
-AreItemOctets s = AllByRecursion (λ c. (is_run_octet c ≡ true) × (eqb c 44 ≡ false)) s
+-- items with a comma between two
+commas_joined : {X : Type 0} (f : X → List ℕ) (xs : List X) → commas f xs ≡ join_with_byte 44 (map f xs)
+commas_joined f [] = refl
+commas_joined f (x ∷ []) = append-nil (f x)
+commas_joined f (x ∷ y ∷ xs) = ap (λ (t : List ℕ). f x ++ 44 ∷ t) (commas_joined f (y ∷ xs))
 
-item_then : (s front rest : List ℕ) → AreItemOctets s → items_from false front (s ++ 44 ∷ rest) ≡ (front ++ s) ∷ items_from false [] rest
-item_then [] front rest h = ap (λ (l : List ℕ). l ∷ items_from false [] rest) (sym (append-nil front))
-item_then (c ∷ s) front rest h = rw (h.0.1, run_slash c h.0.0)
-    (item_then s (front ++ c ∷ []) rest h.1 ∙ ap (λ (l : List ℕ). l ∷ items_from false [] rest) (append_assoc front (c ∷ []) s))
+some_mapped : {X : Type 0} (f : X → List ℕ) (xs : List X) → xs ≢ [] → map f xs ≢ []
+some_mapped f [] some e = some refl
+some_mapped f (x ∷ xs) some e = absurd (cc e)
 
-item_end : (s front : List ℕ) → AreItemOctets s → items_from false front s ≡ (front ++ s) ∷ []
-item_end [] front h = ap (λ (l : List ℕ). l ∷ []) (sym (append-nil front))
-item_end (c ∷ s) front h = rw (h.0.1, run_slash c h.0.0)
-    (item_end s (front ++ c ∷ []) h.1 ∙ ap (λ (l : List ℕ). l ∷ []) (append_assoc front (c ∷ []) s))
+plain_item : (s : List ℕ) → AreItemOctets s → IsPlainItem s
+plain_item [] h = tt
+plain_item (c ∷ s) h = ((λ e. apart c 44 h.0.1 e, λ e. apart c 92 (run_slash c h.0.0) e), plain_item s h.1) where
+  apart : (a b : ℕ) → eqb a b ≡ false → a ≢ b
+  apart a b h e = grind (arith, nat_tests)
 
--- the text is one item, before a comma and at the end
-pub record IsOneItem (text : List ℕ) : Type 0 where
-  pub then : (rest : List ℕ) → items_from false [] (text ++ 44 ∷ rest) ≡ text ∷ items_from false [] rest
-  pub end : items_from false [] text ≡ text ∷ []
-
-pub plain_item : (s : List ℕ) → AreItemOctets s → IsOneItem s
-plain_item s h = record { then = λ rest. item_then s [] rest h; end = item_end s [] h }
-
-pub items_are : {X : Type 0} (f : X → List ℕ) (x : X) (xs : List X) → AllByRecursion (λ y. IsOneItem (f y)) (x ∷ xs)
-    → items_in (f x ++ flat_map (λ y. codes "," ++ f y) xs) ≡ f x ∷ map f xs
-items_are f x [] h = ap items_in (append-nil (f x)) ∙ h.0.end
-items_are f x (y ∷ ys) h =
-    h.0.then (f y ++ flat_map (λ z. codes "," ++ f z) ys) ∙ ap (λ (l : List (List ℕ)). f x ∷ l) (items_are f y ys h.1)
-
-pub commas_are : {X : Type 0} (f : X → List ℕ) (xs : List X) → xs ≢ [] → AllByRecursion (λ y. IsOneItem (f y)) xs → items_in (commas f xs) ≡ map f xs
-commas_are f [] some h = absurd (some refl)
-commas_are f (x ∷ xs) some h = items_are f x xs h
-
-item_run : (s : List ℕ) → AreItemOctets s → AreRunOctets s
-item_run [] h = tt
-item_run (c ∷ s) h = (h.0.0, item_run s h.1)
+pub commas_are : {X : Type 0} (f : X → List ℕ) (xs : List X) → xs ≢ [] → AllByRecursion (λ y. AreItemOctets (f y)) xs → items_in (commas f xs) ≡ map f xs
+commas_are f xs some h = ap items_in (commas_joined f xs) ∙ plain_items (map f xs) (some_mapped f xs some) (each xs h) where
+  each : (xs : List _) → AllByRecursion (λ y. AreItemOctets (f y)) xs → AllByRecursion IsPlainItem (map f xs)
+  each [] h = tt
+  each (x ∷ xs) h = (plain_item (f x) h.0, each xs h.1)
 
 further_run : {X : Type 0} (f : X → List ℕ) (xs : List X) → AllByRecursion (λ y. AreItemOctets (f y)) xs → AreRunOctets (flat_map (λ y. codes "," ++ f y) xs)
 further_run f [] h = tt
@@ -115,83 +103,15 @@ pub commas_run : {X : Type 0} (f : X → List ℕ) (xs : List X) → AllByRecurs
 commas_run f [] h = tt
 commas_run f (x ∷ xs) h = run_both (f x) (flat_map (λ y. codes "," ++ f y) xs) (item_run (f x) h.0) (further_run f xs h.1)
 
-pub each_item : {X : Type 0} (f : X → List ℕ) (xs : List X) → AllByRecursion (λ y. AreItemOctets (f y)) xs → AllByRecursion (λ y. IsOneItem (f y)) xs
-each_item f [] h = tt
-each_item f (x ∷ xs) h = (plain_item (f x) h.0, each_item f xs h.1)
-
 -- ---- names of protocols
 
 abbrev pub item_text : List ℕ → List ℕ
 item_text name = flat_map item_octet name
 
-spelled_octet : (c : ℕ) (front text : List ℕ) → items_from false front (item_octet c ++ text) ≡ items_from false (front ++ item_octet c) text
-spelled_octet c front text = by_test (eqb c 44 || eqb c 92) refl where
-  by_test : (b : Bool) → eqb c 44 || eqb c 92 ≡ b
-      → items_from false front (cond b (92 ∷ c ∷ []) (c ∷ []) ++ text) ≡ items_from false (front ++ cond b (92 ∷ c ∷ []) (c ∷ [])) text
-  by_test true e = ap (λ (f : List ℕ). items_from false f text) (append_assoc front (92 ∷ []) (c ∷ []))
-  by_test false e =
-      let comma : eqb c 44 ≡ false = grind (arith, nat_tests) in
-      let slash : eqb c 92 ≡ false = grind (arith, nat_tests) in
-      rw (comma, slash) refl
-
-spelled_then : (s front rest : List ℕ) → items_from false front (item_text s ++ 44 ∷ rest) ≡ (front ++ item_text s) ∷ items_from false [] rest
-spelled_then [] front rest = ap (λ (l : List ℕ). l ∷ items_from false [] rest) (sym (append-nil front))
-spelled_then (c ∷ s) front rest =
-    ap (items_from false front) (append_assoc (item_octet c) (item_text s) (44 ∷ rest))
-    ∙ spelled_octet c front (item_text s ++ 44 ∷ rest)
-    ∙ spelled_then s (front ++ item_octet c) rest
-    ∙ ap (λ (l : List ℕ). l ∷ items_from false [] rest) (append_assoc front (item_octet c) (item_text s))
-
-spelled_end : (s front : List ℕ) → items_from false front (item_text s) ≡ (front ++ item_text s) ∷ []
-spelled_end [] front = ap (λ (l : List ℕ). l ∷ []) (sym (append-nil front))
-spelled_end (c ∷ s) front = spelled_octet c front (item_text s) ∙ spelled_end s (front ++ item_octet c)
-    ∙ ap (λ (l : List ℕ). l ∷ []) (append_assoc front (item_octet c) (item_text s))
-
-spelled_item : (s : List ℕ) → IsOneItem (item_text s)
-spelled_item s = record { then = λ rest. spelled_then s [] rest; end = spelled_end s [] }
-
-each_spelled : (names : List (List ℕ)) → AllByRecursion (λ s. IsOneItem (item_text s)) names
-each_spelled [] = tt
-each_spelled (s ∷ names) = (spelled_item s, each_spelled names)
-
-octet_escapes : (c : ℕ) (text : List ℕ) → escapes_end_from false (item_octet c ++ text) ≡ escapes_end_from false text
-octet_escapes c text = by_test (eqb c 44 || eqb c 92) refl where
-  by_test : (b : Bool) → eqb c 44 || eqb c 92 ≡ b → escapes_end_from false (cond b (92 ∷ c ∷ []) (c ∷ []) ++ text) ≡ escapes_end_from false text
-  by_test true e = refl
-  by_test false e = let slash : eqb c 92 ≡ false = grind (arith, nat_tests) in ap (λ (b : Bool). escapes_end_from b text) slash
-
-octet_unescaped : (c : ℕ) (text : List ℕ) → unescaped_from false (item_octet c ++ text) ≡ c ∷ unescaped_from false text
-octet_unescaped c text = by_test (eqb c 44 || eqb c 92) refl where
-  by_test : (b : Bool) → eqb c 44 || eqb c 92 ≡ b → unescaped_from false (cond b (92 ∷ c ∷ []) (c ∷ []) ++ text) ≡ c ∷ unescaped_from false text
-  by_test true e = refl
-  by_test false e = let slash : eqb c 92 ≡ false = grind (arith, nat_tests) in rw slash refl
-
-all_escapes : (s : List ℕ) → escapes_end_from false (item_text s) ≡ true
-all_escapes [] = refl
-all_escapes (c ∷ s) = octet_escapes c (item_text s) ∙ all_escapes s
-
-all_unescaped : (s : List ℕ) → s ≡ unescaped_from false (item_text s)
-all_unescaped [] = refl
-all_unescaped (c ∷ s) = ap (λ (t : List ℕ). c ∷ t) (all_unescaped s) ∙ sym (octet_unescaped c (item_text s))
-
--- names of 1 to 255 octets
-abbrev pub AreNames : List (List ℕ) → Type 0
-AreNames names = AllByRecursion (λ s. (1 ≤ length s) × (length s ≤ 255)) names
-
-each_name : (names : List (List ℕ)) → AreNames names → AllZip (IsItem items.Protocol) (map item_text names) (map string names)
-each_name [] h = tt
-each_name (s ∷ names) h = ((s, record { escapes = all_escapes s; value = all_unescaped s; some = h.0.0; fits = h.0.1 }, refl), each_name names h.1)
-
-names_joined : (names : List (List ℕ)) → flat_map string names ≡ flat_map (λ s. s) (map string names)
-names_joined [] = refl
-names_joined (s ∷ names) = ap (λ (t : List ℕ). string s ++ t) (names_joined names)
-
-pub names_list : (names : List (List ℕ)) → names ≢ [] → AreNames names → IsList items.Protocol (commas item_text names) (flat_map string names)
-names_list names some h = record {
-  parts = map string names;
-  each = subst (λ (l : List (List ℕ)). AllZip (IsItem items.Protocol) l (map string names)) (sym (commas_are item_text names some (each_spelled names))) (each_name names h);
-  joined = names_joined names;
-}
+pub names_list : (names : List (List ℕ)) → names ≢ [] → AllByRecursion IsProtocolName names
+    → IsList items.Protocol (commas item_text names) (flat_map string names)
+names_list names some h =
+    subst (λ (t : List ℕ). IsList items.Protocol t (flat_map string names)) (sym (commas_joined item_text names)) (names_read names some h)
 
 one_of_two : (b : Bool) (c : ℕ) → c < 256 → AreOctets (cond b (92 ∷ c ∷ []) (c ∷ []))
 one_of_two true c h = All-cons (λ x. x < 256) 92 (c ∷ []) (omega arith) (All-cons (λ x. x < 256) c [] h (All-nil (λ x. x < 256)))
@@ -261,7 +181,7 @@ each_key : (last : ℕ) (ks : List SvcParamKey) → Above last (map key_number k
 each_key last [] h low = tt
 each_key last (k ∷ ks) h low =
     let own = key_is (key_number k) low.0 in
-    (record { key = key_of (key_number k); named = own.spelled.named; number = sym own.number; other = λ e. above_not_zero (key_number k) last h.0 e }, each_key (key_number k) ks h.1 low.1) where
+    (record { key = zone_key (key_number k); named = own.spelled.named; number = sym own.number; other = λ e. above_not_zero (key_number k) last h.0 e }, each_key (key_number k) ks h.1 low.1) where
       above_not_zero : (n m : ℕ) → m < n → n ≡ 0 → ⊥
       above_not_zero n m lt e = omega (arith, lt, e)
 
@@ -282,25 +202,13 @@ item_by_index : (s : List ℕ) → ((k : ℕ) → k < length s → (is_run_octet
 item_by_index [] h = tt
 item_by_index (c ∷ s) h = (h 0 (omega arith), item_by_index s (λ k lt. h (suc k) (omega arith)))
 
-decimal_item : (n : ℕ) → n < 2 ^ 64 → AreItemOctets (decimal n)
-decimal_item n small =
-    let num = decimal_is_IsNumeral n small in
-    item_by_index (decimal n) (λ k lt. let digit = digit_at (decimal n) k num.0.1 lt in digit_item (get_or (decimal n) k 0) (omega (arith, digit)) (omega (arith, digit)))
-
 item_both : (a b : List ℕ) → AreItemOctets a → AreItemOctets b → AreItemOctets (a ++ b)
 item_both [] b h k = k
 item_both (c ∷ a) b h k = (h.0, item_both a b h.1 k)
 
--- what is true of each name of a key
-key_item : (n : ℕ) → n < 65535 → AreItemOctets (key_name n)
-key_item n h = by_key (λ (s : List ℕ) (k : ParameterKey) (m : ℕ). AreItemOctets s) n
-    (comma_tested (codes "mandatory") refl) (comma_tested (codes "alpn") refl) (comma_tested (codes "no-default-alpn") refl)
-    (comma_tested (codes "port") refl) (comma_tested (codes "ipv4hint") refl) (comma_tested (codes "ech") refl) (comma_tested (codes "ipv6hint") refl)
-    (item_both (codes "key") (decimal n) (comma_tested (codes "key") refl) (decimal_item n (omega (arith, h))))
-
 keys_items : (ks : List SvcParamKey) → AllByRecursion (λ n. n < 65535) (map key_number ks) → AllByRecursion (λ k. AreItemOctets (named_key k)) ks
 keys_items [] h = tt
-keys_items (k ∷ ks) h = (key_item (key_number k) h.0, keys_items ks h.1)
+keys_items (k ∷ ks) h = (name_items (key_name (key_number k)) (key_is (key_number k) h.0).spelled.octets, keys_items ks h.1)
 
 pub keys_run : (ks : List SvcParamKey) → AllByRecursion (λ n. n < 65535) (map key_number ks) → AreRunOctets (commas named_key ks)
 keys_run ks h = commas_run named_key ks (keys_items ks h)
@@ -309,7 +217,7 @@ pub keys_list : (ks : List SvcParamKey) → ks ≢ [] → Above 0 (map key_numbe
     → IsKeyList (commas named_key ks) (flat_map (bytes_high_first 2) (map key_number ks))
 keys_list ks some above low = record {
   keys = map key_number ks;
-  each = subst (λ (l : List (List ℕ)). AllZip IsListedKey l (map key_number ks)) (sym (commas_are named_key ks some (each_item named_key ks (keys_items ks low)))) (each_key 0 ks above low);
+  each = subst (λ (l : List (List ℕ)). AllZip IsListedKey l (map key_number ks)) (sym (commas_are named_key ks some (keys_items ks low))) (each_key 0 ks above low);
   order = map key_number ks;
   same = IsPermutation-refl (map key_number ks);
   rising = increasing 0 (map key_number ks) above;
@@ -367,7 +275,7 @@ hints4_run xs h = commas_run a_text xs (items4 xs h)
 pub hints4_list : (xs : List A) → xs ≢ [] → AllByRecursion (λ a. IsIpv4Addr a.0) xs → IsList items.Ipv4 (commas a_text xs) (flat_map (λ s. s) (map a_octets xs))
 hints4_list xs some h = record {
   parts = map a_octets xs;
-  each = subst (λ (l : List (List ℕ)). AllZip (IsItem items.Ipv4) l (map a_octets xs)) (sym (commas_are a_text xs some (each_item a_text xs (items4 xs h)))) (each4 xs h);
+  each = subst (λ (l : List (List ℕ)). AllZip (IsItem items.Ipv4) l (map a_octets xs)) (sym (commas_are a_text xs some (items4 xs h))) (each4 xs h);
   joined = refl;
 }
 
@@ -378,7 +286,7 @@ pub hints6_list : (xs : List AAAA) → xs ≢ [] → AllByRecursion (λ a. IsIpv
     → IsList items.Ipv6 (commas aaaa_text xs) (flat_map (λ s. s) (map aaaa_octets xs))
 hints6_list xs some h = record {
   parts = map aaaa_octets xs;
-  each = subst (λ (l : List (List ℕ)). AllZip (IsItem items.Ipv6) l (map aaaa_octets xs)) (sym (commas_are aaaa_text xs some (each_item aaaa_text xs (items6 xs h)))) (each6 xs h);
+  each = subst (λ (l : List (List ℕ)). AllZip (IsItem items.Ipv6) l (map aaaa_octets xs)) (sym (commas_are aaaa_text xs some (items6 xs h))) (each6 xs h);
   joined = refl;
 }
 

@@ -1,27 +1,20 @@
 -- Service parameters in zone files (RFC 9460, 2.1, 7 and appendix A).
-use Rattle.std.specs.Prelude.{ℕ, ◌==◌, ◌&&◌, nat_lt, Bool, true, if◌then◌else◌, List, [], ◌∷◌, ◌++◌, flat_map, map, codes, decimal}
+use Rattle.std.specs.Prelude.{ℕ, ◌==◌, ◌&&◌, nat_lt, Bool, true, false, Option, Some, None, if◌then◌else◌, List, [], ◌∷◌, ◌++◌, flat_map, map, codes, decimal}
 use Rattle.std.specs.List.{list_all}
 use Rattle.base64.specs.{Engines.standard, GeneralPurpose.encode_of}
-use Rattle.dns_fields.specs.Tlvs.{is_some}
+use Rattle.dns_fields.specs.Tlvs.{is_some, parameter_octets}
 use Rattle.dns_rdata_base.specs.{A.a_text, AAAA.aaaa_text}
-use Rattle.dns_rdata_service.specs.{SvcParamKey.key_number, Parameters.Parameter, declared.svcb.key.SvcParamKey.SvcParamKey}
+use Rattle.dns_rdata_service.specs.SvcParamKey.{is_unnamed, key_number, key_of, key_text}
+use Rattle.dns_rdata_service.specs.{Parameters.Parameter, SvcParamValue.own_key, SvcParamValue.value_of, declared.svcb.key.SvcParamKey.SvcParamKey}
 use Rattle.dns_rdata_service.specs.declared.svcb.value.SvcParamValue.{SvcParamValue}
 use Rattle.dns_rdata_service.specs.declared.svcb.value.SvcParamValue.TheVariants.{Mandatory, Alpn, NoDefaultAlpn, Port, Ipv4Hint, EchConfigList}
-use Rattle.dns_rdata_service.specs.declared.svcb.value.SvcParamValue.TheVariants.{Ipv6Hint, DohPath, Unknown}
+use Rattle.dns_rdata_service.specs.declared.svcb.value.SvcParamValue.TheVariants.{Ipv6Hint, Unknown}
 use Rattle.dns_rdata_zone.specs.{Lists.commas, Spellings.protocol_octet, Strings.quoted}
 
 -- A key's name (RFC 9460, 14.3.2), or `key` and the number if it has no name (2.1). Key 7 is written as a number, since
 -- readers from before RFC 9461 do not know `dohpath`.
 abbrev pub key_name : ℕ → List ℕ
-key_name n =
-    if n == 0 then codes "mandatory" else
-    if n == 1 then codes "alpn" else
-    if n == 2 then codes "no-default-alpn" else
-    if n == 3 then codes "port" else
-    if n == 4 then codes "ipv4hint" else
-    if n == 5 then codes "ech" else
-    if n == 6 then codes "ipv6hint" else
-    codes "key" ++ decimal n
+key_name n = if nat_lt n 7 then key_text (key_of n) else codes "key" ++ decimal n
 
 abbrev pub named_key : SvcParamKey → List ℕ
 named_key key = key_name (key_number key)
@@ -39,8 +32,8 @@ zone_value (Port n) = codes "=" ++ decimal n
 zone_value (Ipv4Hint x) = codes "=" ++ commas a_text x.0
 zone_value (EchConfigList x) = codes "=\"" ++ encode_of standard x.0 ++ codes "\""
 zone_value (Ipv6Hint x) = codes "=" ++ commas aaaa_text x.0
-zone_value (DohPath x) = codes "=" ++ quoted x.0
 zone_value (Unknown x) = if is_some x.0 then codes "=" ++ quoted x.0 else []
+zone_value v = codes "=" ++ quoted (parameter_octets (value_of v))
 
 abbrev pub zone_parameter : Parameter → List ℕ
 zone_parameter p = named_key p.0 ++ zone_value p.1
@@ -56,6 +49,11 @@ rises_from last (k ∷ keys) = nat_lt last k && (nat_lt k 65535 && rises_from k 
 abbrev pub are_some : List (List ℕ) → Bool
 are_some names = list_all is_some names
 
+-- the number is that of a key, if there is one
+abbrev pub is_number_of : ℕ → Option SvcParamKey → Bool
+is_number_of n None = false
+is_number_of n (Some key) = n == key_number key
+
 -- The value has the format of the key with this number, and a text can have it. No text has: no addresses, no
 -- configuration, no path, an empty name of a protocol, mandatory keys that do not rise or are not greater than 0, or
 -- the invalid key 65535.
@@ -67,8 +65,8 @@ value_has_text n (Port port) = n == 3
 value_has_text n (Ipv4Hint x) = n == 4 && is_some x.0
 value_has_text n (EchConfigList x) = n == 5 && is_some x.0
 value_has_text n (Ipv6Hint x) = n == 6 && is_some x.0
-value_has_text n (DohPath x) = n == 7 && is_some x.0
-value_has_text n (Unknown x) = nat_lt 7 n && nat_lt n 65535
+value_has_text n (Unknown x) = is_unnamed (key_of n) && nat_lt n 65535
+value_has_text n v = is_number_of n (own_key v) && is_some (parameter_octets (value_of v))
 
 abbrev pub has_text : Parameter → Bool
 has_text p = value_has_text (key_number p.0) p.1

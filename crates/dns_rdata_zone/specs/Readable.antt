@@ -55,10 +55,8 @@ IsWritableValue (values.Alpn x) = (x.0 ≢ []) × AllByRecursion IsString x.0
 IsWritableValue values.NoDefaultAlpn = Unit {0}
 IsWritableValue (values.Port n) = n < 2 ^ 16
 IsWritableValue (values.Ipv4Hint x) = AllByRecursion (λ a. IsIpv4Addr a.0) x.0
-IsWritableValue (values.EchConfigList x) = AreOctets x.0
 IsWritableValue (values.Ipv6Hint x) = AllByRecursion (λ a. IsIpv6Addr a.0) x.0
-IsWritableValue (values.DohPath x) = AreOctets x.0
-IsWritableValue (values.Unknown x) = AreOctets x.0
+IsWritableValue v = AreOctets (parameter_octets (value_of v))
 
 abbrev pub IsWritableParameter : Parameter → Type 0
 IsWritableParameter p =

@@ -3,7 +3,7 @@
 ghost use Rattle.std.specs.Prelude.{◌≡◌, Some, flat_map, map, true};
 ghost use Rattle.std.specs.List.{list_all};
 ghost use Rattle.dns_rdata_base.specs.{A.a_text, AAAA.aaaa_text};
-ghost use Rattle.dns_rdata_service.specs.SvcParamKey.{key_number};
+ghost use Rattle.dns_rdata_service.specs.SvcParamKey.{is_unnamed, key_number, key_of};
 ghost use Rattle.dns_rdata_zone.specs.Spellings.{protocol_octet};
 ghost use Rattle.dns_rdata_zone.specs.Parameters.{key_name, named_key, protocol, zone_value, zone_parameter, rises_from, has_text, are_some};
 
@@ -24,15 +24,11 @@ impl fmt::Display for KeyName {
     ghost output = { λ k. Some (key_name k.0) };
 
     fn fmt<W: fmt::Write>(&self, f: &mut fmt::Formatter<W>) -> fmt::Result {
-        match self.0 {
-            0 => f.write_str("mandatory"),
-            1 => f.write_str("alpn"),
-            2 => f.write_str("no-default-alpn"),
-            3 => f.write_str("port"),
-            4 => f.write_str("ipv4hint"),
-            5 => f.write_str("ech"),
-            6 => f.write_str("ipv6hint"),
-            number => write!(f, "key{number}"),
+        let number = self.0;
+        if number < 7 {
+            f.write(SvcParamKey::from(number))
+        } else {
+            write!(f, "key{number}")
         }
     }
 }
@@ -177,6 +173,16 @@ fn are_some(names: &[SmallOctets<16>]) -> bool
     names.iter().all(|name| name.len() != 0)
 }
 
+// Whether no key with a name of its own has the number.
+fn is_unnamed(number: u16) -> bool
+    ensures { result ≡ is_unnamed (key_of number) }
+{
+    match SvcParamKey::from(number) {
+        SvcParamKey::Key(_) | SvcParamKey::Key65535 | SvcParamKey::Unknown(_) => true,
+        _ => false,
+    }
+}
+
 /// Returns whether the parameter has a text: its value is the variant of its key, and none of these, which no text can
 /// give: no addresses, an empty ECHConfigList or path, an empty protocol name, mandatory keys that do not strictly rise
 /// or have a 0, and the key 65535.
@@ -193,7 +199,7 @@ pub fn has_text(parameter: &(SvcParamKey, SvcParamValue)) -> bool
         SvcParamValue::EchConfigList(config) => number == 5 && config.0.len() != 0,
         SvcParamValue::Ipv6Hint(hint) => number == 6 && hint.0.len() != 0,
         SvcParamValue::DohPath(path) => number == 7 && path.0.len() != 0,
-        SvcParamValue::Unknown(_) => 7 < number && number < 65535,
+        SvcParamValue::Unknown(_) => is_unnamed(number) && number < 65535,
     }
 }
 

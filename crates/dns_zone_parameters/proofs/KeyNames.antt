@@ -1,90 +1,92 @@
--- A name is of one key at most, and why it is of none.
-use Rattle.std.proofs.Common.{◌≡◌, ℕ, arith, true, false, List, [], ◌∷◌, ◌++◌, drop, refl, sym, ◌∙◌, ap, subst, Some, None, inl, inr, ◌<◌, ◌^◌}
-use Rattle.std.proofs.Common.{length, get_or}
-use Rattle.std.specs.Prelude.{codes, bytes_eq}
-use Rattle.std.specs.{Str.IsUtf8, Str.Parse.AllDigits, Str.Parse.digits_value, Fmt.decimal, Char.is_ascii, List.list_all}
-use Rattle.std.proofs.{lemmas.Str.Parse.IsNumeralModel, lemmas.Option.same_Some, lemmas.Slice.Eq.bytes_eq-Decides}
-use Rattle.std.proofs.lemmas.Fmt.{decimal-digits_value, decimal_is_IsNumeral, decimal_digit, decimal_injective, first_decimal}
-use Rattle.std.proofs.lemmas.Bool.{cases_Bool, cases_lt}
-use Rattle.dns_zone_parameters.specs.{Steps.NumberSpelled, declared.key.ParameterKey.ParameterKey, declared.key.ParameterKey.TheVariants.Numbered}
-use Rattle.dns_zone_parameters.specs.Keys.{named_key, IsNumberedName, IsKeyName}
+-- A name is of one key at most, and which texts of a key are its names.
+use Rattle.std.proofs.Common.{◌≡◌, ◌≢◌, ◌≤◌, ℕ, arith, List, ◌++◌, drop, refl, sym, ◌∙◌, ap, subst, inl, inr, ◌⊎◌, ◌<◌, ◌^◌, length, get_or, length-drop}
+use Rattle.std.specs.Prelude.{codes}
+use Rattle.std.specs.{Str.IsUtf8, Str.Parse.AllDigits, Str.Parse.digits_value, Str.Parse.without_leading_plus, Fmt.decimal}
+use Rattle.std.proofs.lemmas.Str.Parse.{IsNumeralModel, without_leading_plus_none, without_leading_plus_plus, digit_at}
+use Rattle.std.proofs.lemmas.Fmt.{decimal-digits_value, decimal_is_IsNumeral, decimal_digit, first_decimal, IsAscii-decimal}
+use Rattle.std.proofs.lemmas.{Bool.cases_lt, Str.IsUtf8-append, Str.IsUtf8-from_ascii}
+use Rattle.dns_tokens.specs.Forms.{IsNumberToken}
+use Rattle.dns_rdata_service.specs.{SvcParamKey.key_text, ParameterTokens.IsKeyText, ParameterTokens.IsNumberedKey, declared.svcb.key.SvcParamKey.SvcParamKey}
+use Rattle.dns_rdata_service.specs.declared.svcb.key.SvcParamKey.TheVariants.{Key, Key65535, Unknown}
+use Rattle.dns_rdata_service.proofs.ParameterTokens.{key_one}
+use Rattle.dns_zone_parameters.specs.{Keys.IsKeyName, Steps.IsShortest}
 use Rattle.dns_zone_tokens.proofs.TextSteps.{ascii_utf8}
 
-other_name : (name own : List ℕ) → IsUtf8 own → ¬ (IsUtf8 name) → bytes_eq name own ≡ false
-other_name name own is isnt = elim (cases_Bool (bytes_eq name own)) [
-  | inl h ↦ absurd (isnt (subst IsUtf8 (sym ((bytes_eq-Decides name own).0 h)) is))
-  | inr h ↦ h
-]
+-- a name is of one key
+pub key_once : (a b : SvcParamKey) (name : List ℕ) → IsKeyName a name → IsKeyName b name → a ≡ b
+key_once a b name x y = key_one name a b x.text y.text
 
--- each name is text
-pub no_text : (name : List ℕ) → ¬ (IsUtf8 name) → named_key name ≡ None
-no_text name isnt =
-    let other : (own : List ℕ) → list_all is_ascii own ≡ true → bytes_eq name own ≡ false =
-    λ own is. other_name name own (ascii_utf8 own is) isnt in
-    rw (
-      other (codes "mandatory") refl,
-      other (codes "alpn") refl,
-      other (codes "no-default-alpn") refl,
-      other (codes "port") refl,
-      other (codes "ipv4hint") refl,
-      other (codes "ech") refl,
-      other (codes "ipv6hint") refl,
-      other (codes "dohpath") refl,
-    ) refl
+-- if a text of the key is no name of it, the text is no name
+pub other_key : (key other : SvcParamKey) (name : List ℕ) → IsKeyText name key → IsKeyName other name → IsKeyName key name
+other_key key other name is own = subst (λ (k : SvcParamKey). IsKeyName k name) (key_one name other key own.text is) own
 
-numbered_none : (n : ℕ) (name : List ℕ) → IsNumberedName n name → named_key name ≡ None
-numbered_none n name is = ap named_key is.spelled
+text_utf8 : (key : SvcParamKey) (name : List ℕ) → IsKeyText name key → IsUtf8 (key_text key)
+unfolding key_text
+text_utf8 (Key n) name is =
+    let fits = is.0.number.fits in
+    IsUtf8-append (codes "key") (decimal n) (ascii_utf8 (codes "key") refl) (IsUtf8-from_ascii (decimal n) (IsAscii-decimal n (omega arith)))
+text_utf8 (Unknown n) name is = absurd is
+text_utf8 key name is = ascii_utf8 _ refl
+
+-- names are text
+pub name_utf8 : (key : SvcParamKey) (name : List ℕ) → IsKeyName key name → IsUtf8 name
+name_utf8 key name is = subst IsUtf8 (sym is.printed) (text_utf8 key name is.text)
+
+-- ---- `key` and a number
 
 digits_themselves : IsNumeralModel (AllDigits 10) (digits_value 10)
 digits_themselves = record { to = λ ds h. h; from = λ ds h. h; same = λ ds h. refl }
 
--- digits without leading zeros are the number as it is written
-pub number_name : (n : ℕ) (name : List ℕ) → NumberSpelled n name → IsNumberedName n name
-number_name n name is =
-    let lead : get_or is.digits 0 0 ≡ 48 → length is.digits ≡ 1 = λ zero_first. elim (cases_lt 1 (length is.digits)) [
-      | inl more ↦ absurd (is.shortest more zero_first)
-      | inr one ↦ (let some = is.numeral.0 in omega (arith, some))
-    ] in
-    let small : digits_value 10 is.digits < 2 ^ 64 = (let v = is.value in let b = is.below in omega arith) in
-    let written : decimal (digits_value 10 is.digits) ≡ is.digits = decimal-digits_value digits_themselves is.digits is.numeral.1 is.numeral.0 lead small in
-    record { spelled = is.spelled ∙ ap (λ (ds : List ℕ). codes "key" ++ ds) (sym written ∙ ap decimal (sym is.value)); below = is.below }
+-- digits without a `+` and without zeros before them are the number as it is printed
+digits_printed : (n : ℕ) (digits : List ℕ) → IsNumberToken 16 n digits → IsShortest (codes "key" ++ digits) → digits ≡ decimal n
+digits_printed n digits is short =
+    let same = without_leading_plus_none digits (no_plus short) in
+    let numeral = rw same at is.digits in
+    let value = rw same at is.value in
+    let fits = is.fits in
+    sym (ap decimal value ∙ decimal-digits_value digits_themselves digits numeral.1 numeral.0 (no_zero short) (omega arith))
+  where
+    no_plus : IsShortest (codes "key" ++ digits) → get_or digits 0 0 ≢ 43
+    no_plus (inl one) plus =
+        let some : 0 < length (drop 1 digits) = subst (λ (ds : List ℕ). 0 < length ds) (without_leading_plus_plus digits plus) is.digits.0 in
+        omega (arith, one, some, length-drop 1 digits)
+    no_plus (inr more) plus = more.2 plus
 
-pub name_number : (n : ℕ) (name : List ℕ) → IsNumberedName n name → NumberSpelled n name
-name_number n name is =
-    let below = is.below in
-    let small : n < 2 ^ 64 = omega arith in
-    let own = decimal_is_IsNumeral n small in record {
-      digits = decimal n;
-      spelled = is.spelled;
-      numeral = own.0;
-      shortest = λ more zero_first. elim (cases_lt 0 n) [
-        | inl some ↦ (let first = first_decimal n some small in absurd (omega (arith, first, zero_first)))
-        | inr none ↦ (let zero_it : n ≡ 0 = omega arith in
-            let length_one : length (decimal n) ≡ 1 = ap (λ (m : ℕ). length (decimal m)) zero_it ∙ ap length (decimal_digit 0 (omega arith)) in
-            absurd (omega (arith, more, length_one)))
-      ];
-      value = sym own.1;
-      below = is.below;
-    }
+    no_zero : IsShortest (codes "key" ++ digits) → get_or digits 0 0 ≡ 48 → length digits ≡ 1
+    no_zero (inl one) zero_first = omega (arith, one)
+    no_zero (inr more) zero_first = absurd (more.1 zero_first)
 
-numbers_one : (name : List ℕ) (n m : ℕ) → IsNumberedName n name → IsNumberedName m name → n ≡ m
-numbers_one name n m a b =
-    let e : codes "key" ++ decimal n ≡ codes "key" ++ decimal m = sym a.spelled ∙ b.spelled in
-    let below = a.below in
-    let other = b.below in
-    decimal_injective n m (omega arith) (omega arith) (ap (drop 3) e)
+pub number_name : (n : ℕ) (name : List ℕ) → IsKeyText name (Key n) → IsShortest name → IsKeyName (Key n) name
+unfolding key_text
+number_name n name is short = record {
+  text = is;
+  printed = is.0.spelled
+      ∙ ap (λ (ds : List ℕ). codes "key" ++ ds) (digits_printed n is.0.digits is.0.number (subst IsShortest is.0.spelled short));
+  valid = λ e. absurd (cc e);
+}
 
-not_both : (name : List ℕ) (key : ParameterKey) → named_key name ≡ Some key → named_key name ≡ None → ⊥
-not_both name key a b = let e : Some key ≡ None = sym a ∙ b in absurd (cc)
+pub name_shortest : (n : ℕ) (name : List ℕ) → IsKeyName (Key n) name → IsShortest name
+unfolding key_text
+name_shortest n name is = subst IsShortest (sym is.printed) (by_length (cases_lt 1 (length (decimal n)))) where
+  small : n < 2 ^ 64
+  small = let fits = is.text.0.number.fits in omega arith
 
--- a name is of one key
-pub key_once : (a b : ParameterKey) (name : List ℕ) → IsKeyName a name → IsKeyName b name → a ≡ b
-key_once (Numbered n) (Numbered m) name x y = ap Numbered (numbers_one name n m x y)
-key_once (Numbered n) b name x y = absurd (not_both name b y (numbered_none n name x))
-key_once a (Numbered m) name x y = absurd (not_both name a x (numbered_none m name y))
-key_once a b name x y = same_Some a b (sym x ∙ y)
+  not_zero : (0 < n) ⊎ (n ≤ 0) → 1 < length (decimal n) → get_or (decimal n) 0 0 ≢ 48
+  not_zero (inl some) more e = let first = first_decimal n some small in omega (arith, first, e)
+  not_zero (inr none) more e =
+      let zero_it : n ≡ 0 = omega arith in
+      let one : length (decimal n) ≡ 1 = ap (λ (m : ℕ). length (decimal m)) zero_it ∙ ap length (decimal_digit 0 (omega arith)) in
+      omega (arith, more, one)
 
--- a name that is no name of its own, and not `key` and a number, is of no key
-pub no_key : (name : List ℕ) → named_key name ≡ None → ((n : ℕ) → IsNumberedName n name → ⊥) → (key : ParameterKey) → IsKeyName key name → ⊥
-no_key name none isnt (Numbered n) is = isnt n is
-no_key name none isnt key is = not_both name key is none
+  by_length : (1 < length (decimal n)) ⊎ (length (decimal n) ≤ 1) → IsShortest (codes "key" ++ decimal n)
+  by_length (inl more) =
+      let own = decimal_is_IsNumeral n small in
+      let digit = digit_at (decimal n) 0 own.0.1 own.0.0 in
+      inr (omega (arith, more), not_zero (cases_lt 0 n) more, λ e. omega (arith, digit, e))
+  by_length (inr less) = let some = (decimal_is_IsNumeral n small).0.0 in inl (omega (arith, less, some))
+
+-- the key's own name
+pub own_name : (key : SvcParamKey) (name : List ℕ) → IsKeyText name key → key ≢ Key65535 → ((n : ℕ) → key ≢ Key n) → IsKeyName key name
+own_name (Key n) name is valid none = absurd (none n refl)
+own_name (Unknown n) name is valid none = absurd is
+own_name key name is valid none = record { text = is; printed = is; valid = valid }

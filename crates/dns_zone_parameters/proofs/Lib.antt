@@ -4,7 +4,7 @@ pub mod Rises
 pub mod Once
 pub mod ValueSteps
 pub mod TokenSteps
-pub mod ParameterSteps
 pub mod OneReading
+pub mod ParameterSteps
 pub mod WrittenLists
 pub mod WrittenTokens

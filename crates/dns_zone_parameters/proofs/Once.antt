@@ -4,10 +4,11 @@ use Rattle.std.specs.{Int.bytes_high_first, List.AllZip, List.flat_map, List.Sor
 use Rattle.std.proofs.NetLemmas.Theorems.{IsIpv4Text_unique, IsIpv6Text_unique}
 use Rattle.base64.specs.declared.decode.DecodeError.{DecodeError}
 use Rattle.dns_fields.specs.Tlvs.{string}
-use Rattle.dns_zone_parameters.specs.{Keys.key_number, Values.HasOctets, declared.key.ParameterKey.ParameterKey, declared.lists.ListItem.ListItem}
+use Rattle.dns_rdata_service.specs.{SvcParamKey.key_number, declared.svcb.key.SvcParamKey.SvcParamKey}
+use Rattle.dns_zone_parameters.specs.{Values.HasOctets, declared.lists.ListItem.ListItem}
 use Rattle.dns_zone_parameters.specs.Lists.{items_in, IsItem, IsList, IsListedKey, IsKeyList}
-use Rattle.dns_zone_parameters.specs.declared.key.ParameterKey.TheVariants.{Mandatory, Alpn, NoDefaultAlpn, Port, Ipv4Hint, Ech, Ipv6Hint, DohPath}
-use Rattle.dns_zone_parameters.specs.declared.key.ParameterKey.TheVariants.{Numbered}
+use Rattle.dns_rdata_service.specs.declared.svcb.key.SvcParamKey.TheVariants.{Mandatory, Alpn, NoDefaultAlpn, Port, Ipv4Hint, EchConfigList}
+use Rattle.dns_rdata_service.specs.declared.svcb.key.SvcParamKey.TheVariants.{Ipv6Hint}
 use Rattle.dns_zone_parameters.specs.declared.lists.ListItem.TheVariants.{Protocol, Ipv4, Ipv6}
 use Rattle.dns_zone_parameters.proofs.{Items.same_both, KeyNames.key_once, Rises.climbs_rising, Rises.order_once}
 
@@ -35,13 +36,12 @@ key_list_once text v w a b =
     b.same (climbs_rising b.order b.rising) in
     a.joined ∙ ap (flat_map (bytes_high_first 2)) order ∙ sym b.joined
 
-pub octets_once : (key : ParameterKey) (text v w : List ℕ) → HasOctets key text v → HasOctets key text w → v ≡ w
+pub octets_once : (key : SvcParamKey) (text v w : List ℕ) → HasOctets key text v → HasOctets key text w → v ≡ w
 octets_once Mandatory text v w a b = key_list_once text v w a b
 octets_once Alpn text v w a b = list_once Protocol text v w a b
 octets_once NoDefaultAlpn text v w a b = a.1 ∙ sym b.1
 octets_once Port text v w a b = a.value ∙ sym b.value
 octets_once Ipv4Hint text v w a b = list_once Ipv4 text v w a b
-octets_once Ech text v w a b = let e : ◌≡◌ {A = Result (List ℕ) DecodeError} (Ok v) (Ok w) = sym a.0 ∙ b.0 in cc
+octets_once EchConfigList text v w a b = let e : ◌≡◌ {A = Result (List ℕ) DecodeError} (Ok v) (Ok w) = sym a.0 ∙ b.0 in cc
 octets_once Ipv6Hint text v w a b = list_once Ipv6 text v w a b
-octets_once DohPath text v w a b = a.0 ∙ sym b.0
-octets_once (Numbered n) text v w a b = a ∙ sym b
+octets_once key text v w a b = a.0 ∙ sym b.0

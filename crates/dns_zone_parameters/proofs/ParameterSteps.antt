@@ -9,22 +9,14 @@ use Rattle.dns_zone_tokens.specs.{Tokens.Token, Tokens.Cursor, Tokens.tokens_at,
 use Rattle.dns_zone_tokens.specs.Remaining.{with_tokens, NoneOfAll, TookAll, PutAll}
 use Rattle.dns_tokens.proofs.Steps.{unless_map}
 use Rattle.dns_zone_tokens.proofs.RemainingSteps.{tokens_more, tokens_ok}
-use Rattle.dns_zone_parameters.specs.{Faults.KeyTwice, Faults.IsFirstTwice, Faults.twice_text, Keys.key_number, Steps.BeginOnlySoFar, Steps.IsFirstFall}
+use Rattle.dns_zone_parameters.specs.{Faults.KeyTwice, Faults.IsFirstTwice, Faults.twice_text, Steps.AreLeft, Steps.IsFirstFall}
 use Rattle.dns_zone_parameters.specs.{Steps.TookWritten, Steps.TookParameter, Steps.TookParameters, Views.parameter_value, declared.parameter.Parameter.Parameter as CodeParameter}
 use Rattle.dns_zone_parameters.specs.Parameters.{Parameter, IsWritten, HasParameter, IsParameter, AreWritten, AreParameters}
-use Rattle.dns_zone_parameters.proofs.{KeyNames.key_once, Rises.Climbs, Rises.climbs_rising, Rises.order_once, Rises.rising_from, Rises.rising_to}
+use Rattle.dns_rdata_service.specs.declared.svcb.key.SvcParamKey.{SvcParamKey}
+use Rattle.dns_zone_parameters.specs.{Keys.IsKeyName, Values.IsValue}
+use Rattle.dns_zone_parameters.proofs.{KeyNames.key_once, OneReading.written_once, Rises.Climbs, Rises.climbs_rising, Rises.order_once, Rises.rising_from, Rises.rising_to}
 
 -- ---- the next parameter
-
-begin_as : (P Q : Parameter → Type 0) (old new : Cursor) → ((p : Parameter) → P p → Q p) → BeginOnlySoFar P old new → BeginOnlySoFar Q old new
-begin_as P Q old new f h = record {
-  only = λ all tokens divided written.
-      let b = h.only all tokens divided written in
-      record { first = b.first; others = b.others; tokens = b.tokens; split = b.split; has = f b.first b.has; divided = b.divided; written = b.written };
-}
-
-one_number : (name value : List ℕ) (p q : Parameter) → HasParameter name value p → HasParameter name value q → q.0 ≡ p.0
-one_number name value p q a b = b.number ∙ ap key_number (key_once b.key a.key name b.named a.named) ∙ sym a.number
 
 -- what is written so is this parameter
 pub took_parameter : (name value : List ℕ) (p : Parameter) (old new : Cursor) → TookWritten name value old new → HasParameter name value p
@@ -33,34 +25,30 @@ took_parameter name value p old new took has = record {
   front = took.front;
   divided = took.divided;
   is = record { name = name; value = value; written = took.written; has = has };
-  only = begin_as (HasParameter name value) (λ q. q.0 ≡ p.0) old new (λ q h. one_number name value p q has h) took.only;
+  only = λ all tokens divided written. (took.only all tokens divided written).2;
 }
+
+-- a value that is none of the key is none of the name
+pub no_value : (e : ParseError) (key : SvcParamKey) (name value : List ℕ) → IsKeyName key name → UnlessParseMemory e (HoldsOfNone (IsValue key value))
+    → UnlessParseMemory e (HoldsOfNone (HasParameter name value))
+no_value e key name value named none = unless_map e (HoldsOfNone (IsValue key value)) (HoldsOfNone (HasParameter name value))
+    (λ h. record { none = λ p has. h.none p.1 (subst (λ (k : SvcParamKey). IsValue k value p.1) (key_once has.key key name has.named named) has.octets) }) none
 
 -- what is written so is no parameter
 pub no_parameter : (e : ParseError) (name value : List ℕ) (old new : Cursor) → TookWritten name value old new
     → UnlessParseMemory e (HoldsOfNone (HasParameter name value))
     → UnlessParseMemory e (NoneOfAll AreWritten old)
 no_parameter e name value old new took none = unless_map e (HoldsOfNone (HasParameter name value)) (NoneOfAll AreWritten old)
-    (λ h. record { none = λ ps tokens divided written. let b = took.only.only ps tokens divided written in h.none b.first b.has }) none
+    (λ h. record { none = λ ps tokens divided written. let b = took.only ps tokens divided written in h.none b.0 b.1 }) none
 
 -- ---- all of them
 
--- the parameters begin with some of these numbers; the others are those that are left
-pub record AllBeginSoFar (numbers : List ℕ) (all : List Parameter) (left : Cursor) : Type 0 where
-  pub front : List Parameter
-  pub others : List Parameter
-  pub tokens : List Token
-  pub split : all ≡ front ++ others
-  pub same : map (λ p. p.0) front ≡ numbers
-  pub divided : tokens_at left ≡ Ok tokens
-  pub written : AreWritten others tokens
-
--- so many tokens were taken, and are these parameters, and no others except with the same keys
+-- so many tokens were taken, and are these parameters
 pub record ParametersSoFar (ps : List Parameter) (old new : Cursor) : Type 0 where
   pub tokens : List Token
   pub divided : tokens_at old ≡ with_tokens tokens (tokens_at new)
   pub written : AreWritten ps tokens
-  pub only : (all : List Parameter) (tokens : List Token) → tokens_at old ≡ Ok tokens → AreWritten all tokens → AllBeginSoFar (map (λ p. p.0) ps) all new
+  pub only : (all : List Parameter) (tokens : List Token) → tokens_at old ≡ Ok tokens → AreWritten all tokens → AreLeft new
 
 written_more : (ps : List Parameter) (tokens : List Token) (p : Parameter) (front : List Token) → AreWritten ps tokens → IsParameter p front
     → AreWritten (ps ++ p ∷ []) (tokens ++ front)
@@ -73,51 +61,20 @@ written_more (q ∷ ps) tokens p front h is = (
   written_more ps h.1 p front h.4 is,
 )
 
-all_begin : (ps : List Parameter) (p : Parameter) (all : List Parameter) (now new : Cursor) → AllBeginSoFar (map (λ q. q.0) ps) all now
-    → BeginOnlySoFar (λ q. q.0 ≡ p.0) now new
-    → AllBeginSoFar (map (λ q. q.0) (ps ++ p ∷ [])) all new
-all_begin ps p all now new a only =
-    let b = only.only a.others a.tokens a.divided a.written in
-    let n : b.first.0 ≡ p.0 = b.has in record {
-      front = a.front ++ b.first ∷ [];
-      others = b.others;
-      tokens = b.tokens;
-      split = a.split ∙ ap (λ (x : List Parameter). a.front ++ x) b.split ∙ sym (append_assoc a.front (b.first ∷ []) b.others);
-      same = map-append (λ (q : Parameter). q.0) a.front (b.first ∷ []) ∙ ap (λ (x : List ℕ). x ++ b.first.0 ∷ []) a.same
-          ∙ ap (λ (x : ℕ). map (λ (q : Parameter). q.0) ps ++ x ∷ []) n ∙ sym (map-append (λ (q : Parameter). q.0) ps (p ∷ []));
-      divided = b.divided;
-      written = b.written;
-    }
-
 pub one_parameter : (ps more : List Parameter) (p : Parameter) (old now new : Cursor) → ParametersSoFar ps old now → TookParameter p now new
     → more ≡ ps ++ p ∷ [] → ParametersSoFar more old new
 one_parameter ps more p old now new so took e = subst (λ (x : List Parameter). ParametersSoFar x old new) (sym e) (record {
   tokens = so.tokens ++ took.front;
   divided = so.divided ∙ ap (with_tokens so.tokens) took.divided ∙ sym (tokens_more so.tokens took.front (tokens_at new));
   written = written_more ps so.tokens p took.front so.written took.is;
-  only = λ all tokens divided written. all_begin ps p all now new (so.only all tokens divided written) took.only;
+  only = λ all tokens divided written. let l = so.only all tokens divided written in took.only l.others l.tokens l.divided l.written;
 })
-
-nothing_written : (name value : List ℕ) (front behind : List Token) → [] ≡ front ++ behind → IsWritten name value front → ⊥
-nothing_written name value [] behind e is = is
-nothing_written name value (token ∷ front) behind e is = cc
-
-pub no_tokens : (ps : List Parameter) → AreWritten ps [] → ps ≡ []
-no_tokens [] h = refl
-no_tokens (p ∷ ps) h = absurd (nothing_written h.3.name h.3.value h.0 h.1 h.2 h.3.written)
 
 pub all_taken : (ps : List Parameter) (old now : Cursor) → ParametersSoFar ps old now → tokens_at now ≡ Ok [] → TookParameters ps old
 all_taken ps old now so end = record {
   tokens = so.tokens;
   divided = so.divided ∙ ap (with_tokens so.tokens) end ∙ tokens_ok so.tokens;
   written = so.written;
-  only = λ qs tokens divided written.
-      let a = so.only qs tokens divided written in
-      let both : ◌≡◌ {A = Result (List Token) TokensError} (Ok []) (Ok a.tokens) = sym end ∙ a.divided in
-      let none : [] ≡ a.tokens = cc in
-      let others : a.others ≡ [] = no_tokens a.others (subst (AreWritten a.others) (sym none) a.written) in
-      let split : qs ≡ a.front = a.split ∙ ap (λ (x : List Parameter). a.front ++ x) others ∙ append-nil a.front in
-      ap (map (λ (q : Parameter). q.0)) split ∙ a.same;
 }
 
 -- ---- their octets
@@ -147,10 +104,19 @@ no_order xs ys numbers same climbs e isnt qs first order perm rising =
     (climbs_rising (map (λ q. q.0) order) rises) (IsPermutation-map (λ (x : CodeParameter). x.number) xs ys same) (climbs_by ys climbs) in
     isnt (subst IsStrictlyIncreasing (one ∙ sym e) rises)
 
+taken_once : (ps qs : List Parameter) (cursor : Cursor) (tokens : List Token) → TookParameters ps cursor → tokens_at cursor ≡ Ok tokens → AreWritten qs tokens
+    → qs ≡ ps
+taken_once ps qs cursor tokens took divided written =
+    let both : ◌≡◌ {A = Result (List Token) TokensError} (Ok took.tokens) (Ok tokens) = sym took.divided ∙ divided in
+    let same : took.tokens ≡ tokens = cc in
+    written_once qs ps tokens written (subst (AreWritten ps) same took.written)
+
 pub no_rise : (xs ys : List CodeParameter) (numbers : List ℕ) (cursor : Cursor) → TookParameters (map parameter_value xs) cursor → IsPermutation xs ys
     → IsNonDecreasingBy (λ x. x.number) ys → numbers ≡ map (λ x. x.number) ys → (IsStrictlyIncreasing numbers → ⊥) → NoneOfAll AreParameters cursor
 no_rise xs ys numbers cursor took same climbs e isnt = record {
-  none = λ octets tokens divided is. no_order xs ys numbers same climbs e isnt is.parameters (took.only is.parameters tokens divided is.written ∙ numbers_of_values xs) is.order is.same is.rising;
+  none = λ octets tokens divided is. no_order xs ys numbers same climbs e isnt is.parameters
+      (ap (map (λ (q : Parameter). q.0)) (taken_once (map parameter_value xs) is.parameters cursor tokens took divided is.written) ∙ numbers_of_values xs)
+      is.order is.same is.rising;
 }
 
 -- a number that is not below the next, so that the numbers do not rise

@@ -5,11 +5,11 @@ use Rattle.std.specs.List.{position, position_or_len}
 use Rattle.std.proofs.{Math.Seq.drop-cons, lemmas.Bool.cases_Bool, lemmas.Option.same_Some, lemmas.Bool.Decides.nat_tests}
 use Rattle.std.proofs.lemmas.List.{drop_all, take_all, take-append-drop, length-take, length-drop}
 use Rattle.std.proofs.lemmas.List.Sums.{passes_at_first}
-use Rattle.dns_zone_tokens.specs.{Remaining.NoneOfAll, Tokens.Token, Tokens.Cursor, Tokens.tokens_at, Tokens.with_token}
+use Rattle.dns_zone_tokens.specs.{Remaining.NoneOfAll, Remaining.with_tokens, declared.tokens_error.TokensError.TokensError, Tokens.Token, Tokens.Cursor, Tokens.tokens_at, Tokens.with_token}
 use Rattle.dns_zone_tokens.proofs.RemainingSteps.{token_ok}
 use Rattle.dns_zone_parameters.specs.Parameters.{Parameter, is_equals, name_in, value_in, StandsAlone, IsQuotedValue, IsWritten, HasParameter}
 use Rattle.dns_zone_parameters.specs.Parameters.{AreWritten}
-use Rattle.dns_zone_parameters.specs.Steps.{NoQuoted, BeginSoFar, TookWritten}
+use Rattle.dns_zone_parameters.specs.Steps.{NoQuoted, TookWritten}
 
 front_alone : (name value : List ℕ) (front behind : List Token) (token : Token) (rest : List Token) → token ∷ rest ≡ front ++ behind
     → IsWritten name value front → StandsAlone token
@@ -29,96 +29,104 @@ has_same name value n v p e f h = subst (λ (x : List ℕ). HasParameter n x p) 
 pub is_quoted : (token : Token) → token.quoted ≡ true → token.quoted ≡ false → ⊥
 is_quoted token a b = let both : true ≡ false = sym a ∙ b in absurd (cc)
 
-begin_alone : (token : Token) (rest : List Token) (new : Cursor) → tokens_at new ≡ Ok rest → (token.octets ≡ name_in token.octets ++ 61 ∷ [] → NoQuoted new)
-    → (p : Parameter) (ps : List Parameter) (name value : List ℕ) (front behind : List Token) → token ∷ rest ≡ front ++ behind → IsWritten name value front
-    → HasParameter name value p → AreWritten ps behind → BeginSoFar (HasParameter (name_in token.octets) (value_in token.octets)) (p ∷ ps) new
-begin_alone token rest new divided other p ps name value [] behind e is has written = absurd is
-begin_alone token rest new divided other p ps name value (v ∷ []) behind e is has written =
-    let s : token ≡ v = cc in
-    let r : rest ≡ behind = cc in record {
-      first = p;
-      others = ps;
-      tokens = behind;
-      split = refl;
-      has = has_same name value (name_in token.octets) (value_in token.octets) p
-          (is.1 ∙ ap (λ (x : Token). name_in x.octets) (sym s)) (is.2 ∙ ap (λ (x : Token). value_in x.octets) (sym s)) has;
-      divided = divided ∙ ap Ok r;
-      written = written;
-    }
-begin_alone token rest new divided other p ps name value (v ∷ u ∷ []) behind e is has written =
-    let s : token ≡ v = cc in
-    let r : rest ≡ u ∷ behind = cc in
-    let n : name ≡ name_in token.octets = is.2 ∙ ap (λ (x : Token). name_in x.octets) (sym s) in
-    let ends : token.octets ≡ name_in token.octets ++ 61 ∷ [] = ap (λ (x : Token). x.octets) s ∙ is.1 ∙ ap (λ (x : List ℕ). x ++ 61 ∷ []) n in
-    absurd ((other ends).none u behind (divided ∙ ap Ok r) is.3)
-begin_alone token rest new divided other p ps name value (v ∷ u ∷ t ∷ front) behind e is has written = absurd is
+-- no value in quotes follows a token that ends with its first `=`
+pub record Apart (front behind : List Token) : Type 0 where
+  pub none : (token quoted : Token) (rest : List Token) → front ≡ token ∷ [] → behind ≡ quoted ∷ rest → token.octets ≡ name_in token.octets ++ 61 ∷ []
+      → IsQuotedValue quoted → ⊥
+
+-- so it is where parameters follow
+pub apart : (front : List Token) (ps : List Parameter) (behind : List Token) → AreWritten ps behind → Apart front behind
+apart front ps behind h = record {
+  none = λ token quoted rest e f ended is. is_quoted quoted is.quoted (starts_alone ps quoted rest (subst (AreWritten ps) f h)).bare;
+}
+
+ends_as : (a b : Token) (n : List ℕ) → a ≡ b → b.octets ≡ n ++ 61 ∷ [] → n ≡ name_in b.octets → a.octets ≡ name_in a.octets ++ 61 ∷ []
+ends_as a b n s e f =
+    subst (λ (x : Token). x.octets ≡ name_in x.octets ++ 61 ∷ []) (sym s) (e ∙ ap (λ (x : List ℕ). x ++ 61 ∷ []) f)
+
+-- the same tokens begin with the same name and value, and the same follow
+pub record SameBegin (name value n v : List ℕ) (behind others : List Token) : Type 0 where
+  pub names : name ≡ n
+  pub values : value ≡ v
+  pub left : behind ≡ others
+
+pub begin_once : (name value n v : List ℕ) (front behind other others : List Token) → front ++ behind ≡ other ++ others → IsWritten name value front
+    → IsWritten n v other → Apart front behind → Apart other others → SameBegin name value n v behind others
+begin_once name value n v (a ∷ []) behind (b ∷ []) others e h k x y =
+    let s : a ≡ b = cc in
+    let l : behind ≡ others = cc in
+    record { names = h.1 ∙ ap (λ (w : Token). name_in w.octets) s ∙ sym k.1; values = h.2 ∙ ap (λ (w : Token). value_in w.octets) s ∙ sym k.2; left = l }
+begin_once name value n v (a ∷ []) behind (b ∷ c ∷ []) others e h k x y =
+    let s : a ≡ b = cc in
+    let l : behind ≡ c ∷ others = cc in
+    absurd (x.none a c others refl l (ends_as a b n s k.1 k.2) k.3)
+begin_once name value n v (a ∷ c ∷ []) behind (b ∷ []) others e h k x y =
+    let s : b ≡ a = cc in
+    let l : others ≡ c ∷ behind = cc in
+    absurd (y.none b c behind refl l (ends_as b a name s h.1 h.2) h.3)
+begin_once name value n v (a ∷ c ∷ []) behind (b ∷ d ∷ []) others e h k x y =
+    let s : a ≡ b = cc in
+    let t : c ≡ d = cc in
+    let l : behind ≡ others = cc in
+    record { names = h.2 ∙ ap (λ (w : Token). name_in w.octets) s ∙ sym k.2; values = h.4 ∙ ap (λ (w : Token). w.octets) t ∙ sym k.4; left = l }
+begin_once name value n v [] behind other others e h k x y = absurd h
+begin_once name value n v (a ∷ c ∷ f ∷ front) behind other others e h k x y = absurd h
+begin_once name value n v front behind [] others e h k x y = absurd k
+begin_once name value n v front behind (b ∷ d ∷ f ∷ other) others e h k x y = absurd k
+
+nothing_written : (name value : List ℕ) (front behind : List Token) → [] ≡ front ++ behind → IsWritten name value front → ⊥
+nothing_written name value [] behind e is = is
+nothing_written name value (token ∷ front) behind e is = cc
+
+pub no_tokens : (ps : List Parameter) → AreWritten ps [] → ps ≡ []
+no_tokens [] h = refl
+no_tokens (p ∷ ps) h = absurd (nothing_written h.3.name h.3.value h.0 h.1 h.2 h.3.written)
+
+-- whichever parameters begin with these tokens, the first has this name and value, and the others follow
+first_once : (name value : List ℕ) (front behind : List Token) (all : List Parameter) → IsWritten name value front → Apart front behind
+    → AreWritten all (front ++ behind) → (p : Parameter) × HasParameter name value p × (others : List Parameter) × AreWritten others behind
+first_once name value front behind [] is x h = absurd (nothing_written name value front behind (sym h) is)
+first_once name value front behind (p ∷ ps) is x h =
+    let b = begin_once name value h.3.name h.3.value front behind h.0 h.1 h.2 is h.3.written x (apart h.0 ps h.1 h.4) in
+    (p, has_same h.3.name h.3.value name value p (sym b.names) (sym b.values) h.3.has, ps, subst (AreWritten ps) (sym b.left) h.4)
+
+took : (name value : List ℕ) (front : List Token) (old new : Cursor) → tokens_at old ≡ with_tokens front (tokens_at new) → IsWritten name value front
+    → ((behind : List Token) → tokens_at new ≡ Ok behind → Apart front behind) → TookWritten name value old new
+took name value front old new divided is x = record {
+  front = front;
+  divided = divided;
+  written = is;
+  only = λ all tokens e written.
+      let k = all_ok front (tokens_at new) tokens (sym divided ∙ e) in
+      let h = first_once name value front k.0 all is (x k.0 k.1) (subst (AreWritten all) k.2 written) in
+      (h.0, h.1, record { others = h.2; tokens = k.0; divided = k.1; written = h.3 });
+}
+  where
+    all_ok : (front : List Token) (r : Result (List Token) TokensError) (all : List Token) → with_tokens front r ≡ Ok all
+        → (rest : List Token) × (r ≡ Ok rest) × (all ≡ front ++ rest)
+    all_ok [] r all e = (all, e, refl)
+    all_ok (token ∷ front) r all e =
+        let k = token_ok token (with_tokens front r) all e in
+        let m = all_ok front r k.0 k.1 in
+        (m.0, m.1, k.2 ∙ ap (λ (x : List Token). token ∷ x) m.2)
 
 -- the token alone is the next parameter
 pub took_alone : (token : Token) (old new : Cursor) → tokens_at old ≡ with_token token (tokens_at new) → StandsAlone token
     → (token.octets ≡ name_in token.octets ++ 61 ∷ [] → NoQuoted new) → TookWritten (name_in token.octets) (value_in token.octets) old new
-took_alone token old new first alone other = record {
-  front = token ∷ [];
-  divided = first;
-  written = (alone, refl, refl);
-  only = record { only = begins };
-}
-  where
-    begins : (all : List Parameter) (tokens : List Token) → tokens_at old ≡ Ok tokens → AreWritten all tokens
-        → BeginSoFar (HasParameter (name_in token.octets) (value_in token.octets)) all new
-    begins [] tokens divided written =
-        let k = token_ok token (tokens_at new) tokens (sym first ∙ divided) in
-        let none : token ∷ k.0 ≡ [] = sym k.2 ∙ written in
-        absurd (cc)
-    begins (p ∷ ps) tokens divided h =
-        let k = token_ok token (tokens_at new) tokens (sym first ∙ divided) in
-        begin_alone token k.0 new k.1 other p ps h.3.name h.3.value h.0 h.1 (sym k.2 ∙ h.2) h.3.written h.3.has h.4
-
-begin_quoted : (token quoted : Token) (rest : List Token) (new : Cursor) → tokens_at new ≡ Ok rest → IsQuotedValue quoted
-    → (p : Parameter) (ps : List Parameter) (name value : List ℕ) (front behind : List Token) → token ∷ quoted ∷ rest ≡ front ++ behind
-    → IsWritten name value front
-    → HasParameter name value p → AreWritten ps behind → BeginSoFar (HasParameter (name_in token.octets) quoted.octets) (p ∷ ps) new
-begin_quoted token quoted rest new divided is_value p ps name value [] behind e is has written = absurd is
-begin_quoted token quoted rest new divided is_value p ps name value (v ∷ []) behind e is has written =
-    let r : quoted ∷ rest ≡ behind = cc in
-    let alone = starts_alone ps quoted rest (subst (AreWritten ps) (sym r) written) in
-    absurd (is_quoted quoted is_value.quoted alone.bare)
-begin_quoted token quoted rest new divided is_value p ps name value (v ∷ u ∷ []) behind e is has written =
-    let s : token ≡ v = cc in
-    let t : quoted ≡ u = cc in
-    let r : rest ≡ behind = cc in record {
-      first = p;
-      others = ps;
-      tokens = behind;
-      split = refl;
-      has = has_same name value (name_in token.octets) quoted.octets p
-          (is.2 ∙ ap (λ (x : Token). name_in x.octets) (sym s)) (is.4 ∙ ap (λ (x : Token). x.octets) (sym t)) has;
-      divided = divided ∙ ap Ok r;
-      written = written;
-    }
-begin_quoted token quoted rest new divided is_value p ps name value (v ∷ u ∷ t ∷ front) behind e is has written = absurd is
+took_alone token old new first alone other =
+    took (name_in token.octets) (value_in token.octets) (token ∷ []) old new first (alone, refl, refl) (λ behind divided. record {
+      none = λ a quoted rest e f ended is.
+          let s : token ≡ a = cc e in
+          (other (subst (λ (x : Token). x.octets ≡ name_in x.octets ++ 61 ∷ []) (sym s) ended)).none quoted rest (divided ∙ ap Ok f) is;
+    })
 
 -- the token and the one in quotes after it are the next parameter
 pub took_quoted : (token quoted : Token) (old mid new : Cursor) → tokens_at old ≡ with_token token (tokens_at mid)
     → tokens_at mid ≡ with_token quoted (tokens_at new)
     → StandsAlone token → token.octets ≡ name_in token.octets ++ 61 ∷ [] → IsQuotedValue quoted → TookWritten (name_in token.octets) quoted.octets old new
-took_quoted token quoted old mid new first second alone ends is_value = record {
-  front = token ∷ quoted ∷ [];
-  divided = first ∙ ap (with_token token) second;
-  written = (alone, ends, refl, is_value, refl);
-  only = record { only = begins };
-}
-  where
-    begins : (all : List Parameter) (tokens : List Token) → tokens_at old ≡ Ok tokens → AreWritten all tokens
-        → BeginSoFar (HasParameter (name_in token.octets) quoted.octets) all new
-    begins [] tokens divided written =
-        let k = token_ok token (tokens_at mid) tokens (sym first ∙ divided) in
-        let none : token ∷ k.0 ≡ [] = sym k.2 ∙ written in
-        absurd (cc)
-    begins (p ∷ ps) tokens divided h =
-        let k = token_ok token (tokens_at mid) tokens (sym first ∙ divided) in
-        let m = token_ok quoted (tokens_at new) k.0 (sym second ∙ k.1) in
-        let all : token ∷ quoted ∷ m.0 ≡ h.0 ++ h.1 = ap (λ (x : List Token). token ∷ x) (sym m.2) ∙ sym k.2 ∙ h.2 in
-        begin_quoted token quoted m.0 new m.1 is_value p ps h.3.name h.3.value h.0 h.1 all h.3.written h.3.has h.4
+took_quoted token quoted old mid new first second alone ends is_value =
+    took (name_in token.octets) quoted.octets (token ∷ quoted ∷ []) old new (first ∙ ap (with_token token) second) (alone, ends, refl, is_value, refl)
+    (λ behind divided. record { none = λ a q rest e f ended is. absurd (cc e) })
 
 pub took_same : (name value n v : List ℕ) (old new : Cursor) → name ≡ n → value ≡ v → TookWritten name value old new → TookWritten n v old new
 took_same name value n v old new e f h = subst (λ (x : List ℕ). TookWritten n x old new) f (subst (λ (x : List ℕ). TookWritten x value old new) e h)

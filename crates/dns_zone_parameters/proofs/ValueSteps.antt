@@ -12,8 +12,9 @@ use Rattle.dns_tokens.specs.{Forms.ipv4, Forms.ipv6, Reads.UnlessParseMemory, Re
 use Rattle.dns_zone_tokens.specs.{Forms.bare, Forms.text, Letters.letters, Letters.octet_of, Letters.escapes_stand, ZoneReads.NoValueOf, Errors.Says}
 use Rattle.dns_zone_tokens.proofs.LetterSteps.{plain_letters}
 use Rattle.dns_tokens.proofs.Steps.{unless_map}
-use Rattle.dns_zone_parameters.specs.{Faults.wrong_value, Faults.ValueFault, Steps.HasMeant, Values.HasOctets, Values.IsPlain, Values.IsValue}
-use Rattle.dns_zone_parameters.specs.{declared.key.ParameterKey.ParameterKey, declared.lists.ListItem.ListItem}
+use Rattle.dns_rdata_service.specs.declared.svcb.key.SvcParamKey.{SvcParamKey}
+use Rattle.dns_zone_parameters.specs.{Faults.ValueFault, Values.wrong_value, Steps.HasMeant, Values.HasOctets, Values.IsPlain, Values.IsValue}
+use Rattle.dns_zone_parameters.specs.{declared.lists.ListItem.ListItem}
 use Rattle.dns_zone_parameters.specs.Lists.{items_in, IsItem, IsListedKey, IsKeyList}
 use Rattle.dns_zone_parameters.specs.declared.lists.ListItem.TheVariants.{Ipv4, Ipv6}
 use Rattle.dns_zone_parameters.proofs.{Once.keys_once, Once.octets_once, Rises.climbs_rising, Rises.climbs_sorted, Rises.order_once}
@@ -70,7 +71,7 @@ decides_as P Q view (Ok x) f g h = f (view x) h
 decides_as P Q view (Err e) f g h = unless_map e (HoldsOfNone P) (HoldsOfNone Q) (λ n. record { none = λ v q. n.none v (g v q) }) h
 
 -- what its octets give by the key is what it gives
-pub meant_plain : {T : Type 0} (key : ParameterKey) (s : List ℕ) (view : T → List ℕ) (r : Result T ParseError) → ((k : ℕ) → k < length s → get_or s k 0 ≢ 92)
+pub meant_plain : {T : Type 0} (key : SvcParamKey) (s : List ℕ) (view : T → List ℕ) (r : Result T ParseError) → ((k : ℕ) → k < length s → get_or s k 0 ≢ 92)
     → Decides (HasOctets key s) view r → Decides (HasMeant key s) view r
 meant_plain key s view r h reads =
     let own = plain_meant s h in
@@ -79,13 +80,13 @@ meant_plain key s view r h reads =
     (λ v has. subst (λ (x : List ℕ). HasOctets key x v) own.1 has.has) reads
 
 -- an error about the key's format says that there is no value of it
-says_why : (key : ParameterKey) (P : Type 0) (e : ParseError) → (e ≡ parse.Memory) ⊎ Says (wrong_value key) e → UnlessParseMemory e P
+says_why : (key : SvcParamKey) (P : Type 0) (e : ParseError) → (e ≡ parse.Memory) ⊎ Says (wrong_value key) e → UnlessParseMemory e P
     → (e ≡ parse.Memory) ⊎ (Says (wrong_value key) e × P)
 says_why key P e (inl memory) none = inl memory
 says_why key P (parse.Message said) (inr says) none = inr (says, none)
 says_why key P e (inr says) none = absurd says
 
-pub meant_fault : {T : Type 0} (key : ParameterKey) (text s : List ℕ) (view : T → List ℕ) (r : Result T ParseError) → IsPlain key text
+pub meant_fault : {T : Type 0} (key : SvcParamKey) (text s : List ℕ) (view : T → List ℕ) (r : Result T ParseError) → IsPlain key text
     → escapes_stand text ≡ true
     → s ≡ map octet_of (letters text) → Decides (HasOctets key s) view r → IfErr r (λ e. (e ≡ parse.Memory) ⊎ Says (wrong_value key) e)
     → IfErr r (λ e. (e ≡ parse.Memory) ⊎ ValueFault key text e)
@@ -96,14 +97,14 @@ meant_fault key text s view (Err e) plain escapes same reads why = either (says_
     either (inl memory) = inl memory
     either (inr fault) = inr (inr (inr (inl (fault.0, plain, escapes, subst (λ (x : List ℕ). HoldsOfNone (HasOctets key x)) same fault.1))))
 
-pub plain_fault : {T : Type 0} (key : ParameterKey) (s : List ℕ) (view : T → List ℕ) (r : Result T ParseError) → ((k : ℕ) → k < length s → get_or s k 0 ≢ 92)
+pub plain_fault : {T : Type 0} (key : SvcParamKey) (s : List ℕ) (view : T → List ℕ) (r : Result T ParseError) → ((k : ℕ) → k < length s → get_or s k 0 ≢ 92)
     → Decides (HasOctets key s) view r → IfErr r (λ e. (e ≡ parse.Memory) ⊎ Says (wrong_value key) e) → IfErr r (λ e. (e ≡ parse.Memory) ⊎ ValueFault key s e)
 plain_fault key s view r h reads why =
     let own = plain_meant s h in meant_fault key s s view r (λ e. plain_text s h) own.0 (sym own.1) reads why
 
 -- ---- their length
 
-pub too_long : (key : ParameterKey) (text v : List ℕ) → HasMeant key text v → 65535 < length v → HoldsOfNone (IsValue key text)
+pub too_long : (key : SvcParamKey) (text v : List ℕ) → HasMeant key text v → 65535 < length v → HoldsOfNone (IsValue key text)
 too_long key text v has long = record {
   none = λ w other.
       let same : v ≡ w = octets_once key (map octet_of (letters text)) v w has.has other.has in

@@ -65,10 +65,14 @@ all_whole : (P : List ℕ → Type 0) → ((item : List ℕ) → P item → IsWh
 all_whole P f [] h = tt
 all_whole P f (item ∷ items) h = (f item h.0, all_whole P f items h.1)
 
+-- items of only such octets are those that the list is divided into
+pub plain_items : (items : List (List ℕ)) → items ≢ [] → AllByRecursion IsPlainItem items → items_in (join_with_byte 44 items) ≡ items
+plain_items items some plain = joined_read items some (all_whole IsPlainItem plain_whole items plain)
+
 pub plain_items_read : PlainItemsRead
 plain_items_read item items parts some plain each = record {
   parts = parts;
-  each = subst (λ (x : List (List ℕ)). AllZip (IsItem item) x parts) (sym (joined_read items some (all_whole IsPlainItem plain_whole items plain))) each;
+  each = subst (λ (x : List (List ℕ)). AllZip (IsItem item) x parts) (sym (plain_items items some plain)) each;
   joined = refl;
 }
 

@@ -1,41 +1,28 @@
 -- Why tokens are no parameters, and what the error says.
-use Rattle.std.specs.Prelude.{◌≡◌, ◌⊎◌, ℕ, suc, ◌+◌, ◌<◌, ◌≤◌, ◌==◌, if◌then◌else◌, true, false, List, length, map, slice_index, Result, Ok, Err, codes}
+use Rattle.std.specs.Prelude.{◌≡◌, ◌⊎◌, ℕ, suc, ◌+◌, ◌++◌, ◌<◌, ◌≤◌, if◌then◌else◌, true, false, List, length, map, slice_index, Result, Ok, Err, codes}
 use Rattle.std.specs.Prelude.{IsPermutation}
 use Rattle.dns_fields.specs.Tlvs.{Rising}
 use Rattle.dns_types.specs.declared.error.ParseError.{ParseError}
 use Rattle.dns_tokens.specs.Reads.{HoldsOfNone}
 use Rattle.dns_zone_tokens.specs.{Letters.letters, Letters.octet_of, Letters.escapes_stand, Errors.Says, Errors.undivided_text, Remaining.with_tokens}
 use Rattle.dns_zone_tokens.specs.{Tokens.Token, Tokens.Cursor, Tokens.tokens_at, Tokens.with_token, declared.tokens_error.TokensError.TokensError}
-use Rattle.dns_zone_parameters.specs.{Keys.IsKeyName, Values.HasOctets, Values.IsPlain, declared.key.ParameterKey.ParameterKey}
+use Rattle.dns_rdata_service.specs.{SvcParamKey.is_unnamed, SvcParamKey.key_of, SvcParamKey.key_text, declared.svcb.key.SvcParamKey.SvcParamKey}
+use Rattle.dns_zone_parameters.specs.{Keys.IsKeyName, Values.HasOctets, Values.IsPlain, Values.wrong_value}
 use Rattle.dns_zone_parameters.specs.Parameters.{Parameter, StandsAlone, IsWritten, AreWritten}
-use Rattle.dns_zone_parameters.specs.declared.key.ParameterKey.TheVariants.{Mandatory, Alpn, NoDefaultAlpn, Port, Ipv4Hint, Ech, Ipv6Hint, DohPath}
-use Rattle.dns_zone_parameters.specs.declared.key.ParameterKey.TheVariants.{Numbered}
-
--- the text of the error for a value that does not have the format of the key
-abbrev pub wrong_value : ParameterKey → List ℕ
-wrong_value Mandatory = codes "no list of different keys in mandatory"
-wrong_value Alpn = codes "no list of protocols in alpn"
-wrong_value NoDefaultAlpn = codes "value of no-default-alpn"
-wrong_value Port = codes "no number of 16 bits in port"
-wrong_value Ipv4Hint = codes "no list of addresses in ipv4hint"
-wrong_value Ech = codes "no base64 in ech"
-wrong_value Ipv6Hint = codes "no list of addresses in ipv6hint"
-wrong_value DohPath = codes "no path in dohpath"
-wrong_value (Numbered n) = codes "no value of a service parameter"
 
 -- the octets that the letters of a text are
 abbrev pub meant : List ℕ → List ℕ
 meant text = map octet_of (letters text)
 
 -- the value has more octets than a length of 16 bits can say
-pub record IsLong (key : ParameterKey) (text : List ℕ) : Type 0 where
+pub record IsLong (key : SvcParamKey) (text : List ℕ) : Type 0 where
   pub octets : List ℕ
   pub has : HasOctets key (meant text) octets
   pub long : 65535 < length octets
 
 -- A text is no value of the key: it has a `\` and the key forbids escapes, a `\` has no meaning, the octets of the
 -- letters do not have the key's format, or the value is too long.
-abbrev pub ValueFault : ParameterKey → List ℕ → ParseError → Type 0
+abbrev pub ValueFault : SvcParamKey → List ℕ → ParseError → Type 0
 ValueFault key text e =
     (Says (wrong_value key) e × (IsPlain key text → ⊥))
     ⊎ (Says (codes "`\\` without a meaning in a service parameter") e × IsPlain key text × (escapes_stand text ≡ false))
@@ -48,7 +35,7 @@ ValueFault key text e =
 abbrev pub ParameterFault : List ℕ → List ℕ → ParseError → Type 0
 ParameterFault name value e =
     (Says (codes "no key of a service parameter") e × HoldsOfNone (λ key. IsKeyName key name))
-    ⊎ ((key : ParameterKey) × IsKeyName key name × ValueFault key value e)
+    ⊎ ((key : SvcParamKey) × IsKeyName key name × ValueFault key value e)
 
 -- tokens, or why a text cannot be divided into tokens
 abbrev pub TokenList : Type 0
@@ -90,16 +77,9 @@ pub record FaultBehind (cursor : Cursor) (e : ParseError) : Type 0 where
 
 -- the text of the error for a key that comes twice, by its number
 abbrev pub twice_text : ℕ → List ℕ
-twice_text key =
-    if key == 0 then codes "service parameter mandatory twice" else
-    if key == 1 then codes "service parameter alpn twice" else
-    if key == 2 then codes "service parameter no-default-alpn twice" else
-    if key == 3 then codes "service parameter port twice" else
-    if key == 4 then codes "service parameter ipv4hint twice" else
-    if key == 5 then codes "service parameter ech twice" else
-    if key == 6 then codes "service parameter ipv6hint twice" else
-    if key == 7 then codes "service parameter dohpath twice" else
-    codes "key of a service parameter twice"
+twice_text n =
+    if is_unnamed (key_of n) then codes "key of a service parameter twice"
+    else codes "service parameter " ++ key_text (key_of n) ++ codes " twice"
 
 -- no key is greater than the next
 abbrev pub InOrder : List ℕ → Type 0

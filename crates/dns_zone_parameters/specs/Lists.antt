@@ -3,7 +3,8 @@ use Rattle.std.specs.Prelude.{◌≡◌, ◌≢◌, ℕ, ◌≤◌, ◌==◌, if
 use Rattle.std.specs.{Int.bytes_high_first, List.AllZip, List.flat_map, List.Sorted.IsStrictlyIncreasing}
 use Rattle.dns_fields.specs.Tlvs.{string}
 use Rattle.dns_tokens.specs.Forms.{ipv4, ipv6}
-use Rattle.dns_zone_parameters.specs.{Keys.key_number, Keys.IsKeyName, declared.key.ParameterKey.ParameterKey, declared.lists.ListItem.ListItem}
+use Rattle.dns_rdata_service.specs.{SvcParamKey.key_number, declared.svcb.key.SvcParamKey.SvcParamKey}
+use Rattle.dns_zone_parameters.specs.{Keys.IsKeyName, declared.lists.ListItem.ListItem}
 use Rattle.dns_zone_parameters.specs.declared.lists.ListItem.TheVariants.{Protocol, Ipv4, Ipv6}
 
 -- The items of a text, after the front of the first of them. A comma ends an item, unless a `\` is before it that is
@@ -52,7 +53,7 @@ pub record IsList (item : ListItem) (text octets : List ℕ) : Type 0 where
 
 -- the item names the key of this number, which is not `mandatory` itself
 pub record IsListedKey (item : List ℕ) (n : ℕ) : Type 0 where
-  pub key : ParameterKey
+  pub key : SvcParamKey
   pub named : IsKeyName key item
   pub number : n ≡ key_number key
   pub other : n ≢ 0

@@ -3,7 +3,8 @@ use Rattle.std.specs.Prelude.{◌≡◌, ℕ, ◌==◌, Bool, true, false, List,
 use Rattle.std.specs.List.{before_first, after_first}
 use Rattle.dns_fields.specs.Tlvs.{Numbered, tlvs, Rising}
 use Rattle.dns_zone_tokens.specs.Tokens.{Token}
-use Rattle.dns_zone_parameters.specs.{Keys.key_number, Keys.IsKeyName, Values.IsValue, declared.key.ParameterKey.ParameterKey}
+use Rattle.dns_rdata_service.specs.{SvcParamKey.key_number, declared.svcb.key.SvcParamKey.SvcParamKey}
+use Rattle.dns_zone_parameters.specs.{Keys.IsKeyName, Values.IsValue}
 
 -- a parameter: the number of its key, and the octets of its value
 abbrev pub Parameter : Type 0
@@ -40,7 +41,7 @@ IsWritten name value tokens = ⊥
 
 -- a key of this name, and the octets of this value
 pub record HasParameter (name value : List ℕ) (p : Parameter) : Type 0 where
-  pub key : ParameterKey
+  pub key : SvcParamKey
   pub named : IsKeyName key name
   pub number : p.0 ≡ key_number key
   pub octets : IsValue key value p.1

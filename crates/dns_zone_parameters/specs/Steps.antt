@@ -1,23 +1,19 @@
 -- What the code keeps.
 use Rattle.std.specs.Prelude.{◌≡◌, ℕ, ◌+◌, ◌<◌, take, drop, map, List, [], ◌∷◌, ◌++◌, length, Result, Ok, Err, Option, Some, None, true, ◌≢◌, codes}
-use Rattle.std.specs.Prelude.{◌≤◌, slice_index}
+use Rattle.std.specs.Prelude.{◌≤◌, ◌⊎◌, slice_index}
 use Rattle.std.specs.Str.Parse.{IsNumeral, digits_value}
 use Rattle.dns_types.specs.declared.error.ParseError.{ParseError}
 use Rattle.dns_tokens.specs.Reads.{UnlessParseMemory, HoldsOfNone}
 use Rattle.dns_zone_tokens.specs.{Remaining.with_tokens, Remaining.NoneOfAll, declared.tokens_error.TokensError.TokensError, Tokens.Token, Tokens.Cursor}
 use Rattle.dns_zone_tokens.specs.{Tokens.tokens_at, Tokens.with_token, Letters.letters, Letters.octet_of, Letters.escapes_stand}
+use Rattle.dns_rdata_service.specs.declared.svcb.key.SvcParamKey.{SvcParamKey}
 use Rattle.dns_zone_parameters.specs.{Views.parameter_value, declared.parameter.Parameter.Parameter as CodeParameter, Lists.items_in, Lists.IsItem}
-use Rattle.dns_zone_parameters.specs.{Values.HasOctets, Values.IsPlain, declared.key.ParameterKey.ParameterKey, declared.lists.ListItem.ListItem}
+use Rattle.dns_zone_parameters.specs.{Values.HasOctets, Values.IsPlain, declared.lists.ListItem.ListItem}
 use Rattle.dns_zone_parameters.specs.Parameters.{Parameter, IsQuotedValue, IsWritten, HasParameter, IsParameter, AreWritten}
 
--- `key` and the digits of this number, without leading zeros
-pub record NumberSpelled (n : ℕ) (name : List ℕ) : Type 0 where
-  pub digits : List ℕ
-  pub spelled : name ≡ codes "key" ++ digits
-  pub numeral : IsNumeral 10 digits
-  pub shortest : 1 < length digits → slice_index digits 0 ≢ 48
-  pub value : n ≡ digits_value 10 digits
-  pub below : n < 65535
+-- of `key` and digits: one digit, or more without a `0` or a `+` before them
+abbrev pub IsShortest : List ℕ → Type 0
+IsShortest text = (length text ≡ 4) ⊎ ((4 < length text) × (slice_index text 3 ≢ 48) × (slice_index text 3 ≢ 43))
 
 -- the number is the first that is not less than the next
 pub record IsFirstFall (n : ℕ) (numbers : List ℕ) : Type 0 where
@@ -64,34 +60,27 @@ pub record TookQuoted (value : List ℕ) (old new : Cursor) : Type 0 where
 pub record NoQuoted (cursor : Cursor) : Type 0 where
   pub none : (token : Token) (tokens : List Token) → tokens_at cursor ≡ Ok (token ∷ tokens) → IsQuotedValue token → ⊥
 
--- The parameters begin with one of which P is true; the others are those that are left.
-pub record BeginSoFar (P : Parameter → Type 0) (all : List Parameter) (left : Cursor) : Type 0 where
-  pub first : Parameter
+-- the tokens that are left are parameters
+pub record AreLeft (left : Cursor) : Type 0 where
   pub others : List Parameter
   pub tokens : List Token
-  pub split : all ≡ first ∷ others
-  pub has : P first
   pub divided : tokens_at left ≡ Ok tokens
   pub written : AreWritten others tokens
 
--- whichever parameters the tokens are, they begin with one of which P is true
-pub record BeginOnlySoFar (P : Parameter → Type 0) (old new : Cursor) : Type 0 where
-  pub only : (all : List Parameter) (tokens : List Token) → tokens_at old ≡ Ok tokens → AreWritten all tokens
-      → BeginSoFar P all new
-
--- the next parameter was taken, of this name and value
+-- the next parameter was taken, of this name and value; if the tokens are parameters, so are those that are left
 pub record TookWritten (name value : List ℕ) (old new : Cursor) : Type 0 where
   pub front : List Token
   pub divided : tokens_at old ≡ with_tokens front (tokens_at new)
   pub written : IsWritten name value front
-  pub only : BeginOnlySoFar (HasParameter name value) old new
+  pub only : (all : List Parameter) (tokens : List Token) → tokens_at old ≡ Ok tokens → AreWritten all tokens
+      → (p : Parameter) × HasParameter name value p × AreLeft new
 
 -- the next parameter was taken, and is this one
 pub record TookParameter (p : Parameter) (old new : Cursor) : Type 0 where
   pub front : List Token
   pub divided : tokens_at old ≡ with_tokens front (tokens_at new)
   pub is : IsParameter p front
-  pub only : BeginOnlySoFar (λ q. q.0 ≡ p.0) old new
+  pub only : (all : List Parameter) (tokens : List Token) → tokens_at old ≡ Ok tokens → AreWritten all tokens → AreLeft new
 
 -- takes the next parameter exactly if the tokens begin with one; at their end there is none
 abbrev pub ReadsNext : Result (Option CodeParameter) ParseError → Cursor → Cursor → Type 0
@@ -99,13 +88,11 @@ ReadsNext (Ok (Some p)) old new = TookParameter (parameter_value p) old new
 ReadsNext (Ok None) old new = tokens_at old ≡ Ok []
 ReadsNext (Err e) old new = UnlessParseMemory e (NoneOfAll AreWritten old)
 
--- the remaining tokens are these parameters, and no others except with the same keys
+-- the remaining tokens are these parameters
 pub record TookParameters (ps : List Parameter) (cursor : Cursor) : Type 0 where
   pub tokens : List Token
   pub divided : tokens_at cursor ≡ Ok tokens
   pub written : AreWritten ps tokens
-  pub only : (qs : List Parameter) (tokens : List Token) → tokens_at cursor ≡ Ok tokens → AreWritten qs tokens
-      → map (λ q. q.0) qs ≡ map (λ p. p.0) ps
 
 -- reads parameters exactly if the remaining tokens are parameters
 abbrev pub ReadsParameters : {T : Type 0} → (T → List CodeParameter) → Result T ParseError → Cursor → Type 0
@@ -113,7 +100,7 @@ ReadsParameters view (Ok x) cursor = TookParameters (map parameter_value (view x
 ReadsParameters view (Err e) cursor = UnlessParseMemory e (NoneOfAll AreWritten cursor)
 
 -- the octets of the letters of the text have these octets on the wire, of any length
-pub record HasMeant (key : ParameterKey) (text octets : List ℕ) : Type 0 where
+pub record HasMeant (key : SvcParamKey) (text octets : List ℕ) : Type 0 where
   pub plain : IsPlain key text
   pub escapes : escapes_stand text ≡ true
   pub has : HasOctets key (map octet_of (letters text)) octets

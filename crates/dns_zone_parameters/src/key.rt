@@ -1,107 +1,44 @@
-//! Keys of service parameters in zone files (RFC 9460, sections 2.1 and 14.3.2; RFC 9461, section 5).
+//! Keys of service parameters in zone files (RFC 9460, section 2.1).
 
-ghost use Rattle.std.specs.Prelude.{◌≡◌, ◌<◌, ℕ, IfSome, IfNone};
-ghost use Rattle.dns_zone_parameters.specs.{Keys.key_number, Keys.named_key, Keys.IsKeyName, Steps.NumberSpelled};
+ghost use Rattle.std.specs.Prelude.{◌≡◌, ◌↔◌, IfSome, IfNone, IsTrue};
+ghost use Rattle.dns_rdata_service.specs.{ParameterTokens.IsKeyText, declared.svcb.key.SvcParamKey.SvcParamKey as Key};
+ghost use Rattle.dns_zone_parameters.specs.{Keys.IsKeyName, Steps.IsShortest};
 
-use dns_zone_tokens::{ZoneToken, u16_of};
+use dns_rdata_service::svcb::SvcParamKey;
 use std::str;
 
-/// A key of a service parameter, as a zone file names it.
-#[derive(Clone, Copy, Debug, PartialEq, Eq)]
-pub enum ParameterKey {
-    /// `mandatory`: a list of keys.
-    Mandatory,
-    /// `alpn`: a list of names of protocols.
-    Alpn,
-    /// `no-default-alpn`: an empty value.
-    NoDefaultAlpn,
-    /// `port`: a number of 16 bits.
-    Port,
-    /// `ipv4hint`: a list of IPv4 addresses.
-    Ipv4Hint,
-    /// `ech`: base64.
-    Ech,
-    /// `ipv6hint`: a list of IPv6 addresses.
-    Ipv6Hint,
-    /// `dohpath`: a path.
-    DohPath,
-    /// `key` and this number: octets as they are, even if the key of this number has a name.
-    Numbered(u16),
-}
-
-impl ParameterKey {
-    /// Returns its number.
-    pub fn number(self) -> u16
-        ensures { result ≡ key_number self }
-    {
-        match self {
-            ParameterKey::Mandatory => 0,
-            ParameterKey::Alpn => 1,
-            ParameterKey::NoDefaultAlpn => 2,
-            ParameterKey::Port => 3,
-            ParameterKey::Ipv4Hint => 4,
-            ParameterKey::Ech => 5,
-            ParameterKey::Ipv6Hint => 6,
-            ParameterKey::DohPath => 7,
-            ParameterKey::Numbered(number) => number,
-        }
-    }
-
-    /// Returns the key of a name in lower case: a registered name, or `key` and a decimal number up to 65534 without
-    /// leading zeros. Allocates nothing.
-    pub fn of_name(name: &[u8]) -> Option<ParameterKey>
-        ensures some { IfSome result (λ key. IsKeyName key name.now) }
-        ensures none { IfNone result ((key : ParameterKey) → IsKeyName key name.now → ⊥) }
-    {
-        match named(name) {
-            Some(key) => Some(key),
-            None => match numbered(name) {
-                Some(number) => Some(ParameterKey::Numbered(number)),
-                None => None,
-            },
-        }
-    }
-}
-
-// The key with this name, if it is not `key` and a number.
-fn named(name: &[u8]) -> Option<ParameterKey>
-    ensures { result ≡ named_key name.now }
+/// Returns the key of a name in lower case: a registered name, or `key` and a decimal number up to 65534 without
+/// leading zeros, which gives [`Key`](SvcParamKey::Key) of that number even if it has a name. Allocates nothing.
+#[tactic(auto, using(crate::proofs::KeyNames::name_utf8, crate::proofs::KeyNames::other_key))]
+pub fn key_of_name(name: &[u8]) -> Option<SvcParamKey>
+    ensures some { IfSome result (λ key. IsKeyName key name.now) }
+    ensures none { IfNone result ((key : Key) → IsKeyName key name.now → ⊥) }
 {
     let Ok(text) = str::from_utf8(name) else {
         return None;
     };
-    match text {
-        "mandatory" => Some(ParameterKey::Mandatory),
-        "alpn" => Some(ParameterKey::Alpn),
-        "no-default-alpn" => Some(ParameterKey::NoDefaultAlpn),
-        "port" => Some(ParameterKey::Port),
-        "ipv4hint" => Some(ParameterKey::Ipv4Hint),
-        "ech" => Some(ParameterKey::Ech),
-        "ipv6hint" => Some(ParameterKey::Ipv6Hint),
-        "dohpath" => Some(ParameterKey::DohPath),
-        _ => None,
+    let Ok(key) = text.parse::<SvcParamKey>() else {
+        return None;
+    };
+    if is_name(key, name) { Some(key) } else { None }
+}
+
+// Whether a text of the key is a name of it in zone files.
+#[tactic(auto, using(crate::proofs::KeyNames::own_name))]
+fn is_name(key: SvcParamKey, text: &[u8]) -> bool
+    requires { IsKeyText text.now key }
+    ensures { IsTrue result ↔ IsKeyName key text.now }
+{
+    match key {
+        SvcParamKey::Key65535 => false,
+        SvcParamKey::Key(_) => is_shortest(text),
+        _ => true,
     }
 }
 
-// The number after `key`.
-fn numbered(name: &[u8]) -> Option<u16>
-    ensures some { IfSome result (λ n. NumberSpelled n name.now) }
-    ensures none { IfNone result ((n : ℕ) → NumberSpelled n name.now → ⊥) }
+// Whether the digits after `key` have no `+` and no zero before them.
+fn is_shortest(text: &[u8]) -> bool
+    ensures { IsTrue result ↔ IsShortest text.now }
 {
-    if name.len() < 4 || name[0] != b'k' || name[1] != b'e' || name[2] != b'y' {
-        return None;
-    }
-    let digits = &name[3..];
-    if digits.len() > 1 && digits[0] == b'0' {
-        return None;
-    }
-    let token = ZoneToken {
-        raw: digits,
-        quoted: false,
-        joined: false,
-    };
-    match u16_of(token, "") {
-        Ok(number) if number < 65535 => Some(number),
-        _ => None,
-    }
+    text.len() == 4 || (text.len() > 4 && text[3] != b'0' && text[3] != b'+')
 }

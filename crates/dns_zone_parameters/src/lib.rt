@@ -17,9 +17,11 @@ ghost use Rattle.dns_zone_parameters.specs.Faults.{FaultBehind, ParametersFault,
 use crate::lists::first_fall;
 use crate::parameter::Parameter;
 use crate::written::next_parameter;
+use dns_rdata_service::svcb::SvcParamKey;
+use dns_rdata_service::with_named_keys;
 use dns_types::ParseError;
 use dns_zone_tokens::ZoneTokens;
-pub use key::ParameterKey;
+pub use key::key_of_name;
 use std::alloc::{AllocError, Global};
 
 /// Reads all remaining tokens as service parameters and appends their octets as on the wire: sorted by key, each as
@@ -68,21 +70,23 @@ pub fn put_parameters(
     Ok(())
 }
 
+macro_rules! twice {
+    (($value:expr) $(($key:ident $number:literal $rank:literal $name:literal))+) => {
+        match $value {
+            $(SvcParamKey::$key => concat!("service parameter ", $name, " twice"),)+
+            SvcParamKey::Key(_) | SvcParamKey::Key65535 | SvcParamKey::Unknown(_) => {
+                "key of a service parameter twice"
+            }
+        }
+    };
+}
+
 // The text of the error for a key that comes twice, by its number.
+#[tactic(auto, unfolding(dns_rdata_service::specs::SvcParamKey::key_text))]
 fn twice_text(key: u16) -> &'static str
     ensures { result.now ≡ twice_text key }
 {
-    match key {
-        0 => "service parameter mandatory twice",
-        1 => "service parameter alpn twice",
-        2 => "service parameter no-default-alpn twice",
-        3 => "service parameter port twice",
-        4 => "service parameter ipv4hint twice",
-        5 => "service parameter ech twice",
-        6 => "service parameter ipv6hint twice",
-        7 => "service parameter dohpath twice",
-        _ => "key of a service parameter twice",
-    }
+    with_named_keys!(twice, (SvcParamKey::from(key)))
 }
 
 // The parameters in the order of the tokens.

@@ -6,7 +6,7 @@ ghost use Rattle.dns_tokens.specs.Reads.{Decides};
 ghost use Rattle.dns_zone_parameters.specs.Lists.{items_in, IsList, IsKeyList, IsListedKey, unescaped_from, escapes_end_from};
 ghost use Rattle.dns_zone_parameters.specs.Steps.{IsFirstFall, DividesItem, ItemTaken, PushesItem};
 
-use crate::key::ParameterKey;
+use crate::key::key_of_name;
 use dns_types::{Octets, ParseError};
 use dns_zone_tokens::{ZoneToken, ipv4_of, ipv6_of};
 use std::alloc::{AllocError, Global};
@@ -86,7 +86,7 @@ fn listed_key(item: &[u8], wrong: &'static str) -> Result<u16, ParseError>
     ensures reads { Decides (IsListedKey item.now) (λ n. n) result }
     ensures why { IfErr result (λ e. e ≡ ParseError.Message wrong.entry) }
 {
-    let Some(key) = ParameterKey::of_name(item) else {
+    let Some(key) = key_of_name(item) else {
         return Err(ParseError::Message(wrong));
     };
     let number = key.number();

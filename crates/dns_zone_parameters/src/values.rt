@@ -3,13 +3,13 @@
 ghost use Rattle.std.specs.Prelude.{◌≡◌, ◌≢◌, ◌⊎◌, ◌↔◌, IsTrue, IfErr, EachIndex, slice_index};
 ghost use Rattle.dns_tokens.specs.Reads.{Decides};
 ghost use Rattle.dns_zone_tokens.specs.Errors.{Says};
-ghost use Rattle.dns_zone_parameters.specs.{Faults.wrong_value, Faults.ValueFault, Steps.HasMeant};
-ghost use Rattle.dns_zone_parameters.specs.Values.{forbids_escapes, HasOctets, IsPort, IsValue};
+ghost use Rattle.dns_zone_parameters.specs.{Faults.ValueFault, Steps.HasMeant};
+ghost use Rattle.dns_zone_parameters.specs.Values.{forbids_escapes, wrong_value, HasOctets, IsPort, IsValue};
 
-use crate::key::ParameterKey;
 use crate::lists::{ListItem, key_list_of, list_of};
 use base64::DecodeAllocError;
 use base64::engine::general_purpose::STANDARD;
+use dns_rdata_service::svcb::SvcParamKey;
 use dns_types::{Octets, ParseError};
 use dns_zone_tokens::{ZoneToken, put_text, u16_of};
 use std::alloc::Global;
@@ -20,7 +20,7 @@ const LONG_VALUE: &str = "service parameter of more than 65535 octets";
 
 /// Returns the octets on the wire of a value of the key, from its text with escapes. If the key forbids escapes, a `\`
 /// is the same error as any other wrong value of the key (RFC 9460, sections 7.2, 7.3 and 8; RFC 9848, section 3).
-pub fn value_of(alloc: Global, key: ParameterKey, text: &[u8]) -> Result<Octets, ParseError>
+pub fn value_of(alloc: Global, key: SvcParamKey, text: &[u8]) -> Result<Octets, ParseError>
     ensures reads { Decides (IsValue key text.now) (λ x. x) result }
     ensures why { IfErr result (λ e. (e ≡ ParseError.Memory) ⊎ ValueFault key text.now e) }
 {
@@ -32,7 +32,7 @@ pub fn value_of(alloc: Global, key: ParameterKey, text: &[u8]) -> Result<Octets,
 }
 
 // The octets that a value in tokens stands for, of any number.
-fn meant_octets(alloc: Global, key: ParameterKey, text: &[u8]) -> Result<Octets, ParseError>
+fn meant_octets(alloc: Global, key: SvcParamKey, text: &[u8]) -> Result<Octets, ParseError>
     ensures reads { Decides (HasMeant key text.now) (λ x. x) result }
     ensures why { IfErr result (λ e. (e ≡ ParseError.Memory) ⊎ ValueFault key text.now e) }
 {
@@ -53,12 +53,12 @@ fn meant_octets(alloc: Global, key: ParameterKey, text: &[u8]) -> Result<Octets,
 }
 
 // Whether a value of the key may have no escape.
-fn takes_no_escapes(key: ParameterKey) -> bool
+fn takes_no_escapes(key: SvcParamKey) -> bool
     ensures { result ≡ forbids_escapes key }
 {
     match key {
-        ParameterKey::Mandatory | ParameterKey::Port | ParameterKey::Ech => true,
-        ParameterKey::Ipv4Hint | ParameterKey::Ipv6Hint => true,
+        SvcParamKey::Mandatory | SvcParamKey::Port | SvcParamKey::EchConfigList => true,
+        SvcParamKey::Ipv4Hint | SvcParamKey::Ipv6Hint => true,
         _ => false,
     }
 }
@@ -71,44 +71,47 @@ fn has_no_escape(text: &[u8]) -> bool
 }
 
 // The octets on the wire, of the octets of the text.
-fn octets_of(alloc: Global, key: ParameterKey, text: &[u8]) -> Result<Octets, ParseError>
+fn octets_of(alloc: Global, key: SvcParamKey, text: &[u8]) -> Result<Octets, ParseError>
     ensures reads { Decides (HasOctets key text.now) (λ x. x) result }
     ensures why { IfErr result (λ e. (e ≡ ParseError.Memory) ⊎ Says (wrong_value key) e) }
 {
     let wrong = wrong_value(key);
     match key {
-        ParameterKey::Mandatory => key_list_of(alloc, text, wrong),
-        ParameterKey::Alpn => list_of(alloc, ListItem::Protocol, text, wrong),
-        ParameterKey::NoDefaultAlpn => nothing_of(alloc, text, wrong),
-        ParameterKey::Port => port_of(alloc, text, wrong),
-        ParameterKey::Ipv4Hint => list_of(alloc, ListItem::Ipv4, text, wrong),
-        ParameterKey::Ech => ech_of(alloc, text, wrong),
-        ParameterKey::Ipv6Hint => list_of(alloc, ListItem::Ipv6, text, wrong),
-        ParameterKey::DohPath => path_of(alloc, text, wrong),
-        ParameterKey::Numbered(_) => Ok(Octets::from_slice(alloc, text)?),
+        SvcParamKey::Mandatory => key_list_of(alloc, text, wrong),
+        SvcParamKey::Alpn => list_of(alloc, ListItem::Protocol, text, wrong),
+        SvcParamKey::NoDefaultAlpn => nothing_of(alloc, text, wrong),
+        SvcParamKey::Port => port_of(alloc, text, wrong),
+        SvcParamKey::Ipv4Hint => list_of(alloc, ListItem::Ipv4, text, wrong),
+        SvcParamKey::EchConfigList => ech_of(alloc, text, wrong),
+        SvcParamKey::Ipv6Hint => list_of(alloc, ListItem::Ipv6, text, wrong),
+        SvcParamKey::DohPath => path_of(alloc, text, wrong),
+        SvcParamKey::Key(_) | SvcParamKey::Key65535 | SvcParamKey::Unknown(_) => Ok(
+            Octets::from_slice(alloc, text)?,
+        ),
     }
 }
 
 // The text of the error for a value that does not have the format of the key.
-fn wrong_value(key: ParameterKey) -> &'static str
+fn wrong_value(key: SvcParamKey) -> &'static str
     ensures { result.now ≡ wrong_value key }
 {
     match key {
-        ParameterKey::Mandatory => "no list of different keys in mandatory",
-        ParameterKey::Alpn => "no list of protocols in alpn",
-        ParameterKey::NoDefaultAlpn => "value of no-default-alpn",
-        ParameterKey::Port => "no number of 16 bits in port",
-        ParameterKey::Ipv4Hint => "no list of addresses in ipv4hint",
-        ParameterKey::Ech => "no base64 in ech",
-        ParameterKey::Ipv6Hint => "no list of addresses in ipv6hint",
-        ParameterKey::DohPath => "no path in dohpath",
-        ParameterKey::Numbered(_) => "no value of a service parameter",
+        SvcParamKey::Mandatory => "no list of different keys in mandatory",
+        SvcParamKey::Alpn => "no list of protocols in alpn",
+        SvcParamKey::NoDefaultAlpn => "value of no-default-alpn",
+        SvcParamKey::Port => "no number of 16 bits in port",
+        SvcParamKey::Ipv4Hint => "no list of addresses in ipv4hint",
+        SvcParamKey::EchConfigList => "no base64 in ech",
+        SvcParamKey::Ipv6Hint => "no list of addresses in ipv6hint",
+        SvcParamKey::DohPath => "no path in dohpath",
+        SvcParamKey::Key(_) | SvcParamKey::Key65535 | SvcParamKey::Unknown(_) =>
+            "no value of a service parameter",
     }
 }
 
 // No octets, the value of no-default-alpn.
 fn nothing_of(alloc: Global, text: &[u8], wrong: &'static str) -> Result<Octets, ParseError>
-    ensures reads { Decides (HasOctets ParameterKey.NoDefaultAlpn text.now) (λ x. x) result }
+    ensures reads { Decides (HasOctets SvcParamKey.NoDefaultAlpn text.now) (λ x. x) result }
     ensures why { IfErr result (λ e. e ≡ ParseError.Message wrong.entry) }
 {
     if text.len() > 0 {
@@ -119,7 +122,7 @@ fn nothing_of(alloc: Global, text: &[u8], wrong: &'static str) -> Result<Octets,
 
 // A path of one octet or more.
 fn path_of(alloc: Global, text: &[u8], wrong: &'static str) -> Result<Octets, ParseError>
-    ensures reads { Decides (HasOctets ParameterKey.DohPath text.now) (λ x. x) result }
+    ensures reads { Decides (HasOctets SvcParamKey.DohPath text.now) (λ x. x) result }
     ensures why { IfErr result (λ e. (e ≡ ParseError.Memory) ⊎ (e ≡ ParseError.Message wrong.entry)) }
 {
     if text.len() == 0 {
@@ -144,7 +147,7 @@ fn port_of(alloc: Global, text: &[u8], wrong: &'static str) -> Result<Octets, Pa
 
 // The octets of base64.
 fn ech_of(alloc: Global, text: &[u8], wrong: &'static str) -> Result<Octets, ParseError>
-    ensures reads { Decides (HasOctets ParameterKey.Ech text.now) (λ x. x) result }
+    ensures reads { Decides (HasOctets SvcParamKey.EchConfigList text.now) (λ x. x) result }
     ensures why { IfErr result (λ e. (e ≡ ParseError.Memory) ⊎ (e ≡ ParseError.Message wrong.entry)) }
 {
     match STANDARD.decode(alloc, text) {

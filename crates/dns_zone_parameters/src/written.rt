@@ -8,7 +8,7 @@ ghost use Rattle.dns_zone_parameters.specs.{Faults.ParameterFault, Faults.NextFa
 ghost use Rattle.dns_zone_parameters.specs.Parameters.{is_equals, HasParameter, AreWritten};
 ghost use Rattle.dns_zone_parameters.specs.Steps.{NoQuoted, TookQuoted, TookWritten, IsUndivided, ReadsNext};
 
-use crate::key::ParameterKey;
+use crate::key::key_of_name;
 use crate::parameter::Parameter;
 use crate::values::value_of;
 use dns_types::ParseError;
@@ -48,7 +48,7 @@ fn parameter_of(alloc: Global, written: Written<'_>) -> Result<Parameter, ParseE
     ensures reads { Decides (HasParameter written.entry.name.now written.entry.value.now) parameter_value result }
     ensures why { IfErr result (λ e. (e ≡ ParseError.Memory) ⊎ ParameterFault written.entry.name.now written.entry.value.now e) }
 {
-    let Some(key) = ParameterKey::of_name(written.name) else {
+    let Some(key) = key_of_name(written.name) else {
         return Err(ParseError::Message(NO_KEY));
     };
     let value = value_of(alloc, key, written.value)?;

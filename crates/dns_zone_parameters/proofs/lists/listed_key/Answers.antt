@@ -1,5 +1,5 @@
 use Rattle.std.proofs.Common.{sym, ◌∙◌, ap}
-use Rattle.dns_zone_parameters.specs.Keys.{key_number}
+use Rattle.dns_rdata_service.specs.SvcParamKey.{key_number}
 use Rattle.dns_zone_parameters.proofs.KeyNames.{key_once}
 use Rattle.dns_zone_parameters.proofs.lists.listed_key.Goals as goal
 
