@@ -3,7 +3,7 @@
 ghost use Rattle.std.specs.Prelude.{◌≡◌, ◌<◌, ℕ, IfSome, IfNone};
 ghost use Rattle.dns_zone_parameters.specs.{Keys.key_number, Keys.named_key, Keys.IsKeyName, Steps.NumberSpelled};
 
-use dns_zone_tokens::{ZoneToken, u16_of};
+use dns_zone_tokens::{ZoneToken, number_of};
 use std::str;
 
 /// A key of a service parameter, as a zone file names it.
@@ -100,8 +100,8 @@ fn numbered(name: &[u8]) -> Option<u16>
         quoted: false,
         joined: false,
     };
-    match u16_of(token, "") {
-        Ok(number) if number < 65535 => Some(number),
+    match number_of(token, 2, "") {
+        Ok(number) if number < 65535 => Some(number as u16),
         _ => None,
     }
 }
