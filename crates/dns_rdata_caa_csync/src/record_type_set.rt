@@ -59,8 +59,8 @@ impl RecordTypeSet {
         Ok(RecordTypeSet::of_numbers(numbers))
     }
 
-    // The set of these numbers. Takes no memory.
-    pub(crate) fn of_numbers(mut numbers: Vec<u16>) -> RecordTypeSet
+    /// The set of the types with these numbers, in any order; a number may come repeatedly. Allocates nothing.
+    pub fn of_numbers(mut numbers: Vec<u16>) -> RecordTypeSet
         ensures { IsSetOf numbers.items result }
     {
         if !rises(numbers.as_slice()) {

@@ -1,14 +1,14 @@
 -- A text that was written is divided into its tokens again.
-use Rattle.std.proofs.Common.{◌≡◌, ◌≢◌, ℕ, suc, length, get_or, All, ◌+◌, ◌/◌, ◌%◌, ◌<◌, ◌≤◌, Bool, true, false, cond, eqb, ◌||◌, ◌&&◌, nat_le, List, []}
-use Rattle.std.proofs.Common.{◌∷◌, ◌++◌, Result, Ok, refl, sym, ◌∙◌, ap, append_assoc, arith}
-use Rattle.std.specs.Prelude.{flat_map, not, codes}
-use Rattle.std.specs.List.{AllByRecursion}
+use Rattle.std.proofs.Common.{◌≡◌, ◌≢◌, ℕ, suc, length, get_or, All, ◌+◌, ◌/◌, ◌%◌, ◌<◌, ◌≤◌, Bool, true, false, eqb, ◌&&◌, nat_le, List, []}
+use Rattle.std.proofs.Common.{◌∷◌, ◌++◌, Ok, refl, sym, ◌∙◌, ap, append_assoc, arith}
+use Rattle.std.specs.{List.AllByRecursion, Prelude.flat_map, Prelude.not, Prelude.codes}
 use Rattle.std.proofs.{lemmas.Bool.Decides.nat_tests, lemmas.List.append-nil, lemmas.List.Elements.All-head, lemmas.List.Elements.All-tail}
 use Rattle.dns_fields.specs.Octets.{AreOctets}
-use Rattle.dns_zone_tokens.specs.{Remaining.with_tokens, declared.tokens_error.TokensError.TokensError}
-use Rattle.dns_zone_tokens.specs.Tokens.{Token, is_blank, is_line_end, ends_run, begins_gap, between, run, quotes, tokens_read_from, with_token}
-use Rattle.dns_rdata_zone.specs.{Names.zone_label, Names.zone_labels, Printable.ArePrintable}
-use Rattle.dns_rdata_zone.specs.Spellings.{escaped, three_digits, needs_backslash, name_octet}
+use Rattle.dns_zone_tokens.specs.{Remaining.with_tokens}
+use Rattle.dns_zone_tokens.specs.Tokens.{Token, Spot, is_blank, is_line_end, ends_run, begins_gap, between, run, quotes, tokens_read_from, with_token}
+use Rattle.dns_zone_tokens.proofs.RemainingSteps.{tokens_more}
+use Rattle.dns_rdata_zone.specs.{Printable.ArePrintable, Names.zone_label, Names.zone_labels, Spellings.escaped, Spellings.three_digits, Spellings.name_octet}
+use Rattle.dns_rdata_zone.proofs.Parts.{ByParts, name_octet_by, escaped_by, single_parts, octet_parts, digit_parts, labels_parts}
 
 -- ---- printable texts
 
@@ -28,39 +28,19 @@ digits_printable c h = (
   ((omega arith, omega arith), ((omega arith, omega arith), ((omega arith, omega arith), tt))),
 )
 
-printable_test : (b : Bool) (x y : List ℕ) → (b ≡ true → ArePrintable x) → (b ≡ false → ArePrintable y) → ArePrintable (cond b x y)
-printable_test true x y h k = h refl
-printable_test false x y h k = k refl
-
-backslash_printable : (c : ℕ) → needs_backslash c ≡ true → ArePrintable (92 ∷ c ∷ [])
-backslash_printable c h = ((omega arith, omega arith), ((grind (arith, nat_tests), grind (arith, nat_tests)), tt))
+printable_parts : ByParts ArePrintable
+printable_parts = record { none = tt; both = printable_both }
 
 graphic_printable : (c low : ℕ) → 32 ≤ low → nat_le low c && nat_le c 126 ≡ true → ArePrintable (c ∷ [])
 graphic_printable c low h e = ((grind (arith, nat_tests), grind (arith, nat_tests)), tt)
 
 name_octet_printable : (c : ℕ) → c < 256 → ArePrintable (name_octet c)
-name_octet_printable c h = printable_test (needs_backslash c) _ _ (backslash_printable c)
-    (λ e. printable_test (nat_le 33 c && nat_le c 126) _ _ (graphic_printable c 33 (omega arith)) (λ f. digits_printable c h))
-
-quoted_backslash : (c : ℕ) → eqb c 34 || eqb c 92 ≡ true → ArePrintable (92 ∷ c ∷ [])
-quoted_backslash c h = ((omega arith, omega arith), ((grind (arith, nat_tests), grind (arith, nat_tests)), tt))
+name_octet_printable c h = name_octet_by ArePrintable c (λ e. ((omega arith, omega arith), ((grind (arith, nat_tests), grind (arith, nat_tests)), tt)))
+    (λ e. graphic_printable c 33 (omega arith)) (digits_printable c h)
 
 escaped_printable : (c : ℕ) → c < 256 → ArePrintable (escaped c)
-escaped_printable c h = printable_test (eqb c 34 || eqb c 92) _ _ (quoted_backslash c)
-    (λ e. printable_test (nat_le 32 c && nat_le c 126) _ _ (graphic_printable c 32 (omega arith)) (λ f. digits_printable c h))
-
-spelled_printable : (f : ℕ → List ℕ) → ((c : ℕ) → c < 256 → ArePrintable (f c)) → (s : List ℕ) → AreOctets s → ArePrintable (flat_map f s)
-spelled_printable f one [] h = tt
-spelled_printable f one (c ∷ s) h = printable_both (f c) (flat_map f s) (one c (All-head (λ x. x < 256) c s h))
-    (spelled_printable f one s (All-tail (λ x. x < 256) c s h))
-
-label_printable : (s : List ℕ) → AreOctets s → ArePrintable (zone_label s)
-label_printable s h = printable_both (flat_map name_octet s) (codes ".") (spelled_printable name_octet name_octet_printable s h)
-    ((omega arith, omega arith), tt)
-
-labels_printable : (ls : List (List ℕ)) → AllByRecursion AreOctets ls → ArePrintable (flat_map zone_label ls)
-labels_printable [] h = tt
-labels_printable (l ∷ ls) h = printable_both (zone_label l) (flat_map zone_label ls) (label_printable l h.0) (labels_printable ls h.1)
+escaped_printable c h = escaped_by ArePrintable c (λ e. ((omega arith, omega arith), ((grind (arith, nat_tests), grind (arith, nat_tests)), tt)))
+    (λ e. graphic_printable c 32 (omega arith)) (digits_printable c h)
 
 -- ---- texts that are divided
 
@@ -80,10 +60,6 @@ quoted_token joined s = record { octets = s; quoted = true; joined = joined }
 
 -- ---- lists of tokens
 
-tokens_read_append : (a b : List Token) (behind : Result (List Token) TokensError) → with_tokens (a ++ b) behind ≡ with_tokens a (with_tokens b behind)
-tokens_read_append [] b behind = refl
-tokens_read_append (w ∷ a) b behind = ap (with_token w) (tokens_read_append a b behind)
-
 tokens_all : (a b : List Token) → with_tokens a (Ok b) ≡ Ok (a ++ b)
 tokens_all [] b = refl
 tokens_all (w ∷ a) b = ap (with_token w) (tokens_all a b)
@@ -95,18 +71,34 @@ divided_then {a = a} {b = b} {ws = ws} {vs = vs} h k = record {
       ap (tokens_read_from (between 0 false)) (append_assoc a (32 ∷ b) (32 ∷ rest))
       ∙ h.then (b ++ 32 ∷ rest)
       ∙ ap (with_tokens ws) (k.then rest)
-      ∙ sym (tokens_read_append ws vs (tokens_read_from (between 0 false) rest));
+      ∙ sym (tokens_more ws vs (tokens_read_from (between 0 false) rest));
   last = h.then b ∙ ap (with_tokens ws) k.last ∙ tokens_all ws vs;
   printable = printable_both a (32 ∷ b) h.printable (blank_printable b k.printable);
 }
 
--- ---- a token without quotes
+-- ---- tokens that go on
 
 -- the token goes on with the octets
-abbrev pub InRun : List ℕ → Type 0
-InRun s = (front rest : List ℕ) → tokens_read_from (run 0 false front) (s ++ rest) ≡ tokens_read_from (run 0 false (front ++ s)) rest
+abbrev pub TakesOn : (List ℕ → Spot) → List ℕ → Type 0
+TakesOn at s = (front rest : List ℕ) → tokens_read_from (at front) (s ++ rest) ≡ tokens_read_from (at (front ++ s)) rest
 
--- they begin one
+takes_parts : (at : List ℕ → Spot) → ByParts (TakesOn at)
+takes_parts at = record {
+  none = λ front rest. ap (λ (f : List ℕ). tokens_read_from (at f) rest) (sym (append-nil front));
+  both = λ a b h k front rest.
+      ap (tokens_read_from (at front)) (append_assoc a b rest) ∙ h front (b ++ rest) ∙ k (front ++ a) rest
+      ∙ ap (λ (f : List ℕ). tokens_read_from (at f) rest) (append_assoc front a b);
+}
+
+-- ---- a token without quotes
+
+abbrev pub InRun : List ℕ → Type 0
+InRun = TakesOn (run 0 false)
+
+run_parts : ByParts InRun
+run_parts = takes_parts (run 0 false)
+
+-- the octets begin one
 abbrev pub BeginsRun : List ℕ → Type 0
 BeginsRun s = (rest : List ℕ) → tokens_read_from (between 0 false) (s ++ rest) ≡ tokens_read_from (run 0 false s) rest
 
@@ -114,15 +106,7 @@ BeginsRun s = (rest : List ℕ) → tokens_read_from (between 0 false) (s ++ res
 abbrev pub is_run_octet : ℕ → Bool
 is_run_octet c = nat_le 33 c && (nat_le c 126 && (not (ends_run c) && not (eqb c 92)))
 
-pub run_none : InRun []
-run_none front rest = ap (λ (f : List ℕ). tokens_read_from (run 0 false f) rest) (sym (append-nil front))
-
-pub run_append : (a b : List ℕ) → InRun a → InRun b → InRun (a ++ b)
-run_append a b h k front rest =
-    ap (tokens_read_from (run 0 false front)) (append_assoc a b rest) ∙ h front (b ++ rest) ∙ k (front ++ a) rest
-    ∙ ap (λ (f : List ℕ). tokens_read_from (run 0 false f) rest) (append_assoc front a b)
-
-pub begins_append : (a b : List ℕ) → BeginsRun a → InRun b → BeginsRun (a ++ b)
+begins_append : (a b : List ℕ) → BeginsRun a → InRun b → BeginsRun (a ++ b)
 begins_append a b h k rest = ap (tokens_read_from (between 0 false)) (append_assoc a b rest) ∙ h (b ++ rest) ∙ k a rest
 
 -- an octet that needs no escape
@@ -135,12 +119,6 @@ run_two c h front rest = rw h (ap (λ (f : List ℕ). tokens_read_from (run 0 fa
 
 run_digit : (d : ℕ) → d < 10 → InRun ((48 + d) ∷ [])
 run_digit d h = run_one (48 + d) (grind (arith, nat_tests)) (grind (arith, nat_tests))
-
-run_digits : (c : ℕ) → c < 256 → InRun (three_digits c)
-run_digits c h =
-    let first : InRun (92 ∷ (48 + c / 100) ∷ []) = run_two (48 + c / 100) (grind (arith, nat_tests)) in
-    run_append (92 ∷ (48 + c / 100) ∷ []) _ first
-    (run_append ((48 + c / 10 % 10) ∷ []) _ (run_digit (c / 10 % 10) (omega arith)) (run_digit (c % 10) (omega arith)))
 
 begins_by : (c : ℕ) → is_blank c ≡ false → is_line_end c ≡ false → eqb c 59 ≡ false → eqb c 40 ≡ false → eqb c 41 ≡ false → eqb c 34 ≡ false
     → eqb c 92 ≡ false → BeginsRun (c ∷ [])
@@ -157,7 +135,7 @@ begins_digits : (c : ℕ) → c < 256 → BeginsRun (three_digits c)
 begins_digits c h =
     let first : BeginsRun (92 ∷ (48 + c / 100) ∷ []) = begins_two (48 + c / 100) (grind (arith, nat_tests)) in
     begins_append (92 ∷ (48 + c / 100) ∷ []) _ first
-    (run_append ((48 + c / 10 % 10) ∷ []) _ (run_digit (c / 10 % 10) (omega arith)) (run_digit (c % 10) (omega arith)))
+    (run_parts.both ((48 + c / 10 % 10) ∷ []) _ (run_digit (c / 10 % 10) (omega arith)) (run_digit (c % 10) (omega arith)))
 
 -- `\#`
 pub mark_begins : BeginsRun (92 ∷ 35 ∷ [])
@@ -196,59 +174,35 @@ run_is c h = run_one c (grind (arith, nat_tests)) (grind (arith, nat_tests))
 pub begins_is : (c : ℕ) → is_run_octet c ≡ true → BeginsRun (c ∷ [])
 begins_is c h = begins_one c (grind (arith, nat_tests)) (grind (arith, nat_tests)) (grind (arith, nat_tests))
 
-pub run_plain : (s : List ℕ) → AreRunOctets s → InRun s
-run_plain [] h = run_none
-run_plain (c ∷ s) h = run_append (c ∷ []) s (run_is c h.0) (run_plain s h.1)
-
 pub begins_plain : (s : List ℕ) → s ≢ [] → AreRunOctets s → BeginsRun s
 begins_plain [] some h = absurd (some refl)
-begins_plain (c ∷ s) some h = begins_append (c ∷ []) s (begins_is c h.0) (run_plain s h.1)
+begins_plain (c ∷ s) some h = begins_append (c ∷ []) s (begins_is c h.0) (single_parts run_parts run_is s h.1)
 
 pub one_printable : (c : ℕ) → is_run_octet c ≡ true → (32 ≤ c) × (c ≤ 126)
 one_printable c h = (grind (arith, nat_tests), grind (arith, nat_tests))
 
 pub run_printable : (s : List ℕ) → AreRunOctets s → ArePrintable s
-run_printable [] h = tt
-run_printable (c ∷ s) h = (one_printable c h.0, run_printable s h.1)
+run_printable s h = single_parts printable_parts (λ c is. (one_printable c is, tt)) s h
 
 pub plain_divided : (s : List ℕ) → s ≢ [] → AreRunOctets s → AreDivided s (bare_token s ∷ [])
 plain_divided s some h = bare_divided s (begins_plain s some h) (run_printable s h)
 
 -- ---- labels
 
-run_test : (b : Bool) (x y : List ℕ) → (b ≡ true → InRun x) → (b ≡ false → InRun y) → InRun (cond b x y)
-run_test true x y h k = h refl
-run_test false x y h k = k refl
+name_octet_run : (c : ℕ) → c < 256 → InRun (name_octet c)
+name_octet_run c h = name_octet_by InRun c (λ e. run_two c (grind (arith, nat_tests)))
+    (λ e f. run_one c (grind (arith, nat_tests)) (grind (arith, nat_tests)))
+    (digit_parts run_parts c h (run_two (48 + c / 100) (grind (arith, nat_tests))) run_digit)
 
-begins_test : (b : Bool) (x y : List ℕ) → (b ≡ true → BeginsRun x) → (b ≡ false → BeginsRun y) → BeginsRun (cond b x y)
-begins_test true x y h k = h refl
-begins_test false x y h k = k refl
-
-pub name_octet_run : (c : ℕ) → c < 256 → InRun (name_octet c)
-name_octet_run c h = run_test (needs_backslash c) _ _ (λ e. run_two c (grind (arith, nat_tests)))
-    (λ e. run_test (nat_le 33 c && nat_le c 126) _ _ (λ f. run_one c (grind (arith, nat_tests)) (grind (arith, nat_tests))) (λ f. run_digits c h))
-
-pub name_octet_begins : (c : ℕ) → c < 256 → BeginsRun (name_octet c)
-name_octet_begins c h = begins_test (needs_backslash c) _ _ (λ e. begins_two c (grind (arith, nat_tests)))
-    (λ e. begins_test (nat_le 33 c && nat_le c 126) _ _
-    (λ f. begins_one c (grind (arith, nat_tests)) (grind (arith, nat_tests)) (grind (arith, nat_tests))) (λ f. begins_digits c h))
-
-pub spelled_run : (s : List ℕ) → AreOctets s → InRun (flat_map name_octet s)
-spelled_run [] h = run_none
-spelled_run (c ∷ s) h = run_append (name_octet c) (flat_map name_octet s) (name_octet_run c (All-head (λ x. x < 256) c s h))
-    (spelled_run s (All-tail (λ x. x < 256) c s h))
-
-label_run : (s : List ℕ) → AreOctets s → InRun (zone_label s)
-label_run s h = run_append (flat_map name_octet s) (codes ".") (spelled_run s h) (run_one 46 refl refl)
-
-labels_run : (ls : List (List ℕ)) → AllByRecursion AreOctets ls → InRun (flat_map zone_label ls)
-labels_run [] h = run_none
-labels_run (l ∷ ls) h = run_append (zone_label l) (flat_map zone_label ls) (label_run l h.0) (labels_run ls h.1)
+name_octet_begins : (c : ℕ) → c < 256 → BeginsRun (name_octet c)
+name_octet_begins c h = name_octet_by BeginsRun c (λ e. begins_two c (grind (arith, nat_tests)))
+    (λ e f. begins_one c (grind (arith, nat_tests)) (grind (arith, nat_tests)) (grind (arith, nat_tests))) (begins_digits c h)
 
 label_begins : (s : List ℕ) → s ≢ [] → AreOctets s → BeginsRun (zone_label s)
 label_begins [] some h = absurd (some refl)
 label_begins (c ∷ s) some h = begins_append (name_octet c ++ flat_map name_octet s) (codes ".")
-    (begins_append (name_octet c) (flat_map name_octet s) (name_octet_begins c (All-head (λ x. x < 256) c s h)) (spelled_run s (All-tail (λ x. x < 256) c s h)))
+    (begins_append (name_octet c) (flat_map name_octet s) (name_octet_begins c (All-head (λ x. x < 256) c s h))
+    (octet_parts run_parts name_octet name_octet_run s (All-tail (λ x. x < 256) c s h)))
     (run_one 46 refl refl)
 
 -- no label is empty
@@ -259,67 +213,47 @@ NoneEmpty (l ∷ ls) = (l ≢ []) × NoneEmpty ls
 pub name_divided : (ls : List (List ℕ)) → AllByRecursion AreOctets ls → NoneEmpty ls → AreDivided (zone_labels ls) (bare_token (zone_labels ls) ∷ [])
 name_divided [] h k = bare_divided (codes ".") (begins_one 46 refl refl refl) ((omega arith, omega arith), tt)
 name_divided (l ∷ ls) h k = bare_divided (zone_label l ++ flat_map zone_label ls)
-    (begins_append (zone_label l) (flat_map zone_label ls) (label_begins l k.0 h.0) (labels_run ls h.1))
-    (labels_printable (l ∷ ls) h)
+    (begins_append (zone_label l) (flat_map zone_label ls) (label_begins l k.0 h.0)
+    (labels_parts run_parts name_octet_run (run_one 46 refl refl) ls h.1))
+    (labels_parts printable_parts name_octet_printable ((omega arith, omega arith), tt) (l ∷ ls) h)
 
 -- ---- a token in quotes
 
--- the octets are taken on within the quotes
-abbrev TakenOn : List ℕ → Type 0
-TakenOn s = (joined : Bool) (front rest : List ℕ) → tokens_read_from (quotes 0 joined front) (s ++ rest) ≡ tokens_read_from (quotes 0 joined (front ++ s)) rest
+abbrev TakenOn : Bool → List ℕ → Type 0
+TakenOn joined = TakesOn (quotes 0 joined)
 
-quotes_none : TakenOn []
-quotes_none joined front rest = ap (λ (f : List ℕ). tokens_read_from (quotes 0 joined f) rest) (sym (append-nil front))
+quotes_parts : (joined : Bool) → ByParts (TakenOn joined)
+quotes_parts joined = takes_parts (quotes 0 joined)
 
-quotes_append : (a b : List ℕ) → TakenOn a → TakenOn b → TakenOn (a ++ b)
-quotes_append a b h k joined front rest =
-    ap (tokens_read_from (quotes 0 joined front)) (append_assoc a b rest) ∙ h joined front (b ++ rest) ∙ k joined (front ++ a) rest
-    ∙ ap (λ (f : List ℕ). tokens_read_from (quotes 0 joined f) rest) (append_assoc front a b)
+quotes_one : (joined : Bool) (c : ℕ) → eqb c 34 ≡ false → eqb c 10 ≡ false → eqb c 92 ≡ false → TakenOn joined (c ∷ [])
+quotes_one joined c h k e front rest = rw (h, k, e) refl
 
-quotes_one : (c : ℕ) → eqb c 34 ≡ false → eqb c 10 ≡ false → eqb c 92 ≡ false → TakenOn (c ∷ [])
-quotes_one c h k e joined front rest = rw (h, k, e) refl
+quotes_two : (joined : Bool) (c : ℕ) → TakenOn joined (92 ∷ c ∷ [])
+quotes_two joined c front rest = ap (λ (f : List ℕ). tokens_read_from (quotes 0 joined f) rest) (append_assoc front (92 ∷ []) (c ∷ []))
 
-quotes_two : (c : ℕ) → TakenOn (92 ∷ c ∷ [])
-quotes_two c joined front rest = ap (λ (f : List ℕ). tokens_read_from (quotes 0 joined f) rest) (append_assoc front (92 ∷ []) (c ∷ []))
-
-quotes_digit : (d : ℕ) → d < 10 → TakenOn ((48 + d) ∷ [])
-quotes_digit d h = quotes_one (48 + d) (grind (arith, nat_tests)) (grind (arith, nat_tests)) (grind (arith, nat_tests))
-
-quotes_digits : (c : ℕ) → c < 256 → TakenOn (three_digits c)
-quotes_digits c h = quotes_append (92 ∷ (48 + c / 100) ∷ []) _ (quotes_two (48 + c / 100))
-    (quotes_append ((48 + c / 10 % 10) ∷ []) _ (quotes_digit (c / 10 % 10) (omega arith)) (quotes_digit (c % 10) (omega arith)))
-
-quotes_test : (b : Bool) (x y : List ℕ) → (b ≡ true → TakenOn x) → (b ≡ false → TakenOn y) → TakenOn (cond b x y)
-quotes_test true x y h k = h refl
-quotes_test false x y h k = k refl
-
-escaped_quotes : (c : ℕ) → c < 256 → TakenOn (escaped c)
-escaped_quotes c h = quotes_test (eqb c 34 || eqb c 92) _ _ (λ e. quotes_two c)
-    (λ e. quotes_test (nat_le 32 c && nat_le c 126) _ _
-    (λ f. quotes_one c (grind (arith, nat_tests)) (grind (arith, nat_tests)) (grind (arith, nat_tests))) (λ f. quotes_digits c h))
-
-spelled_taken : (s : List ℕ) → AreOctets s → TakenOn (flat_map escaped s)
-spelled_taken [] h = quotes_none
-spelled_taken (c ∷ s) h = quotes_append (escaped c) (flat_map escaped s) (escaped_quotes c (All-head (λ x. x < 256) c s h))
-    (spelled_taken s (All-tail (λ x. x < 256) c s h))
-
-quotes_plain_one : (c : ℕ) → is_run_octet c ≡ true → TakenOn (c ∷ [])
-quotes_plain_one c h = quotes_one c (grind (arith, nat_tests)) (grind (arith, nat_tests)) (grind (arith, nat_tests))
-
-plain_taken : (s : List ℕ) → AreRunOctets s → TakenOn s
-plain_taken [] h = quotes_none
-plain_taken (c ∷ s) h = quotes_append (c ∷ []) s (quotes_plain_one c h.0) (plain_taken s h.1)
+escaped_quotes : (joined : Bool) (c : ℕ) → c < 256 → TakenOn joined (escaped c)
+escaped_quotes joined c h = escaped_by (TakenOn joined) c (λ e. quotes_two joined c)
+    (λ e f. quotes_one joined c (grind (arith, nat_tests)) (grind (arith, nat_tests)) (grind (arith, nat_tests)))
+    (digit_parts (quotes_parts joined) c h (quotes_two joined (48 + c / 100))
+    (λ d l. quotes_one joined (48 + d) (grind (arith, nat_tests)) (grind (arith, nat_tests)) (grind (arith, nat_tests))))
 
 -- printable octets that are taken on within quotes
 pub record InQuotes (s : List ℕ) : Type 0 where
-  pub taken : TakenOn s
+  pub taken : (joined : Bool) → TakenOn joined s
   pub printable : ArePrintable s
 
 pub spelled_quotes : (s : List ℕ) → AreOctets s → InQuotes (flat_map escaped s)
-spelled_quotes s h = record { taken = spelled_taken s h; printable = spelled_printable escaped escaped_printable s h }
+spelled_quotes s h = record {
+  taken = λ joined. octet_parts (quotes_parts joined) escaped (escaped_quotes joined) s h;
+  printable = octet_parts printable_parts escaped escaped_printable s h;
+}
 
 pub plain_quotes : (s : List ℕ) → AreRunOctets s → InQuotes s
-plain_quotes s h = record { taken = plain_taken s h; printable = run_printable s h }
+plain_quotes s h = record {
+  taken = λ joined. single_parts (quotes_parts joined)
+      (λ c is. quotes_one joined c (grind (arith, nat_tests)) (grind (arith, nat_tests)) (grind (arith, nat_tests))) s h;
+  printable = run_printable s h;
+}
 
 enclosed_printable : (s : List ℕ) → ArePrintable s → ArePrintable (34 ∷ (s ++ 34 ∷ []))
 enclosed_printable s h = quote_printable (s ++ 34 ∷ []) (printable_both s (34 ∷ []) h (quote_printable [] tt))

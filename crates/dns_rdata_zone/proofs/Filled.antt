@@ -1,5 +1,5 @@
 -- What was read from a message is told by its text.
-use Rattle.std.proofs.Common.{◌≡◌, Bool, true, cond, ℕ, zero, suc, ◌+◌, ◌*◌, ◌/◌, ◌%◌, ◌<◌, ◌^◌, List, [], ◌∷◌, ◌++◌, map, length, inl, inr, ◌⊎◌}
+use Rattle.std.proofs.Common.{◌≡◌, ℕ, zero, suc, ◌+◌, ◌*◌, ◌/◌, ◌%◌, ◌<◌, ◌^◌, List, [], ◌∷◌, ◌++◌, map, length, inl, inr, ◌⊎◌}
 use Rattle.std.proofs.Common.{refl, sym, ◌∙◌, ap, subst, arith}
 use Rattle.std.specs.Prelude.{flat_map, slice_index}
 use Rattle.std.specs.{List.AllByRecursion, Net.Addr.IsIpv4Addr, Net.Addr.IsIpv6Addr, Net.Addr.ipv6_segments, Net.Addr.octets_of}
@@ -13,7 +13,7 @@ use Rattle.dns_fields.proofs.OctetLaws.{AreOctets-front, AreOctets-back, AreOcte
 use Rattle.dns_fields.proofs.Stays.{labels_stand}
 use Rattle.dns_types.specs.declared.record_type.RecordType.{RecordType}
 use Rattle.dns_rdata.specs.{declared.record_data.RData.RData, WholeOctets.whole_octets, WholeOctets.all_whole}
-use Rattle.dns_rdata.specs.Data.{FieldsOf, fields_of, shape, data_octets, Fills, IsValue}
+use Rattle.dns_rdata.specs.Data.{FieldsOf, fields_of, shape, Fills}
 use Rattle.dns_rdata.proofs.DataLaws.{fills_emittable}
 use Rattle.dns_rdata.specs.declared.record_data.RData.TheVariants as rdata
 use Rattle.dns_rdata_base.specs.{declared.a.A.A, declared.aaaa.AAAA.AAAA}
@@ -27,7 +27,7 @@ use Rattle.dns_rdata_zone.specs.Readable.{IsString, IsWritable, IsWritableTlsa, 
 use Rattle.dns_rdata_zone.specs.Readable.{IsReadable}
 use Rattle.dns_rdata_zone.specs.ZoneTexts.{zone_text, zone_octets}
 use Rattle.dns_rdata_zone.proofs.{RowForms.bytes_of, Again.own_fields, Again.same_length, TextsGive.texts_give, TextsGive.texts_print, TextsGive.texts_tell}
-use Rattle.dns_rdata_zone.proofs.FilledLengths.{all_short, few_fields, body_short}
+use Rattle.dns_rdata_zone.proofs.{FilledLengths.all_short, FilledLengths.few_fields, FilledLengths.body_short, ServiceDigits.octets_if}
 
 -- ---- the octets of fields, names uncompressed
 
@@ -213,15 +213,12 @@ readable {m} {p} {n} {t} {v} f = record {
 
 -- ---- the value is that of its octets alone
 
-octets_of_fields : (t : RecordType) (v : RData) (values : Values (shape t)) → IsValue t values v → zone_octets v ≡ all_whole (shape t) values
-octets_of_fields t v values h = ap (λ (x : FieldsOf). all_whole x.kinds x.values) h.fields
-
 ends_at : (m : List ℕ) (kinds : List Kind) (vs : Values kinds) → Stands m 0 kinds vs (length m) → Stands m 0 kinds vs (0 + length m)
 ends_at m kinds vs h = let e : length m ≡ 0 + length m = omega arith in subst (λ (k : ℕ). Stands m 0 kinds vs k) e h
 
 data_of : (m : List ℕ) (p n : ℕ) (t : RecordType) (v : RData) (f : Fills m p n t v) → length (zone_octets v) < 65536 → AreDataOf (zone_octets v) t v
 data_of m p n t v f small =
-    let e = octets_of_fields t v f.values f.value in
+    let e : zone_octets v ≡ all_whole (shape t) f.values = ap (λ (x : FieldsOf). all_whole x.kinds x.values) f.value.fields in
     let own = all_whole (shape t) f.values in
     let few : length own < 65536 = subst (λ (o : List ℕ). length o < 65536) e small in
     subst (λ (o : List ℕ). AreDataOf o t v) (sym e) (record {
@@ -239,21 +236,12 @@ data_of m p n t v f small =
       };
     })
 
-if_emittable : (b : Bool) (octets : List ℕ) → b ≡ true → cond b octets [] ≡ octets
-if_emittable b octets h = rw h refl
-
-as_long : (m : List ℕ) (p n : ℕ) (t : RecordType) (v : RData) → Fills m p n t v → length (data_octets v) ≡ length (zone_octets v)
-as_long m p n t v f =
-    let kinds = (fields_of v).kinds in
-    let values = (fields_of v).values in
-    ap length (if_emittable (all_emittable kinds values) (canonical kinds values) (fills_emittable f)) ∙ same_length kinds values
-
 pub fills_give : FillsGive
 fills_give origin m p n t v f small = record {
   octets = zone_octets v;
   gives = subst (λ (s : RecordType). TextGives origin s (zone_octets v) (zone_text v)) f.value.type (texts_give origin v (readable f) small);
   is_data = data_of m p n t v f small;
-  whole = λ unknown named. as_long m p n t v f;
+  whole = λ unknown named. ap length (octets_if v (fills_emittable f)) ∙ same_length (fields_of v).kinds (fields_of v).values;
 }
 
 pub fills_tell : FillsTell

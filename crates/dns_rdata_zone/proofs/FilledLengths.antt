@@ -1,31 +1,16 @@
 -- What was read from a message has few octets.
-use Rattle.std.proofs.Common.{◌≡◌, ℕ, suc, ◌+◌, ◌*◌, ◌≤◌, List, [], ◌∷◌, ◌++◌, map, length, inl, inr, ◌⊎◌, refl, ap, arith, length-append}
+use Rattle.std.proofs.Common.{◌≡◌, ℕ, suc, ◌+◌, ◌*◌, ◌≤◌, List, [], ◌∷◌, map, length, inl, inr, ◌⊎◌, refl, ap, arith, length-append}
 use Rattle.std.specs.{List.flat_map, List.AllByRecursion, List.range_with_len, Int.bytes_high_first}
-use Rattle.dns_fields.specs.Bitmaps.{Block, block, IsBlock, minimal, window, windows, with_block}
-use Rattle.dns_fields.specs.Fields.{Kind, Value, Values, Number, Octets, Name, CharacterString, CharacterStrings, Rest, Options, Parameters, Bitmap, field_octets, Field}
-use Rattle.dns_fields.specs.Fields.{Stands, CompleteOptions, TruncatedOptions, option_tlvs}
-use Rattle.dns_fields.specs.Labels.{wire}
-use Rattle.dns_fields.specs.Tlvs.{Numbered, tlv, tlvs, as_tlv, AllHeld, OptionValue, Subnet, OpaqueOption, option_octets, OptionHeld, ParameterValue}
-use Rattle.dns_fields.specs.Tlvs.{Mandatory, Alpn, NoDefaultAlpn, Port, Ipv4Hint, Ipv6Hint, Opaque, parameter_octets, ParameterHeld, IsBody}
-use Rattle.dns_fields.proofs.{Bitmaps.minimal_fit, FieldLaws.field_inside}
+use Rattle.dns_fields.specs.Fields.{Kind, Value, Values, Number, Octets, Name, CharacterString, CharacterStrings, Rest, Options, Parameters, Bitmap}
+use Rattle.dns_fields.specs.Tlvs.{Numbered, tlv, tlvs, as_tlv, AllHeld, OptionValue, Subnet, OpaqueOption, option_octets, OptionHeld, ParameterValue, Mandatory}
+use Rattle.dns_fields.specs.{Labels.wire, Bitmaps.Block, Bitmaps.block, Bitmaps.IsBlock, Bitmaps.minimal, Bitmaps.window, Bitmaps.windows, Bitmaps.with_block}
+use Rattle.dns_fields.specs.Fields.{field_octets, Field, Stands, CompleteOptions, TruncatedOptions, option_tlvs}
+use Rattle.dns_fields.specs.Tlvs.{Alpn, NoDefaultAlpn, Port, Ipv4Hint, Ipv6Hint, Opaque, parameter_octets, ParameterHeld, IsBody}
+use Rattle.dns_fields.proofs.{Bitmaps.minimal_fit, FieldLaws.field_inside, Tlvs.length-tlv}
 use Rattle.dns_rdata.specs.{Data.fields_of, declared.record_data.RData.RData, WholeOctets.whole_octets, WholeOctets.all_whole}
 use Rattle.dns_rdata.specs.declared.record_data.RData.TheVariants as rdata
 
 -- ---- tlvs: a value has no more octets than those that hold it
-
-two_octets : (n : ℕ) → length (bytes_high_first 2 n) ≡ 2
-two_octets n = refl
-
-tlv_length : (x : Numbered (List ℕ)) → length (tlv x) ≡ 4 + length x.1
-tlv_length x =
-    let size = length x.1 in
-    omega (
-      arith,
-      two_octets x.0,
-      two_octets size,
-      length-append (bytes_high_first 2 x.0) (bytes_high_first 2 size ++ x.1),
-      length-append (bytes_high_first 2 size) x.1,
-    )
 
 held_short : {V : Type 0} (Held : ℕ → List ℕ → V → Type 0) (octets : V → List ℕ)
     → ((k : ℕ) (d : List ℕ) (v : V) → Held k d v → length (octets v) ≤ length d)
@@ -37,8 +22,8 @@ held_short Held octets own (x ∷ xs) (y ∷ vs) h = omega (
   arith,
   own y.0 x.1 y.1 h.1,
   held_short Held octets own xs vs h.2,
-  tlv_length x,
-  tlv_length (as_tlv octets y),
+  length-tlv x,
+  length-tlv (as_tlv octets y),
   length-append (tlv x) (tlvs xs),
   length-append (tlv (as_tlv octets y)) (tlvs (map (as_tlv octets) vs)),
 )

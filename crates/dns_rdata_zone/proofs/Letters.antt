@@ -1,8 +1,7 @@
 -- The letters of what was written: strings in quotes, labels and tokens.
-use Rattle.std.proofs.Common.{◌≡◌, ℕ, ◌+◌, ◌-◌, ◌*◌, ◌/◌, ◌%◌, ◌<◌, Bool, true, false, cond, eqb, ◌||◌, ◌&&◌, nat_le, List, [], ◌∷◌, ◌++◌, map, refl}
-use Rattle.std.proofs.Common.{◌∙◌, ap, append_assoc, arith}
+use Rattle.std.proofs.Common.{◌≡◌, ℕ, ◌+◌, ◌-◌, ◌*◌, ◌/◌, ◌%◌, ◌<◌, Bool, true, false, cond, eqb, ◌||◌, ◌&&◌, nat_le, List, [], ◌∷◌, ◌++◌, map, refl, ◌∙◌, ap}
+use Rattle.std.proofs.{lemmas.Bool.Decides.nat_tests, Common.append_assoc, Common.arith, lemmas.List.Elements.All-head, lemmas.List.Elements.All-tail}
 use Rattle.std.specs.Prelude.{flat_map}
-use Rattle.std.proofs.{lemmas.Bool.Decides.nat_tests, lemmas.List.Elements.All-head, lemmas.List.Elements.All-tail}
 use Rattle.dns_fields.specs.Octets.{AreOctets}
 use Rattle.dns_zone_tokens.specs.Letters.{Letter, plain, kept, is_digit, letters, octet_of, stands_for}
 use Rattle.dns_rdata_zone.specs.{Names.zone_label, Spellings.escaped, Spellings.three_digits, Spellings.needs_backslash, Spellings.name_octet}
@@ -23,7 +22,7 @@ itself c rest h = rw h
 behind : (c : ℕ) (rest : List ℕ) → is_digit c ≡ false → letters (92 ∷ c ∷ rest) ≡ kept c ∷ letters rest
 behind c rest h = rw h
 
-digit_is : (d : ℕ) → d < 10 → is_digit (48 + d) ≡ true
+pub digit_is : (d : ℕ) → d < 10 → is_digit (48 + d) ≡ true
 digit_is d h = grind (arith, nat_tests)
 
 number_is : (c : ℕ) → c < 256 → 10 * (10 * ((48 + c / 100) - 48) + ((48 + c / 10 % 10) - 48)) + ((48 + c % 10) - 48) ≡ c

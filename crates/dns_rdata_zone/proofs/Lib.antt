@@ -9,6 +9,7 @@ pub mod Joined
 pub mod Letters
 pub mod NameTexts
 pub mod OptionDigits
+pub mod Parts
 pub mod ParameterForms
 pub mod ParameterValues
 pub mod ParametersGive

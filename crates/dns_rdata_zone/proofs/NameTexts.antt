@@ -1,21 +1,18 @@
 -- Names of zone files.
-use Rattle.std.proofs.Common.{◌≡◌, ◌⊎◌, ℕ, ◌+◌, List, [], ◌∷◌, ◌++◌, length, Option, Result, Ok, Err, refl, sym, ◌∙◌, ap, subst, inl, inr, codes}
+use Rattle.std.proofs.Common.{◌≡◌, ◌⊎◌, ℕ, ◌+◌, List, [], ◌∷◌, ◌++◌, length, Option, Result, Ok, Err, refl, sym, ◌∙◌, ap, subst, codes}
 use Rattle.std.proofs.lemmas.List.{append-nil}
-use Rattle.std.specs.Prelude.{IfOk, IfErr}
-use Rattle.std.specs.Result.{IsErrAnd}
-use Rattle.dns_fields.specs.Labels.{DomainName, IsName, full_name, wire}
-use Rattle.dns_fields.specs.Names.{IsNameIn, whole}
+use Rattle.std.specs.{Result.IsErrAnd, Prelude.IfOk, Prelude.IfErr}
+use Rattle.dns_fields.specs.{Names.IsNameIn, Names.whole, Labels.DomainName, Labels.IsName, Labels.full_name, Labels.wire}
 use Rattle.dns_fields.proofs.NameLaws.{name_same}
 use Rattle.dns_names_wire.specs.State.{Reading}
 use Rattle.dns_types.specs.declared.error.ParseError.{ParseError}
 use Rattle.dns_types.specs.declared.error.ParseError.TheVariants as parse
 use Rattle.dns_tokens.specs.Reads.{UnlessParseMemory}
 use Rattle.dns_tokens.proofs.Steps.{unless_map}
-use Rattle.dns_zone_rows.specs.{RowFaults.row_value, RowFaults.RowFault, RowTexts.row_texts, RowTexts.no_more, declared.zone_row.ZoneRow.ZoneRow}
-use Rattle.dns_zone_rows.specs.Rows.{RowGives}
+use Rattle.dns_zone_rows.specs.{Rows.RowGives, RowTexts.row_texts, RowTexts.no_more, declared.zone_row.ZoneRow.ZoneRow, RowFaults.row_value, RowFaults.RowFault}
 use Rattle.dns_zone_tokens.specs.{FieldTexts.name_called, NameTokens.IsNameToken, NameTokens.name_octets, Tokens.Token, Tokens.Cursor, Tokens.tokens_at, Tokens.zone_tokens}
 use Rattle.dns_zone_tokens.specs.Remaining.{TookAll, NoneOfAll}
-use Rattle.dns_zone_tokens.proofs.FirstSteps.{exit_with}
+use Rattle.dns_zone_tokens.proofs.FirstSteps.{exit_with, or_then}
 use Rattle.dns_rdata_zone.specs.NameTexts.{IsZoneName, IsNoZoneName, ZoneNameFault, name_row}
 
 -- ---- uncompressed octets
@@ -84,18 +81,11 @@ name_refused r e origin text cursor h starts none = exit_with (λ r. IfErr r (λ
     (unless_map e (NoneOfAll (RowGives origin name_row) cursor) (IsNoZoneName origin text)
     (λ no. record { none = λ x is. no.none (name_octets is.value) (is.token ∷ []) (starts ∙ is.divided) (name_given origin is.token is.value is.is) }) none)
 
-told : (e : ParseError) (origin : Option DomainName) (text : List ℕ) (zone_row : ZoneRow) (cursor : Cursor) → tokens_at cursor ≡ zone_tokens text
-    → row_value zone_row ≡ name_row
-    → row_texts zone_row ≡ name_called (codes "name") ∷ no_more ∷ [] → (e ≡ parse.Memory) ⊎ RowFault origin zone_row cursor e
-    → (e ≡ parse.Memory) ⊎ ZoneNameFault origin text e
-told e origin text zone_row cursor starts shape texts (inl memory) = inl memory
-told e origin text zone_row cursor starts shape texts (inr fault) =
-    inr (record { zone_row = zone_row; shape = shape; texts = texts; cursor = cursor; starts = starts; has = fault })
-
 pub name_fault : {T : Type 0} (r : Result T ParseError) (e : ParseError) (origin : Option DomainName) (text : List ℕ) (zone_row : ZoneRow) (cursor : Cursor)
     → IsErrAnd r (λ y. y ≡ e)
     → tokens_at cursor ≡ zone_tokens text → (e ≡ parse.Memory) ⊎ RowFault origin zone_row cursor e → row_value zone_row ≡ name_row
     → row_texts zone_row ≡ name_called (codes "name") ∷ no_more ∷ []
     → IfErr r (λ e. (e ≡ parse.Memory) ⊎ ZoneNameFault origin text e)
 name_fault r e origin text zone_row cursor h starts why shape texts =
-    exit_with (λ r. IfErr r (λ e. (e ≡ parse.Memory) ⊎ ZoneNameFault origin text e)) e r h (told e origin text zone_row cursor starts shape texts why)
+    exit_with (λ r. IfErr r (λ e. (e ≡ parse.Memory) ⊎ ZoneNameFault origin text e)) e r h
+    (or_then (λ fault. record { zone_row = zone_row; shape = shape; texts = texts; cursor = cursor; starts = starts; has = fault }) why)

@@ -1,14 +1,13 @@
 -- The octets of options in hexadecimal.
-use Rattle.std.proofs.Common.{◌≡◌, ℕ, ◌+◌, ◌*◌, ◌%◌, ◌<◌, ◌≤◌, List, [], ◌∷◌, ◌++◌, length, take, get_or, map, decimal, refl, sym, ◌∙◌, ap, append_assoc, arith}
-use Rattle.std.proofs.Common.{add-one, length-append}
+use Rattle.std.proofs.Common.{◌≡◌, ℕ, ◌+◌, ◌*◌, ◌%◌, ◌<◌, List, [], ◌∷◌, ◌++◌, length, take, get_or, map, refl, sym, ◌∙◌, ap, append_assoc, arith, add-one}
+use Rattle.std.proofs.{Math.Seq.take-suc, Common.length-append, lemmas.List.append-nil, lemmas.Grind.flat_map-append}
 use Rattle.std.specs.Int.{bytes_high_first}
 use Rattle.hex.specs.Hex.{encode_lower}
-use Rattle.std.proofs.{Math.Seq.take-suc, lemmas.Grind.flat_map-append, lemmas.List.append-nil}
 use Rattle.dns_fields.specs.{Fields.Number, Fields.field_octets, Fields.option_tlvs, Tlvs.as_tlv, Tlvs.option_octets, Tlvs.tlv, Tlvs.tlvs}
 use Rattle.dns_fields.proofs.Tlvs.{length-tlv}
 use Rattle.dns_rdata_options.specs.OPT.{Pair, pair_value}
-use Rattle.dns_rdata_zone.specs.{Options.pair_octets, Options.options_octets, Options.zone_options, Tokens.tokens_from, Tokens.in_tokens, Tokens.left_after}
-use Rattle.dns_rdata_zone.proofs.{Digits.generic_is, TokenSteps.hex_tokens, TokenSteps.after_more}
+use Rattle.dns_rdata_zone.specs.{Options.pair_octets, Options.options_octets, Tokens.tokens_from, Tokens.in_tokens, Tokens.left_after}
+use Rattle.dns_rdata_zone.proofs.TokenSteps.{hex_tokens, after_more}
 
 -- family, source prefix, scope prefix and address, as they are put together
 pub subnet_head : (family source scope : ℕ) (address : List ℕ) → source < 256 → scope < 256
@@ -33,10 +32,6 @@ pair_digits code len left next value e f =
     ∙ sym (hex_tokens (2 * left) (a ++ b) value)
     ∙ ap (λ (s : List ℕ). tokens_from (2 * left) (encode_lower s)) (append_assoc a b value)
     ∙ ap (λ (n : ℕ). tokens_from (2 * left) (encode_lower (a ++ (bytes_high_first 2 n ++ value)))) e
-
-pub options_generic : (pairs : List Pair) (count : ℕ) → count ≡ length (options_octets pairs) → 1 ≤ count
-    → 92 ∷ 35 ∷ 32 ∷ (decimal count ++ 32 ∷ in_tokens (encode_lower (options_octets pairs))) ≡ zone_options pairs
-options_generic pairs count e h = generic_is (options_octets pairs) count e h
 
 -- one option more
 options_more : (pairs : List Pair) (i : ℕ) (p : Pair) → i < length pairs → p ≡ get_or pairs i p

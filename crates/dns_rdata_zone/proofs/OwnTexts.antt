@@ -1,27 +1,19 @@
 -- The text of a value, by its zone row or as unknown data, gives its octets, and tells them.
-use Rattle.std.proofs.Common.{◌≡◌, ◌≢◌, ◌⊎◌, ℕ, ◌^◌, ◌<◌, Bool, true, false, cond, List, [], ◌∷◌}
-use Rattle.std.proofs.Common.{◌++◌, length, decimal, codes, inl, inr, Option, Some, Result}
+use Rattle.std.proofs.Common.{◌≡◌, ◌≢◌, ◌⊎◌, ℕ, ◌^◌, ◌<◌, Bool, true, false, cond, List, [], ◌∷◌, ◌++◌, length, decimal, codes, inl, inr, Option, Some, Result}
 use Rattle.std.proofs.Common.{Ok, refl, sym, ◌∙◌, ap, subst, append_assoc, arith}
 use Rattle.dns_fields.specs.{Labels.DomainName, Octets.AreOctets}
 use Rattle.dns_types.specs.{declared.record_type.RecordType.RecordType}
-use Rattle.dns_zone_tokens.specs.{Forms.text, Tokens.Token, Tokens.between, Tokens.tokens_read_from}
-use Rattle.dns_zone_tokens.specs.Remaining.{AreUnknown}
-use Rattle.dns_zone_tokens.specs.declared.tokens_error.TokensError.{TokensError}
-use Rattle.hex.specs.Hex.{encode_lower, decode_of as hex_of}
-use Rattle.hex.specs.declared.error.FromHexError.{FromHexError}
+use Rattle.dns_zone_tokens.specs.{Forms.text, Remaining.AreUnknown, Remaining.joined, declared.tokens_error.TokensError.TokensError}
+use Rattle.dns_zone_tokens.specs.Tokens.{Token, between, tokens_read_from}
+use Rattle.hex.specs.{Hex.encode_lower, Hex.decode_of as hex_of, declared.error.FromHexError.FromHexError}
 use Rattle.hex.proofs.HexLemmas.{decode_of-encode_lower}
 use Rattle.dns_zone_rows.proofs.Once.{row_once}
-use Rattle.dns_zone_rows.specs.Rows.{RowShape, RowGives}
-use Rattle.dns_zone_rows.specs.RowTable.{zone_row_of}
-use Rattle.dns_rdata_zone.specs.{Printable.ArePrintable, ZoneGives.GiveByRow}
-use Rattle.dns_rdata_zone.specs.{ZoneGives.AreUnmarked, ZoneGives.TextGives, Generic.generic}
-use Rattle.dns_rdata_zone.proofs.Dividing.{AreDivided, divided_then, bare_token, plain_divided, bare_divided, mark_begins}
-use Rattle.dns_rdata_zone.specs.Tokens.{in_tokens}
-use Rattle.dns_rdata_zone.proofs.TokenTokens.{digit_tokens, tokens_divided, tokens_joined}
-use Rattle.dns_zone_tokens.specs.Remaining.{joined}
-use Rattle.dns_rdata_zone.proofs.TokenForms.{number_form}
+use Rattle.dns_zone_rows.specs.{RowTable.zone_row_of, Rows.RowShape, Rows.RowGives}
+use Rattle.dns_rdata_zone.specs.{Generic.generic, Tokens.in_tokens, Printable.ArePrintable, ZoneGives.GiveByRow, ZoneGives.AreUnmarked, ZoneGives.TextGives}
+use Rattle.dns_rdata_zone.proofs.{TokenForms.number_form, RestForms.hex_form, RestForms.hex_none, RestForms.hex_run, RestForms.hex_some}
 use Rattle.dns_rdata_zone.proofs.RowForms.{RowText, bytes_of, decimal_run, decimal_some}
-use Rattle.dns_rdata_zone.proofs.RestForms.{hex_form, hex_none, hex_run, hex_some}
+use Rattle.dns_rdata_zone.proofs.TokenTokens.{digit_tokens, tokens_divided, tokens_joined}
+use Rattle.dns_rdata_zone.proofs.Dividing.{AreDivided, divided_then, bare_token, plain_divided, bare_divided, mark_begins}
 
 -- ---- unknown data
 

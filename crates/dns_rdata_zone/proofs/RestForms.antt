@@ -1,37 +1,26 @@
 -- Fields that take all remaining tokens, written and read back: hexadecimal, base64, strings and types.
-use Rattle.std.proofs.Common.{◌≡◌, ◌≢◌, ℕ, suc, ◌+◌, ◌*◌, ◌/◌, ◌%◌, ◌^◌, ◌<◌, ◌≤◌, true, false, List, [], ◌∷◌}
-use Rattle.std.proofs.Common.{◌++◌, length, zero, replicate, rules, decimal, codes, inl, inr, lit<, Option}
-use Rattle.std.proofs.Common.{Ok, refl, sym, ◌∙◌, ap, subst, append_assoc, arith}
-use Rattle.std.specs.Prelude.{flat_map, slice_index}
-use Rattle.std.specs.{List.AllByRecursion, List.list_all}
-use Rattle.std.specs.{Str.Parse.digits_value}
-use Rattle.std.proofs.{lemmas.Fmt.decimal_is_IsNumeral, lemmas.Fmt.length-decimal-le, lemmas.List.append-nil}
-use Rattle.std.proofs.{lemmas.List.Elements.All-head, lemmas.List.Elements.All-tail}
+use Rattle.std.proofs.Common.{◌≡◌, ◌≢◌, ℕ, suc, ◌+◌, ◌*◌, ◌/◌, ◌%◌, ◌^◌, ◌<◌, true, false, List, [], ◌∷◌, ◌++◌, length, zero, replicate, rules, decimal, codes}
+use Rattle.std.proofs.{lemmas.List.append-nil, lemmas.List.Elements.All-head, lemmas.List.Elements.All-tail}
+use Rattle.std.proofs.lemmas.Fmt.{decimal_is_IsNumeral, length-decimal-le}
+use Rattle.std.proofs.Common.{inl, inr, lit<, Option, Ok, refl, sym, ◌∙◌, ap, subst, append_assoc, arith}
+use Rattle.std.specs.{Str.Parse.digits_value, List.AllByRecursion, List.list_all, Prelude.flat_map, Prelude.slice_index}
 use Rattle.dns_fields.specs.{Tlvs.string as string_octets, Labels.DomainName, Octets.AreOctets, Bitmaps.block, Bitmaps.minimal}
 use Rattle.dns_types.specs.{RecordTypes.number_of, RecordTypes.record_type_of, RecordTypes.IsTypeText, declared.record_type.RecordType.RecordType}
 use Rattle.dns_types.specs.declared.record_type.RecordType.TheVariants.{ZERO, ANAME, Unknown}
 use Rattle.dns_types.proofs.RecordTypeLaws.{number_of-record_type_of}
-use Rattle.dns_zone_tokens.specs.{Tokens.Token}
-use Rattle.dns_zone_tokens.specs.Remaining.{AreStrings, AreHex, AreBase64}
+use Rattle.dns_zone_tokens.specs.{Tokens.Token, Remaining.AreStrings, Remaining.AreHex, Remaining.AreBase64, Remaining.joined}
 use Rattle.hex.specs.Hex.{encode_with, encode_lower, lower_digits, decode_of as hex_of, decode_pairs}
 use Rattle.hex.proofs.HexLemmas.{decode_of-encode_lower}
-use Rattle.base64.specs.{Engines.standard, Rfc4648.encode_symbols, Rfc4648.padding_len}
-use Rattle.base64.specs.GeneralPurpose.{encode_of, decode_of as base64_of}
+use Rattle.base64.specs.{Engines.standard, Rfc4648.encode_symbols, Rfc4648.padding_len, GeneralPurpose.encode_of, GeneralPurpose.decode_of as base64_of}
 use Rattle.base64.proofs.EngineFacts.{decode_of-encode_of}
-use Rattle.dns_zone_rows.specs.Rows.{IsTypeNumber, AreTypes, FieldKind}
-use Rattle.dns_zone_rows.specs.Rows.{RestKind, SomeStrings, SomeHex, SomeBase64, AnyTypes, RestGives}
-use Rattle.dns_rdata_zone.specs.{Strings.quoted, Strings.spaced}
-use Rattle.dns_rdata_zone.specs.{ZoneGives.AreUnmarked, Records.zone_type}
-use Rattle.dns_rdata_zone.specs.Spellings.{escaped}
-use Rattle.dns_rdata_zone.proofs.Dividing.{AreDivided, divided_then, bare_token, quoted_token, is_run_octet, plain_divided, AreRunOctets}
-use Rattle.dns_rdata_zone.proofs.Dividing.{run_not, run_both, quoted_divided, spelled_quotes}
-use Rattle.dns_rdata_zone.specs.Tokens.{in_tokens}
+use Rattle.dns_zone_rows.specs.Rows.{IsTypeNumber, AreTypes, FieldKind, RestKind, SomeStrings, SomeHex, SomeBase64, AnyTypes, RestGives}
+use Rattle.dns_rdata_zone.specs.{Tokens.in_tokens, Readable.IsString, Records.zone_type, Spellings.escaped, ZoneGives.AreUnmarked}
+use Rattle.dns_rdata_zone.specs.Strings.{quoted, spaced}
+use Rattle.dns_rdata_zone.proofs.Dividing.{AreDivided, divided_then, bare_token, quoted_token, is_run_octet, plain_divided, AreRunOctets, run_not, run_both}
+use Rattle.dns_rdata_zone.proofs.{Parts.octets_each, TokenForms.text_form, Letters.first_true, Letters.second_true}
+use Rattle.dns_rdata_zone.proofs.Dividing.{quoted_divided, spelled_quotes}
 use Rattle.dns_rdata_zone.proofs.TokenTokens.{digit_tokens, split_tokens, tokens_divided, tokens_bare, tokens_joined}
-use Rattle.dns_zone_tokens.specs.Remaining.{joined}
-use Rattle.dns_rdata_zone.proofs.Letters.{first_true, second_true}
-use Rattle.dns_rdata_zone.proofs.TokenForms.{text_form}
-use Rattle.dns_rdata_zone.proofs.RowForms.{FieldText, RowText, bare_unmarked, bytes_of, decimal_run, quoted_unmarked, row_last, row_text}
-use Rattle.dns_rdata_zone.proofs.RowForms.{row_then, run_first}
+use Rattle.dns_rdata_zone.proofs.RowForms.{FieldText, RowText, bare_unmarked, bytes_of, decimal_run, quoted_unmarked, row_last, row_text, row_then, run_first}
 
 -- ---- fields that take all remaining tokens
 
@@ -104,37 +93,31 @@ padding_run : (n : ℕ) → AreRunOctets (replicate n 61)
 padding_run zero = tt
 padding_run (suc n) = (refl, padding_run n)
 
-symbols_run : (s : List ℕ) → AreOctets s → AreRunOctets (encode_symbols symbols s)
+symbols_run : (s : List ℕ) → AllByRecursion (λ x. x < 256) s → AreRunOctets (encode_symbols symbols s)
 unfolding encode_symbols
 symbols_run [] h = tt
-symbols_run (a ∷ []) h =
-    let low_a : a < 256 = All-head (λ x. x < 256) a [] h in
-    (symbol_run (a / 4) (omega arith), (symbol_run (a % 4 * 16) (omega arith), tt))
+symbols_run (a ∷ []) h = let low = h.0 in (symbol_run (a / 4) (omega arith), (symbol_run (a % 4 * 16) (omega arith), tt))
 symbols_run (a ∷ b ∷ []) h =
-    let low_a : a < 256 = All-head (λ x. x < 256) a (b ∷ []) h in
-    let low_b : b < 256 = All-head (λ x. x < 256) b [] (All-tail (λ x. x < 256) a (b ∷ []) h) in
+    let low = h.0 in
+    let next = h.1.0 in
     (symbol_run (a / 4) (omega arith), (symbol_run (a % 4 * 16 + b / 16) (omega arith), (symbol_run (b % 16 * 4) (omega arith), tt)))
 symbols_run (a ∷ b ∷ c ∷ rest) h =
-    let behind = All-tail (λ x. x < 256) a (b ∷ c ∷ rest) h in
-    let later = All-tail (λ x. x < 256) b (c ∷ rest) behind in
-    let low_a : a < 256 = All-head (λ x. x < 256) a (b ∷ c ∷ rest) h in
-    let low_b : b < 256 = All-head (λ x. x < 256) b (c ∷ rest) behind in
-    let low_c : c < 256 = All-head (λ x. x < 256) c rest later in (
+    let low = h.0 in
+    let next = h.1.0 in
+    let third = h.1.1.0 in (
       symbol_run (a / 4) (omega arith),
       (
         symbol_run (a % 4 * 16 + b / 16) (omega arith),
         (
           symbol_run (b % 16 * 4 + c / 64) (omega arith),
-          (
-            symbol_run (c % 64) (omega arith),
-            symbols_run rest (All-tail (λ x. x < 256) c rest later),
-          ),
+          (symbol_run (c % 64) (omega arith), symbols_run rest h.1.1.1),
         ),
       ),
     )
 
 pub base64_run : (s : List ℕ) → AreOctets s → AreRunOctets (encode_of standard s)
-base64_run s h = run_both (encode_symbols symbols s) (replicate (padding_len (length s)) 61) (symbols_run s h) (padding_run (padding_len (length s)))
+base64_run s h = run_both (encode_symbols symbols s) (replicate (padding_len (length s)) 61) (symbols_run s (octets_each s h))
+    (padding_run (padding_len (length s)))
 
 symbols_some : (s rest : List ℕ) → s ≢ [] → encode_symbols symbols s ++ rest ≢ []
 unfolding encode_symbols
@@ -171,20 +154,20 @@ list_divided f g x (y ∷ ys) h = divided_then h.0 (list_divided f g y ys h.1)
 abbrev string_token : List ℕ → List Token
 string_token s = quoted_token false (flat_map escaped s) ∷ []
 
-strings_divided : (ss : List (List ℕ)) → AllByRecursion AreOctets ss → AllByRecursion (λ s. AreDivided (quoted s) (string_token s)) ss
+strings_divided : (ss : List (List ℕ)) → AllByRecursion IsString ss → AllByRecursion (λ s. AreDivided (quoted s) (string_token s)) ss
 strings_divided [] h = tt
-strings_divided (s ∷ ss) h = (quoted_divided (flat_map escaped s) (spelled_quotes s h.0), strings_divided ss h.1)
+strings_divided (s ∷ ss) h = (quoted_divided (flat_map escaped s) (spelled_quotes s h.0.octets), strings_divided ss h.1)
 
-are_strings : (ss : List (List ℕ)) → AllByRecursion AreOctets ss → AllByRecursion (λ s. length s ≤ 255) ss → AreStrings ss (flat_map string_token ss)
-are_strings [] h k = tt
-are_strings (s ∷ ss) h k = ((text_form false s h.0, k.0), are_strings ss h.1 k.1)
+are_strings : (ss : List (List ℕ)) → AllByRecursion IsString ss → AreStrings ss (flat_map string_token ss)
+are_strings [] h = tt
+are_strings (s ∷ ss) h = ((text_form false s h.0.octets, omega (arith, h.0.fits)), are_strings ss h.1)
 
-pub strings_text : (s : List ℕ) (ss : List (List ℕ)) → AllByRecursion AreOctets (s ∷ ss) → AllByRecursion (λ t. length t ≤ 255) (s ∷ ss)
+pub strings_text : (s : List ℕ) (ss : List (List ℕ)) → AllByRecursion IsString (s ∷ ss)
     → RestText SomeStrings (quoted s ++ spaced ss) (flat_map string_octets (s ∷ ss))
-strings_text s ss h k = record {
+strings_text s ss h = record {
   tokens = flat_map string_token (s ∷ ss);
   divided = list_divided quoted string_token s ss (strings_divided (s ∷ ss) h);
-  gives = ((λ e. absurd (cc e)), record { strings = s ∷ ss; are = are_strings (s ∷ ss) h k; same = refl });
+  gives = ((λ e. absurd (cc e)), record { strings = s ∷ ss; are = are_strings (s ∷ ss) h; same = refl });
   unmarked = quoted_unmarked false (flat_map escaped s);
 }
 

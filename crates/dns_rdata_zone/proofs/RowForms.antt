@@ -1,33 +1,27 @@
 -- Fields that were written give their octets, and so do zone rows of them.
-use Rattle.std.proofs.Common.{◌≡◌, ◌≢◌, ℕ, suc, ◌+◌, ◌*◌, ◌/◌, ◌%◌, ◌^◌, ◌<◌, ◌≤◌, Bool, true, false, cond, eqb, ◌&&◌, nat_le, List, [], ◌∷◌}
-use Rattle.std.proofs.Common.{◌++◌, length, take, drop, zero, get_or, decimal, codes, inl, inr, Option, None}
-use Rattle.std.proofs.Common.{refl, sym, ◌∙◌, ap, subst, append_assoc, arith}
-use Rattle.std.specs.Prelude.{flat_map, bytes_eq}
-use Rattle.std.specs.{Char.to_ascii_lowercase, Char.is_ascii_alphanumeric, Int.bytes_high_first, Str.str_eq_ignore_ascii_case}
-use Rattle.std.specs.{Str.str_to_ascii_lowercase, List.AllByRecursion, List.list_all, Net.Grammar.IsDotted, Net.Grammar.IsGroups}
-use Rattle.std.specs.{Net.Grammar.IsColonHex, Net.Text.ipv4_text, Net.Text.ipv6_text, Net.Text.hex_groups_text}
-use Rattle.std.specs.{declared.net.ipv4_addr.Ipv4Addr.Ipv4Addr, declared.net.ipv6_addr.Ipv6Addr.Ipv6Addr}
-use Rattle.std.specs.Net.Addr.{IsIpv4Addr, IsIpv6Addr, ipv4_octets, ipv6_octets, ipv6_segments, octets_of}
-use Rattle.std.proofs.{lemmas.Bool.Decides.nat_tests, lemmas.Fmt.decimal_is_IsNumeral}
-use Rattle.std.proofs.{lemmas.List.Elements.All-head, lemmas.List.Elements.All-tail, lemmas.Str.Parse.digit_at}
-use Rattle.std.proofs.NetLemmas.Alphabet.{IsDigitOrDot, IsHexOrColon, All-ipv4_text, All-hex_groups_text}
+use Rattle.std.proofs.Common.{◌≡◌, ◌≢◌, ℕ, suc, ◌+◌, ◌*◌, ◌/◌, ◌%◌, ◌^◌, ◌<◌, ◌≤◌, Bool, true, false, cond, eqb, ◌&&◌, nat_le, List, [], ◌∷◌, ◌++◌, length}
+use Rattle.std.proofs.{lemmas.Str.Parse.digit_at, lemmas.Bool.Decides.nat_tests, lemmas.Fmt.decimal_is_IsNumeral}
+use Rattle.std.proofs.lemmas.List.Elements.{All-head, All-tail}
 use Rattle.std.proofs.NetLemmas.Texts.{IsDotted-ipv4_text, IsColonHex-ipv6_text, AllSegments, AllSegments-drop}
+use Rattle.std.proofs.NetLemmas.Alphabet.{IsDigitOrDot, IsHexOrColon, All-ipv4_text, All-hex_groups_text}
+use Rattle.std.proofs.Common.{take, drop, zero, get_or, decimal, codes, inl, inr, Option, None, refl, sym, ◌∙◌, ap, subst, append_assoc, arith}
+use Rattle.std.specs.{Int.bytes_high_first, Prelude.flat_map, Prelude.bytes_eq, List.AllByRecursion, List.list_all, declared.net.ipv4_addr.Ipv4Addr.Ipv4Addr}
+use Rattle.std.specs.{declared.net.ipv6_addr.Ipv6Addr.Ipv6Addr, Char.to_ascii_lowercase, Char.is_ascii_alphanumeric, Str.str_eq_ignore_ascii_case}
+use Rattle.std.specs.{Str.str_to_ascii_lowercase, Net.Text.ipv4_text, Net.Text.ipv6_text, Net.Text.hex_groups_text}
+use Rattle.std.specs.Net.Grammar.{IsDotted, IsGroups, IsColonHex}
+use Rattle.std.specs.Net.Addr.{IsIpv4Addr, IsIpv6Addr, ipv4_octets, ipv6_octets, ipv6_segments, octets_of}
 use Rattle.dns_fields.specs.{Tlvs.string as string_octets, Labels.DomainName, Labels.IsName, Octets.AreOctets}
-use Rattle.dns_tokens.proofs.Printed.{ipv4_back, ipv6_back}
-use Rattle.dns_zone_tokens.specs.{NameTokens.name, NameTokens.name_octets, Tokens.Token}
-use Rattle.dns_zone_tokens.specs.Remaining.{IsUnknownMark}
+use Rattle.dns_tokens.proofs.Printed.{ipv4_back, ipv6_back, ttl_back}
+use Rattle.dns_zone_tokens.proofs.DecimalSteps.{small_power}
+use Rattle.dns_zone_tokens.specs.{Tokens.Token, Remaining.IsUnknownMark, NameTokens.name, NameTokens.name_octets, Mnemonics.Named, Mnemonics.number_named}
 use Rattle.hex.specs.Hex.{IsBytes}
-use Rattle.dns_zone_tokens.specs.Mnemonics.{Named, number_named}
-use Rattle.dns_zone_rows.specs.Mnemonics.{IsNamedNumber, cert_types, algorithms}
-use Rattle.dns_zone_rows.specs.Rows.{FieldKind, Number, NamedNumber, Ttl, Ipv4, Ipv6, Name, String, Tag}
-use Rattle.dns_zone_rows.specs.Rows.{Octets, RestKind, FieldGives, RestGives, FieldsGive}
-use Rattle.dns_rdata_zone.specs.{Names.zone_label, Names.zone_labels, Names.zone_name, Strings.quoted}
-use Rattle.dns_rdata_zone.specs.{ZoneGives.AreUnmarked}
+use Rattle.dns_zone_rows.specs.Mnemonics.{IsNamedNumber}
+use Rattle.dns_zone_rows.specs.Rows.{FieldKind, Number, NamedNumber, Ttl, Ipv4, Ipv6, Name, String, Tag, Octets, RestKind, FieldGives, RestGives, FieldsGive}
+use Rattle.dns_rdata_zone.specs.{Strings.quoted, Readable.IsString, ZoneGives.AreUnmarked, Names.zone_label, Names.zone_labels, Names.zone_name}
 use Rattle.dns_rdata_zone.specs.Spellings.{escaped, needs_backslash, name_octet}
-use Rattle.dns_rdata_zone.proofs.Dividing.{AreDivided, divided_then, bare_token, quoted_token, is_run_octet, plain_divided, AreRunOctets}
-use Rattle.dns_rdata_zone.proofs.Dividing.{run_not, run_by_index, run_all, run_both, quoted_divided, spelled_quotes, name_divided, NoneEmpty}
-use Rattle.dns_rdata_zone.proofs.Letters.{first_true, second_true}
-use Rattle.dns_rdata_zone.proofs.TokenForms.{number_form, ttl_form, text_form, name_form}
+use Rattle.dns_rdata_zone.proofs.Dividing.{AreDivided, divided_then, bare_token, quoted_token, is_run_octet, plain_divided, AreRunOctets, run_not, run_by_index}
+use Rattle.dns_rdata_zone.proofs.{Letters.first_true, Letters.second_true, TokenForms.number_form, TokenForms.text_form, TokenForms.name_form}
+use Rattle.dns_rdata_zone.proofs.Dividing.{run_all, run_both, quoted_divided, spelled_quotes, name_divided, NoneEmpty}
 
 -- ---- zone rows
 
@@ -109,13 +103,17 @@ pub plain_text : {origin : Option DomainName} {field : FieldKind} (s octets : Li
     → FieldText origin field s octets
 plain_text s octets some h k = record { token = bare_token s; divided = plain_divided s some h; gives = k; unmarked = bare_unmarked s (run_first s some h) }
 
-pub number_text : (origin : Option DomainName) (w n : ℕ) → n < 2 ^ (8 * w) → n < 2 ^ 64 → FieldText origin (Number w) (decimal n) (bytes_high_first w n)
-number_text origin w n fits small = plain_text (decimal n) (bytes_high_first w n) (decimal_some n small) (decimal_run n small)
-    (record { value = n; is = number_form w n fits small; same = refl })
+wide : (w n : ℕ) → w ≤ 4 → n < 2 ^ (8 * w) → n < 2 ^ 64
+wide w n few h = let most = small_power w few in omega (arith, most, h)
+
+-- a number of at most four octets
+pub short_text : (origin : Option DomainName) (w n : ℕ) → w ≤ 4 → n < 2 ^ (8 * w) → FieldText origin (Number w) (decimal n) (bytes_high_first w n)
+short_text origin w n few fits = plain_text (decimal n) (bytes_high_first w n) (decimal_some n (wide w n few fits)) (decimal_run n (wide w n few fits))
+    (record { value = n; is = number_form w n fits (wide w n few fits); same = refl })
 
 pub ttl_text : (origin : Option DomainName) (n : ℕ) → n ≤ 4294967295 → FieldText origin Ttl (decimal n) (bytes_high_first 4 n)
 ttl_text origin n fits = plain_text (decimal n) (bytes_high_first 4 n) (decimal_some n (omega arith)) (decimal_run n (omega arith))
-    (record { value = n; is = ttl_form n fits; same = refl })
+    (record { value = n; is = (refl, (ttl_back 4294967295 n (omega arith) fits).is); same = refl })
 
 second_is : (a b c d : ℕ) (s : List ℕ) → a ∷ b ∷ s ≡ c ∷ d ∷ [] → b ≡ d
 second_is a b c d s e = cc e
@@ -137,23 +135,14 @@ octet_not_mark c s same = not_mark c (48 + c / 100) (48 + c / 10 % 10) (48 + c %
 first_apart : (n l d r : List ℕ) → ((n ++ l) ++ d) ++ r ≡ n ++ ((l ++ d) ++ r)
 first_apart n l d r = simp append_assoc
 
-bare_not : (s : List ℕ) → (s ≡ 92 ∷ 35 ∷ [] → ⊥) → IsUnmarked (bare_token s)
-bare_not s h mark = h mark.octets
-
-dot_not_mark : (s : List ℕ) → s ≡ 46 ∷ [] → s ≡ 92 ∷ 35 ∷ [] → ⊥
-dot_not_mark s d e = absurd (cc (d, e))
-
 label_not_mark : (c : ℕ) (l r : List ℕ) → (flat_map name_octet (c ∷ l) ++ 46 ∷ []) ++ r ≡ 92 ∷ 35 ∷ [] → ⊥
 label_not_mark c l r same =
     octet_not_mark c ((flat_map name_octet l ++ 46 ∷ []) ++ r) (sym (first_apart (name_octet c) (flat_map name_octet l) (46 ∷ []) r) ∙ same)
 
 labels_not_mark : (ls : List (List ℕ)) → NoneEmpty ls → zone_labels ls ≡ 92 ∷ 35 ∷ [] → ⊥
-labels_not_mark [] k same = dot_not_mark (46 ∷ []) refl same
+labels_not_mark [] k same = let e : 46 ∷ [] ≡ 92 ∷ 35 ∷ [] = same in absurd (cc (e))
 labels_not_mark ([] ∷ ls) k same = absurd (k.0 refl)
 labels_not_mark ((c ∷ l) ∷ ls) k same = label_not_mark c l (flat_map zone_label ls) same
-
-name_first : (ls : List (List ℕ)) → NoneEmpty ls → IsUnmarked (bare_token (zone_labels ls))
-name_first ls k = bare_not (zone_labels ls) (labels_not_mark ls k)
 
 pub name_text : (origin : Option DomainName) (x : DomainName) → AllByRecursion AreOctets x.labels → NoneEmpty x.labels → x.fully_qualified ≡ true → IsName x
     → FieldText origin Name (zone_name x) (name_octets x)
@@ -161,7 +150,7 @@ name_text origin x h k q is = record {
   token = bare_token (zone_name x);
   divided = name_divided x.labels h k;
   gives = record { value = x; is = name_form x origin h k q is; same = refl };
-  unmarked = name_first x.labels k;
+  unmarked = λ mark. labels_not_mark x.labels k mark.octets;
 }
 
 -- what is in quotes
@@ -175,8 +164,8 @@ quoted_text s octets h k = record {
   unmarked = quoted_unmarked false (flat_map escaped s);
 }
 
-pub string_text : (origin : Option DomainName) (s : List ℕ) → AreOctets s → length s ≤ 255 → FieldText origin String (quoted s) (string_octets s)
-string_text origin s h fits = quoted_text s (string_octets s) h (record { value = s; is = (text_form false s h, fits); same = refl })
+pub string_text : (origin : Option DomainName) (s : List ℕ) → IsString s → FieldText origin String (quoted s) (string_octets s)
+string_text origin s h = quoted_text s (string_octets s) h.octets (record { value = s; is = (text_form false s h.octets, omega (arith, h.fits)); same = refl })
 
 pub octets_text : (origin : Option DomainName) (s : List ℕ) → AreOctets s → FieldText origin Octets (quoted s) s
 octets_text origin s h = quoted_text s s h (record { value = s; is = text_form false s h; same = refl })
@@ -191,7 +180,7 @@ tag_text origin s some h fits = plain_text s (string_octets s) some h
 -- ---- numbers that have names
 
 -- a letter begins the name
-abbrev begins_letter : List ℕ → Bool
+abbrev pub begins_letter : List ℕ → Bool
 begins_letter [] = false
 begins_letter (c ∷ s) = nat_le 65 c
 
@@ -222,21 +211,16 @@ number_apart table n small h =
     digits_apart table (decimal n) num.0.0 (omega (arith, digit)) (omega (arith, digit)) h
 
 -- the number of a name is written by its digits
-pub named_text : (origin : Option DomainName) (w : ℕ) (table : List Named) (n : ℕ) → n < 2 ^ (8 * w) → n < 2 ^ 64
+pub named_text : (origin : Option DomainName) (w : ℕ) (table : List Named) (n : ℕ) → w ≤ 4 → n < 2 ^ (8 * w)
     → list_all (λ x. begins_letter x.name) table ≡ true
     → FieldText origin (NamedNumber w table) (decimal n) (bytes_high_first w n)
-named_text origin w table n fits small letters = plain_text (decimal n) (bytes_high_first w n) (decimal_some n small) (decimal_run n small)
-    (record {
+named_text origin w table n few fits letters =
+    let small = wide w n few fits in
+    plain_text (decimal n) (bytes_high_first w n) (decimal_some n small) (decimal_run n small) (record {
       value = n;
       is = subst (λ (o : Option ℕ). IsNamedNumber w o n (bare_token (decimal n))) (sym (number_apart table n small letters)) (number_form w n fits small);
       same = refl;
     })
-
-pub cert_text : (origin : Option DomainName) (n : ℕ) → n < 2 ^ 16 → FieldText origin (NamedNumber 2 cert_types) (decimal n) (bytes_high_first 2 n)
-cert_text origin n h = named_text origin 2 cert_types n h (omega (arith, h)) refl
-
-pub algorithm_text : (origin : Option DomainName) (n : ℕ) → n < 2 ^ 8 → FieldText origin (NamedNumber 1 algorithms) (decimal n) (bytes_high_first 1 n)
-algorithm_text origin n h = named_text origin 1 algorithms n h (omega (arith, h)) refl
 
 -- ---- tags
 
@@ -246,18 +230,6 @@ alphanumeric_one c h = grind (arith, nat_tests)
 pub alphanumeric_run : (s : List ℕ) → list_all is_ascii_alphanumeric s ≡ true → AreRunOctets s
 alphanumeric_run [] h = tt
 alphanumeric_run (c ∷ s) h = (alphanumeric_one c (first_true (is_ascii_alphanumeric c) (list_all is_ascii_alphanumeric s) h), alphanumeric_run s (second_true (is_ascii_alphanumeric c) (list_all is_ascii_alphanumeric s) h))
-
-pub wide : (w n : ℕ) → w ≤ 4 → n < 2 ^ (8 * w) → n < 2 ^ 64
-wide zero n few h = omega (arith, h)
-wide (suc zero) n few h = omega (arith, h)
-wide (suc (suc zero)) n few h = omega (arith, h)
-wide (suc (suc (suc zero))) n few h = omega (arith, h)
-wide (suc (suc (suc (suc zero)))) n few h = omega (arith, h)
-wide (suc (suc (suc (suc (suc w))))) n few h = absurd (omega (arith, few))
-
--- a number of at most four octets
-pub short_text : (origin : Option DomainName) (w n : ℕ) → w ≤ 4 → n < 2 ^ (8 * w) → FieldText origin (Number w) (decimal n) (bytes_high_first w n)
-short_text origin w n few fits = number_text origin w n fits (wide w n few fits)
 
 -- ---- addresses
 
@@ -271,9 +243,6 @@ group_run c (inr h) = let low = h.0 in let high = h.1 in grind (arith, nat_tests
 
 pub dotted_octets : (o : List ℕ) → ((k : ℕ) → get_or o k 0 < 2 ^ 8) → AreRunOctets (ipv4_text o)
 dotted_octets o fits = run_all IsDigitOrDot dotted_run (ipv4_text o) (All-ipv4_text o fits)
-
-pub ipv4_run : (a : Ipv4Addr) → IsIpv4Addr a → AreRunOctets (ipv4_text (ipv4_octets a))
-ipv4_run a h = dotted_octets (ipv4_octets a) h.1
 
 pub bounded : (s : List ℕ) → AllSegments s → (k : ℕ) → get_or (octets_of s) k 0 < 2 ^ 8
 bounded [] h k = omega arith
@@ -291,9 +260,6 @@ segments_run s fits = one_run (bytes_eq (take 6 s) (0 ∷ 0 ∷ 0 ∷ 0 ∷ 0 �
     (run_both (codes "::ffff:") (ipv4_text (octets_of (drop 6 s))) (refl, (refl, (refl, (refl, (refl, (refl, (refl, tt)))))))
     (dotted_octets (octets_of (drop 6 s)) (bounded (drop 6 s) (AllSegments-drop 6 s fits))))
     (run_all IsHexOrColon group_run (hex_groups_text s) (All-hex_groups_text s fits))
-
-pub ipv6_run : (a : Ipv6Addr) → IsIpv6Addr a → AreRunOctets (ipv6_text (ipv6_segments a))
-ipv6_run a h = segments_run (ipv6_segments a) h.1
 
 -- the text of an address is not empty
 not_empty : (a : List ℕ) (c : ℕ) (t s : List ℕ) → s ≡ a ++ c ∷ t → s ≢ []
@@ -320,12 +286,14 @@ colon_some s segments (inr h) = not_empty h.head_text 58 (58 ∷ h.tail_text) s 
 
 pub ipv4_text_of : (origin : Option DomainName) (a : Ipv4Addr) → IsIpv4Addr a → FieldText origin Ipv4 (ipv4_text (ipv4_octets a)) (ipv4_octets a)
 ipv4_text_of origin a h =
-    plain_text (ipv4_text (ipv4_octets a)) (ipv4_octets a) (dotted_some (ipv4_text (ipv4_octets a)) (ipv4_octets a) (IsDotted-ipv4_text _ h.0 h.1)) (ipv4_run a h)
+    plain_text (ipv4_text (ipv4_octets a)) (ipv4_octets a) (dotted_some (ipv4_text (ipv4_octets a)) (ipv4_octets a) (IsDotted-ipv4_text _ h.0 h.1))
+    (dotted_octets (ipv4_octets a) h.1)
     (record { value = ipv4_octets a; is = (refl, (ipv4_back a h).is); same = refl })
 
 pub ipv6_text_of : (origin : Option DomainName) (a : Ipv6Addr) → IsIpv6Addr a → FieldText origin Ipv6 (ipv6_text (ipv6_segments a)) (ipv6_octets a)
 ipv6_text_of origin a h =
-    plain_text (ipv6_text (ipv6_segments a)) (ipv6_octets a) (colon_some (ipv6_text (ipv6_segments a)) (ipv6_segments a) (IsColonHex-ipv6_text _ h.0 h.1)) (ipv6_run a h)
+    plain_text (ipv6_text (ipv6_segments a)) (ipv6_octets a) (colon_some (ipv6_text (ipv6_segments a)) (ipv6_segments a) (IsColonHex-ipv6_text _ h.0 h.1))
+    (segments_run (ipv6_segments a) h.1)
     (record { value = ipv6_octets a; is = (refl, (ipv6_back a h).is); same = refl })
 
 pub bytes_of : (s : List ℕ) → AreOctets s → IsBytes s

@@ -1,7 +1,6 @@
 -- A service binding in the unknown-data form.
-use Rattle.std.proofs.Common.{◌≡◌, ℕ, ◌+◌, ◌*◌, ◌≤◌, Bool, true, false, cond, List, [], ◌∷◌, ◌++◌, length, drop, decimal, Option, Some, None, MatchOption}
-use Rattle.std.proofs.Common.{refl, sym, ◌∙◌, ap, append_assoc, arith, length-append}
-use Rattle.std.proofs.lemmas.List.{append-nil, drop_at}
+use Rattle.std.proofs.Common.{◌≡◌, ℕ, ◌+◌, ◌*◌, ◌≤◌, Bool, true, false, cond, List, [], ◌∷◌, ◌++◌, length, drop, decimal, Option, Some, None, MatchOption, refl}
+use Rattle.std.proofs.{lemmas.List.append-nil, lemmas.List.drop_at, Common.sym, Common.◌∙◌, Common.ap, Common.append_assoc, Common.arith, Common.length-append}
 use Rattle.hex.specs.Hex.{encode_lower}
 use Rattle.dns_fields.specs.{Labels.lowname, Fields.Number, Fields.Parameters, Fields.canonical, Fields.field_octets, Fields.all_emittable}
 use Rattle.dns_rdata.specs.{Data.fields_of, Data.data_octets, declared.record_data.RData.RData, WholeOctets.name_octets}

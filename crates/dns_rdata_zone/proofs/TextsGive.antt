@@ -1,40 +1,34 @@
 -- RDATA gives its text, and the text gives it.
-use Rattle.std.proofs.Common.{◌≡◌, ℕ, ◌≤◌, cond, true, List, [], ◌∷◌, ◌++◌, map, length, codes, Option, Some, None, inl, inr, refl, sym, ◌∙◌, ap}
-use Rattle.std.proofs.Common.{subst, append_assoc, arith}
-use Rattle.std.specs.Prelude.{flat_map, decimal}
-use Rattle.std.specs.{Char.is_ascii_alphanumeric, Int.cast_unsigned, Int.w32, List.AllByRecursion, List.list_all}
 use Rattle.std.proofs.lemmas.List.{append-nil}
+use Rattle.std.proofs.Common.{◌≡◌, ℕ, cond, true, List, [], ◌∷◌, ◌++◌, map, codes, Option, Some, None, inl, inr, refl, sym, ◌∙◌, ap, subst, append_assoc, arith}
+use Rattle.std.specs.{Int.cast_unsigned, Int.w32, Char.is_ascii_alphanumeric, Prelude.flat_map, Prelude.decimal, List.AllByRecursion, List.list_all}
 use Rattle.base64.specs.{Engines.standard, GeneralPurpose.encode_of}
 use Rattle.hex.specs.Hex.{encode_lower}
-use Rattle.dns_fields.specs.{Bitmaps.block, Bitmaps.minimal, Labels.DomainName, Labels.AreLabels, Labels.full_name, Octets.AreOctets}
-use Rattle.dns_fields.specs.Fields.{field_octets, canonical, option_tlvs, parameter_tlvs}
-use Rattle.dns_fields.specs.Tlvs.{is_some, string, tlvs, Rising}
+use Rattle.dns_fields.specs.{Octets.AreOctets, Bitmaps.block, Bitmaps.minimal, Tlvs.is_some, Tlvs.string, Tlvs.tlvs, Tlvs.Rising, Labels.DomainName}
+use Rattle.dns_fields.specs.{Labels.AreLabels, Labels.full_name, Fields.field_octets, Fields.canonical, Fields.option_tlvs, Fields.parameter_tlvs}
 use Rattle.dns_types.specs.{RecordTypes.record_type_of, declared.record_type.RecordType.RecordType}
 use Rattle.dns_types.specs.declared.record_type.RecordType.TheVariants as types
 use Rattle.dns_rdata.specs.{Data.type_of, declared.record_data.RData.RData, WholeOctets.name_octets}
 use Rattle.dns_rdata.specs.declared.record_data.RData.TheVariants as rdata
 use Rattle.dns_rdata_base.specs.{declared.naptr.NAPTR.NAPTR, declared.soa.SOA.SOA}
-use Rattle.dns_rdata_certs.specs.Enums.{cert_algorithm_number, cert_type_number, cert_usage_number, matching_number, selector_number}
-use Rattle.dns_rdata_certs.specs.Enums.{sshfp_algorithm_number, fingerprint_type_number}
-use Rattle.dns_rdata_certs.specs.{TLSA.tlsa_shape, TLSA.tlsa_fields}
-use Rattle.dns_rdata_certs.specs.declared.{cert.CERT.CERT, sshfp.SSHFP.SSHFP, tlsa.TLSA.TLSA}
+use Rattle.dns_rdata_certs.specs.Enums.{cert_algorithm_number, cert_type_number, cert_usage_number, matching_number, selector_number, sshfp_algorithm_number}
+use Rattle.dns_rdata_certs.specs.{declared.cert.CERT.CERT, declared.tlsa.TLSA.TLSA, declared.sshfp.SSHFP.SSHFP, Enums.fingerprint_type_number}
+use Rattle.dns_rdata_certs.specs.TLSA.{tlsa_shape, tlsa_fields}
 use Rattle.dns_rdata_options.specs.OPT.{pair_value}
 use Rattle.dns_rdata_service.specs.{Parameters.Parameter, Parameters.parameter_of, declared.svcb.SVCB.SVCB}
 use Rattle.dns_rdata_caa_csync.specs.{CAA.caa_flags, CSYNC.csync_flags, declared.caa.CAA.CAA, declared.csync.CSYNC.CSYNC}
-use Rattle.dns_zone_rows.specs.RowTable.{zone_row_of}
-use Rattle.dns_zone_rows.specs.Rows.{FieldKind, Number, RestKind, Name, String, NoToken, SomeHex, SomeBase64, SomeStrings, AnyTypes, AnyParameters}
-use Rattle.dns_rdata_zone.specs.{Generic.generic, Names.zone_name, Parameters.has_text, Parameters.zone_parameter, Records.zone_strings}
-use Rattle.dns_rdata_zone.specs.{Records.zone_tlsa, Records.zone_type, Records.has_plain_tag, Services.service_octets, Services.zone_service}
-use Rattle.dns_rdata_zone.specs.{Strings.quoted, ZoneReads.TextsGive, ZoneReads.TextsPrint, ZoneReads.TextsTell, ZoneTexts.zone_text, ZoneTexts.zone_octets}
+use Rattle.dns_zone_rows.specs.{Mnemonics.algorithms, Mnemonics.cert_types, RowTable.zone_row_of}
+use Rattle.dns_zone_rows.specs.Rows.{FieldKind, Number, RestKind, Name, NoToken, SomeHex, SomeBase64, SomeStrings, AnyTypes, AnyParameters}
+use Rattle.dns_rdata_zone.specs.{Strings.quoted, Generic.generic, Names.zone_name, Tokens.in_tokens, ZoneTexts.zone_text, ZoneTexts.zone_octets}
+use Rattle.dns_rdata_zone.specs.{Parameters.has_text, Parameters.zone_parameter, Services.service_octets, Services.zone_service, ZoneReads.TextsGive}
+use Rattle.dns_rdata_zone.specs.{ZoneReads.TextsPrint, ZoneReads.TextsTell, Records.zone_strings, Records.zone_tlsa, Records.zone_type, Records.has_plain_tag}
 use Rattle.dns_rdata_zone.specs.Readable.{IsString, IsWritable, IsWritableParameter, IsWritableService, IsWritableTlsa, FieldsFit}
-use Rattle.dns_rdata_zone.specs.Tokens.{in_tokens}
-use Rattle.dns_rdata_zone.proofs.{Dividing.NoneEmpty, Letters.first_true, Letters.second_true, OptionDigits.options_tlvs}
+use Rattle.dns_rdata_zone.proofs.RowForms.{FieldText, RowText, row_then, row_last, row_text, short_text, named_text, ttl_text, name_text, string_text}
+use Rattle.dns_rdata_zone.proofs.{Dividing.NoneEmpty, OptionDigits.options_tlvs, Letters.first_true, Letters.second_true}
 use Rattle.dns_rdata_zone.proofs.ParametersGive.{some_there, parameters_text, parameters_are}
-use Rattle.dns_rdata_zone.proofs.RowForms.{FieldText, RowText, row_then, row_last, row_text}
-use Rattle.dns_rdata_zone.proofs.RestForms.{RestText, ListText, row_rest, row_list, hex_text, base64_text, strings_text, types_text}
+use Rattle.dns_rdata_zone.proofs.RowForms.{octets_text, tag_text, ipv4_text_of, ipv6_text_of, alphanumeric_run}
 use Rattle.dns_rdata_zone.proofs.OwnTexts.{OwnText, TextIs, text_gives, text_printable, text_same, one_of}
-use Rattle.dns_rdata_zone.proofs.RowForms.{short_text, cert_text, algorithm_text, ttl_text, name_text, string_text, octets_text, tag_text}
-use Rattle.dns_rdata_zone.proofs.RowForms.{ipv4_text_of, ipv6_text_of, alphanumeric_run}
+use Rattle.dns_rdata_zone.proofs.RestForms.{RestText, ListText, row_rest, row_list, hex_text, base64_text, strings_text, types_text}
 
 -- ---- parts with a blank between two, however they were grouped
 
@@ -74,9 +68,6 @@ named : (origin : Option DomainName) (x : DomainName) → IsWritable x → Field
 named origin x h =
     name_text origin (full_name x) h.octets (none_empty x.labels h.is_name.labels) refl (record { labels = h.is_name.labels; fits = h.is_name.fits })
 
-text : (origin : Option DomainName) (s : List ℕ) → IsString s → FieldText origin String (quoted s) (string s)
-text origin s h = string_text origin s h.octets (omega (arith, h.fits))
-
 own : (origin : Option DomainName) (t : RecordType) (fields : List FieldKind) (rest : RestKind) (text octets : List ℕ)
     → zone_row_of t ≡ Some (record { fields = fields; rest = rest }) → RowText origin fields rest text octets → OwnText origin t text octets
 own origin t fields rest text octets e h = record { zone_row = record { fields = fields; rest = rest }; of = e; reads = h }
@@ -89,21 +80,13 @@ listed {origin = origin} {k = k} {l = l} {rest = rest} {a = a} {b = b} {x = x} {
     subst (λ (o : List ℕ). RowText origin (k ∷ l ∷ []) rest ((a ++ codes " " ++ b) ++ flat_map (λ w. codes " " ++ f w) xs) (x ++ (y ++ o))) (sym (append-nil z))
     (row_list f xs z h g e)
 
-strings_octets : (ss : List (List ℕ)) → AllByRecursion IsString ss → AllByRecursion AreOctets ss
-strings_octets [] h = tt
-strings_octets (s ∷ ss) h = (h.0.octets, strings_octets ss h.1)
-
-strings_short : (ss : List (List ℕ)) → AllByRecursion IsString ss → AllByRecursion (λ s. length s ≤ 255) ss
-strings_short [] h = tt
-strings_short (s ∷ ss) h = ((let fits = h.0.fits in omega (arith, fits)), strings_short ss h.1)
-
 -- ---- records of numbers, strings and names
 
 strings_law : (origin : Option DomainName) (ss : List (List ℕ)) → AllByRecursion IsString ss
     → TextIs origin types.TXT (zone_strings ss) (flat_map string ss ++ [])
 strings_law origin [] h = inl refl
 strings_law origin (s ∷ ss) h =
-    inr (own origin types.TXT [] SomeStrings _ _ refl (all (strings_text s ss (strings_octets (s ∷ ss) h) (strings_short (s ∷ ss) h))))
+    inr (own origin types.TXT [] SomeStrings _ _ refl (all (strings_text s ss h)))
 
 soa_law : (origin : Option DomainName) (x : SOA) → FieldsFit (rdata.SOA x) → OwnText origin types.SOA (zone_text (rdata.SOA x)) (zone_octets (rdata.SOA x))
 unfolding field_octets
@@ -128,7 +111,7 @@ naptr_law origin x k =
     own origin types.NAPTR _ NoToken _ _ refl
     (row_text (six (decimal x.order) (decimal x.preference) (quoted x.flags) (quoted x.services) (quoted x.regexp) (zone_name x.replacement))
     (row_then (short_text origin 2 x.order (omega arith) k.0) (row_then (short_text origin 2 x.preference (omega arith) k.1)
-    (row_then (text origin x.flags k.2) (row_then (text origin x.services k.3) (row_then (text origin x.regexp k.4)
+    (row_then (string_text origin x.flags k.2) (row_then (string_text origin x.services k.3) (row_then (string_text origin x.regexp k.4)
     (last (named origin x.replacement k.5))))))))
 
 caa_law : (origin : Option DomainName) (x : CAA) → FieldsFit (rdata.CAA x) → TextIs origin types.CAA (zone_text (rdata.CAA x)) (zone_octets (rdata.CAA x))
@@ -158,9 +141,9 @@ cert_law origin x k =
     let c = cert_algorithm_number x.algorithm in
     one_of (is_some x.cert_data)
     (λ some. own origin types.CERT _ SomeBase64 _ _ refl (row_text (four (decimal a) (decimal x.key_tag) (decimal c) (in_tokens (encode_of standard x.cert_data)))
-    (row_then (cert_text origin a k.0)
+    (row_then (named_text origin 2 cert_types a (omega arith) k.0 refl)
     (row_then (short_text origin 2 x.key_tag (omega arith) k.1)
-    (row_then (algorithm_text origin c k.2)
+    (row_then (named_text origin 1 algorithms c (omega arith) k.2 refl)
     (all (base64_text x.cert_data (some_there x.cert_data some) k.3)))))))
     refl
 
@@ -228,7 +211,7 @@ texts_are origin (rdata.CERT x) h = cert_law origin x h
 texts_are origin (rdata.CNAME x) h = inr (own origin types.CNAME _ NoToken _ _ refl (last (named origin x.0 h)))
 texts_are origin (rdata.CSYNC x) h = inr (csync_law origin x h)
 texts_are origin (rdata.HINFO x) h = inr (own origin types.HINFO _ NoToken _ _ refl
-    (row_text (two (quoted x.cpu) (quoted x.os)) (row_then (text origin x.cpu h.0) (last (text origin x.os h.1)))))
+    (row_text (two (quoted x.cpu) (quoted x.os)) (row_then (string_text origin x.cpu h.0) (last (string_text origin x.os h.1)))))
 texts_are origin (rdata.HTTPS x) h = service_law origin types.HTTPS refl x.0 h
 texts_are origin (rdata.MX x) h = inr (own origin types.MX _ NoToken _ _ refl
     (row_text (two (decimal x.preference) (zone_name x.exchange)) (row_then (short_text origin 2 x.preference (omega arith) h.0) (last (named origin x.exchange h.1)))))

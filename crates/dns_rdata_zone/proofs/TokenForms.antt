@@ -1,29 +1,24 @@
 -- What was written has the forms of its tokens.
-use Rattle.std.proofs.Common.{◌≡◌, ◌≢◌, ℕ, ◌+◌, ◌-◌, ◌*◌, ◌/◌, ◌%◌, ◌^◌, ◌<◌, ◌≤◌, Bool, true, false, cond, eqb, ◌||◌, ◌&&◌, nat_le, List, [], ◌∷◌}
-use Rattle.std.proofs.Common.{◌++◌, map, decimal, codes, Option, Some, None, refl, sym, ◌∙◌, ap, append_assoc, arith}
-use Rattle.std.specs.Prelude.{flat_map}
+use Rattle.std.proofs.Common.{◌≡◌, ◌≢◌, ℕ, ◌+◌, ◌-◌, ◌*◌, ◌/◌, ◌%◌, ◌^◌, ◌<◌, ◌≤◌, Bool, true, false, cond, eqb, ◌&&◌, nat_le, List, [], ◌∷◌}
+use Rattle.std.proofs.Common.{◌++◌, map, decimal, codes, Option, Some, refl, sym, ◌∙◌, ap, append_assoc, arith}
+use Rattle.std.specs.{Prelude.flat_map, List.AllByRecursion}
 use Rattle.std.proofs.{lemmas.Bool.Decides.nat_tests, lemmas.Fmt.decimal_is_IsNumeral, lemmas.List.append-nil}
-use Rattle.std.proofs.lemmas.List.Elements.{All-head, All-tail}
 use Rattle.dns_fields.specs.{Labels.DomainName, Labels.IsName, Octets.AreOctets}
-use Rattle.std.specs.List.{AllByRecursion}
 use Rattle.dns_names_wire.specs.NameValues.{completed}
-use Rattle.dns_tokens.specs.Forms.{ttl}
-use Rattle.dns_tokens.proofs.Printed.{ttl_back}
-use Rattle.dns_zone_tokens.specs.Forms.{number, bare, IsText}
+use Rattle.dns_zone_tokens.proofs.NamePuts.{completed_full}
+use Rattle.dns_zone_tokens.specs.Forms.{number, IsText}
 use Rattle.dns_zone_tokens.specs.Letters.{Letter, plain, is_digit, letters, octet_of, escapes_stand}
 use Rattle.dns_zone_tokens.specs.NameTokens.{parts_from, name_of_parts, with_label, labelled, is_alone, named, name}
 use Rattle.dns_rdata_zone.specs.Names.{zone_label, zone_labels, zone_name}
 use Rattle.dns_rdata_zone.specs.Spellings.{escaped, three_digits, needs_backslash, name_octet}
-use Rattle.dns_rdata_zone.proofs.Dividing.{bare_token, quoted_token, NoneEmpty}
-use Rattle.dns_rdata_zone.proofs.Letters.{name_letter, name_letter_octet, no_dot, zone_label_letters, quoted_letter, quoted_octet, escaped_letters}
+use Rattle.dns_rdata_zone.proofs.{Dividing.bare_token, Dividing.quoted_token, Dividing.NoneEmpty, Parts.ByParts, Parts.name_octet_by, Parts.escaped_by}
+use Rattle.dns_rdata_zone.proofs.Parts.{octet_parts, labels_parts}
+use Rattle.dns_rdata_zone.proofs.Letters.{digit_is, name_letter, name_letter_octet, no_dot, zone_label_letters, quoted_letter, quoted_octet, escaped_letters}
 
 -- ---- numbers
 
 pub number_form : (w n : ℕ) → n < 2 ^ (8 * w) → n < 2 ^ 64 → (number w).is n (bare_token (decimal n))
 number_form w n fits small = let num = decimal_is_IsNumeral n small in (record { bare = refl; digits = num.0; value = sym num.1 }, fits)
-
-pub ttl_form : (n : ℕ) → n ≤ 4294967295 → (bare (ttl 4294967295)).is n (bare_token (decimal n))
-ttl_form n fits = (refl, (ttl_back 4294967295 n (omega arith) fits).is)
 
 -- ---- escapes
 
@@ -31,13 +26,10 @@ ttl_form n fits = (refl, (ttl_back 4294967295 n (omega arith) fits).is)
 abbrev pub Escapes : List ℕ → Type 0
 Escapes s = (rest : List ℕ) → escapes_stand (s ++ rest) ≡ escapes_stand rest
 
-pub escapes_none : Escapes []
-escapes_none rest = refl
+escapes_parts : ByParts Escapes
+escapes_parts = record { none = λ rest. refl; both = λ a b h k rest. ap escapes_stand (append_assoc a b rest) ∙ h (b ++ rest) ∙ k rest }
 
-pub escapes_append : (a b : List ℕ) → Escapes a → Escapes b → Escapes (a ++ b)
-escapes_append a b h k rest = ap escapes_stand (append_assoc a b rest) ∙ h (b ++ rest) ∙ k rest
-
-pub escapes_all : (s : List ℕ) → Escapes s → escapes_stand s ≡ true
+escapes_all : (s : List ℕ) → Escapes s → escapes_stand s ≡ true
 escapes_all s h = ap escapes_stand (sym (append-nil s)) ∙ h []
 
 escapes_one : (c : ℕ) → eqb c 92 ≡ false → Escapes (c ∷ [])
@@ -45,9 +37,6 @@ escapes_one c h rest = rw h refl
 
 escapes_two : (c : ℕ) → is_digit c ≡ false → Escapes (92 ∷ c ∷ [])
 escapes_two c h rest = rw h refl
-
-digit_is : (d : ℕ) → d < 10 → is_digit (48 + d) ≡ true
-digit_is d h = grind (arith, nat_tests)
 
 small_is : (n d : ℕ) → d < 10 → 10 * n + ((48 + d) - 48) ≤ 255 → is_digit (48 + d) && nat_le (10 * n + ((48 + d) - 48)) 255 ≡ true
 small_is n d h k = grind (arith, nat_tests)
@@ -59,22 +48,13 @@ escapes_digits c h rest =
     let third = small_is (10 * ((48 + c / 100) - 48) + ((48 + c / 10 % 10) - 48)) (c % 10) (omega arith) (omega arith) in
     rw (first, second, third) refl
 
-escapes_test : (b : Bool) (x y : List ℕ) → (b ≡ true → Escapes x) → (b ≡ false → Escapes y) → Escapes (cond b x y)
-escapes_test true x y h k = h refl
-escapes_test false x y h k = k refl
-
 escapes_escaped : (c : ℕ) → c < 256 → Escapes (escaped c)
-escapes_escaped c h = escapes_test (eqb c 34 || eqb c 92) _ _ (λ e. escapes_two c (grind (arith, nat_tests)))
-    (λ e. escapes_test (nat_le 32 c && nat_le c 126) _ _ (λ f. escapes_one c (grind (arith, nat_tests))) (λ f. escapes_digits c h))
+escapes_escaped c h = escaped_by Escapes c (λ e. escapes_two c (grind (arith, nat_tests))) (λ e f. escapes_one c (grind (arith, nat_tests)))
+    (escapes_digits c h)
 
 escapes_name_octet : (c : ℕ) → c < 256 → Escapes (name_octet c)
-escapes_name_octet c h = escapes_test (needs_backslash c) _ _ (λ e. escapes_two c (grind (arith, nat_tests)))
-    (λ e. escapes_test (nat_le 33 c && nat_le c 126) _ _ (λ f. escapes_one c (grind (arith, nat_tests))) (λ f. escapes_digits c h))
-
-escapes_flat : (spelled : ℕ → List ℕ) → ((c : ℕ) → c < 256 → Escapes (spelled c)) → (s : List ℕ) → AreOctets s → Escapes (flat_map spelled s)
-escapes_flat spelled f [] h = escapes_none
-escapes_flat spelled f (c ∷ s) h = escapes_append (spelled c) (flat_map spelled s) (f c (All-head (λ x. x < 256) c s h))
-    (escapes_flat spelled f s (All-tail (λ x. x < 256) c s h))
+escapes_name_octet c h =
+    name_octet_by Escapes c (λ e. escapes_two c (grind (arith, nat_tests))) (λ e f. escapes_one c (grind (arith, nat_tests))) (escapes_digits c h)
 
 -- ---- strings
 
@@ -84,7 +64,7 @@ quoted_octets (c ∷ s) = rw (quoted_octet c) (ap (λ (t : List ℕ). c ∷ t) (
 
 pub text_form : (joined : Bool) (s : List ℕ) → AreOctets s → IsText s (quoted_token joined (flat_map escaped s))
 text_form joined s h = record {
-  escapes = escapes_all (flat_map escaped s) (escapes_flat escaped escapes_escaped s h);
+  escapes = escapes_all (flat_map escaped s) (octet_parts escapes_parts escaped escapes_escaped s h);
   value = sym (
       ap (λ (t : List ℕ). map octet_of (letters t)) (sym (append-nil (flat_map escaped s)))
       ∙ ap (map octet_of) (escaped_letters s [] h ∙ append-nil (map quoted_letter s))
@@ -94,16 +74,9 @@ text_form joined s h = record {
 
 -- ---- names
 
-escapes_label : (s : List ℕ) → AreOctets s → Escapes (zone_label s)
-escapes_label s h = escapes_append (flat_map name_octet s) (codes ".") (escapes_flat name_octet escapes_name_octet s h) (escapes_one 46 refl)
-
-escapes_labels : (ls : List (List ℕ)) → AllByRecursion AreOctets ls → Escapes (flat_map zone_label ls)
-escapes_labels [] h = escapes_none
-escapes_labels (l ∷ ls) h = escapes_append (zone_label l) (flat_map zone_label ls) (escapes_label l h.0) (escapes_labels ls h.1)
-
 escapes_name : (ls : List (List ℕ)) → AllByRecursion AreOctets ls → escapes_stand (zone_labels ls) ≡ true
 escapes_name [] h = refl
-escapes_name (l ∷ ls) h = escapes_all (flat_map zone_label (l ∷ ls)) (escapes_labels (l ∷ ls) h)
+escapes_name (l ∷ ls) h = escapes_all (flat_map zone_label (l ∷ ls)) (labels_parts escapes_parts escapes_name_octet (escapes_one 46 refl) (l ∷ ls) h)
 
 label_part : (front s : List ℕ) (xs : List Letter) → parts_from front (map name_letter s ++ plain 46 ∷ xs) ≡ (front ++ s) ∷ parts_from [] xs
 label_part front [] xs = ap (λ (l : List ℕ). l ∷ parts_from [] xs) (sym (append-nil front))
@@ -141,10 +114,6 @@ not_alone c (d ∷ l) rest h =
       front_not false true t = one_not d t
       front_not false false t = refl
 
-completes : (x : DomainName) (origin : Option DomainName) → x.fully_qualified ≡ true → completed x origin ≡ x
-completes x None q = refl
-completes x (Some origin) q = rw q refl
-
 by_tests : (a b : Bool) (x y z : Option DomainName) → a ≡ false → b ≡ false → cond a x (cond b y z) ≡ z
 by_tests a b x y z h k = rw (h, k) refl
 
@@ -156,7 +125,7 @@ named_is (l ∷ ls) origin h k =
     by_tests (is_alone 64 (zone_labels (l ∷ ls))) (is_alone 46 (zone_labels (l ∷ ls))) origin (Some (record { labels = []; fully_qualified = true })) (Some (completed (labelled (zone_labels (l ∷ ls))) origin))
     (not_alone 64 l (flat_map zone_label ls) k.0) (not_alone 46 l (flat_map zone_label ls) k.0)
     ∙ ap (λ (n : DomainName). Some (completed n origin)) (ap name_of_parts (label_parts (l ∷ ls) h) ∙ name_is (l ∷ ls))
-    ∙ ap (λ (n : DomainName). Some n) (completes x origin refl)
+    ∙ ap (λ (n : DomainName). Some n) (completed_full x origin refl)
 
 pub name_form : (x : DomainName) (origin : Option DomainName) → AllByRecursion AreOctets x.labels → NoneEmpty x.labels → x.fully_qualified ≡ true → IsName x
     → (name origin).is x (bare_token (zone_name x))

@@ -20,25 +20,29 @@ some_behind s h e = let none : length s ≡ 0 = ap length e in omega (arith, non
 rest_from : (n : ℕ) (s : List ℕ) → n < length s → take (length s - n) (drop n s) ≡ drop n s
 rest_from n s h = take_all (length s - n) (drop n s) (omega (arith, length-drop n s))
 
-hex_step_on : (left : ℕ) (rest text whole : List ℕ) → left < length rest → text ++ tokens_from (2 * left) (encode_lower rest) ≡ whole
-    → (text ++ (encode_lower (take left rest) ++ 32 ∷ [])) ++ tokens_from 1020 (encode_lower (drop left rest)) ≡ whole
-hex_step_on left rest text whole h w =
-    let a = take left rest in
-    let b = drop left rest in
-    let size : length (encode_lower a) ≡ 2 * left = omega (arith, hex_length a, length-take left rest) in
-    let more : 0 < length (encode_lower b) = omega (arith, hex_length b, length-drop left rest) in
-    append_assoc text (encode_lower a ++ 32 ∷ []) (tokens_from 1020 (encode_lower b))
-    ∙ ap (λ (t : List ℕ). text ++ t) (append_assoc (encode_lower a) (32 ∷ []) (tokens_from 1020 (encode_lower b)))
-    ∙ ap (λ (t : List ℕ). text ++ t) (sym (tokens_full (2 * left) (encode_lower a) (encode_lower b) size (some_behind (encode_lower b) more)))
-    ∙ ap (λ (t : List ℕ). text ++ tokens_from (2 * left) t) (sym (hex_append a b))
-    ∙ ap (λ (s : List ℕ). text ++ tokens_from (2 * left) (encode_lower s)) (take-append-drop left rest)
+-- octets of which the current token takes n, in an alphabet
+token_step : (digits : List ℕ → List ℕ) (left n : ℕ) (rest text whole : List ℕ) → n < length rest → length (digits (take n rest)) ≡ left
+    → 0 < length (digits (drop n rest)) → digits (take n rest ++ drop n rest) ≡ digits (take n rest) ++ digits (drop n rest)
+    → text ++ tokens_from left (digits rest) ≡ whole
+    → (text ++ (digits (take n rest) ++ 32 ∷ [])) ++ tokens_from 1020 (digits (take (length rest - n) (drop n rest))) ≡ whole
+token_step digits left n rest text whole h size more both w =
+    let a = digits (take n rest) in
+    let b = digits (drop n rest) in
+    let e = rest_from n rest h in
+    rw e (
+    append_assoc text (a ++ 32 ∷ []) (tokens_from 1020 b)
+    ∙ ap (λ (t : List ℕ). text ++ t) (append_assoc a (32 ∷ []) (tokens_from 1020 b) ∙ sym (tokens_full left a b size (some_behind b more)))
+    ∙ ap (λ (t : List ℕ). text ++ tokens_from left t) (sym both)
+    ∙ ap (λ (s : List ℕ). text ++ tokens_from left (digits s)) (take-append-drop n rest)
     ∙ w
+    )
 
 -- one token is full
 pub hex_step : (left : ℕ) (rest text whole : List ℕ) → left < length rest → text ++ tokens_from (2 * left) (encode_lower rest) ≡ whole
     → (text ++ (encode_lower (take left rest) ++ 32 ∷ [])) ++ tokens_from 1020 (encode_lower (take (length rest - left) (drop left rest))) ≡ whole
-hex_step left rest text whole h w =
-    let e = rest_from left rest h in rw e (hex_step_on left rest text whole h w)
+hex_step left rest text whole h w = token_step encode_lower (2 * left) left rest text whole h
+    (omega (arith, hex_length (take left rest), length-take left rest))
+    (omega (arith, hex_length (drop left rest), length-drop left rest)) (hex_append (take left rest) (drop left rest)) w
 
 -- the last one takes the rest
 pub hex_last : (left : ℕ) (rest text whole : List ℕ) → length rest ≤ left → text ++ tokens_from (2 * left) (encode_lower rest) ≡ whole
@@ -117,25 +121,13 @@ base64_append a b h =
     ∙ append_assoc s u pad
     ∙ ap (λ (t : List ℕ). t ++ encode_of standard b) (sym own)
 
-base64_step_on : (rest text whole : List ℕ) → 765 < length rest → text ++ tokens_from 1020 (encode_of standard rest) ≡ whole
-    → (text ++ (encode_of standard (take 765 rest) ++ 32 ∷ [])) ++ tokens_from 1020 (encode_of standard (drop 765 rest)) ≡ whole
-base64_step_on rest text whole h w =
-    let a = take 765 rest in
-    let b = drop 765 rest in
-    let long : length a ≡ 765 = omega (arith, length-take 765 rest) in
-    let size : length (encode_of standard a) ≡ 1020 = omega (arith, base64_length a, long) in
-    let more : 0 < length (encode_of standard b) = omega (arith, base64_length b, length-drop 765 rest) in
-    append_assoc text (encode_of standard a ++ 32 ∷ []) (tokens_from 1020 (encode_of standard b))
-    ∙ ap (λ (t : List ℕ). text ++ t) (append_assoc (encode_of standard a) (32 ∷ []) (tokens_from 1020 (encode_of standard b)))
-    ∙ ap (λ (t : List ℕ). text ++ t) (sym (tokens_full 1020 (encode_of standard a) (encode_of standard b) size (some_behind (encode_of standard b) more)))
-    ∙ ap (λ (t : List ℕ). text ++ tokens_from 1020 t) (sym (base64_append a b long))
-    ∙ ap (λ (s : List ℕ). text ++ tokens_from 1020 (encode_of standard s)) (take-append-drop 765 rest)
-    ∙ w
-
 -- one token is full
 pub base64_step : (rest text whole : List ℕ) → 765 < length rest → text ++ tokens_from 1020 (encode_of standard rest) ≡ whole
     → (text ++ (encode_of standard (take 765 rest) ++ 32 ∷ [])) ++ tokens_from 1020 (encode_of standard (take (length rest - 765) (drop 765 rest))) ≡ whole
-base64_step rest text whole h w = let e = rest_from 765 rest h in rw e (base64_step_on rest text whole h w)
+base64_step rest text whole h w =
+    let long : length (take 765 rest) ≡ 765 = omega (arith, length-take 765 rest) in
+    token_step (encode_of standard) 1020 765 rest text whole h (omega (arith, base64_length (take 765 rest), long))
+    (omega (arith, base64_length (drop 765 rest), length-drop 765 rest)) (base64_append (take 765 rest) (drop 765 rest) long) w
 
 -- the last one takes the rest
 pub base64_last : (rest text whole : List ℕ) → length rest ≤ 765 → text ++ tokens_from 1020 (encode_of standard rest) ≡ whole

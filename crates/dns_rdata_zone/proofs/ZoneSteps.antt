@@ -1,7 +1,6 @@
 -- Texts of zone files that are read, step by step.
-use Rattle.std.proofs.Common.{◌≡◌, ◌≢◌, ℕ, true, List, [], ◌∷◌, length, Option, Some, Result, Ok, Err, ◌⊎◌, inl, inr, refl, sym, ◌∙◌, ap, subst}
-use Rattle.std.specs.Prelude.{IfOk, IfErr, codes}
-use Rattle.std.specs.{Option.option_map, Result.IsErrAnd}
+use Rattle.std.proofs.Common.{◌≡◌, ◌≢◌, ℕ, true, List, ◌∷◌, length, Option, Some, Result, Ok, ◌⊎◌, inl, inr, refl, sym, ◌∙◌, ap, subst}
+use Rattle.std.specs.{Option.option_map, Prelude.IfErr, Prelude.codes}
 use Rattle.dns_names_wire.specs.{Terms.UnlessMemory, State.Reading}
 use Rattle.dns_fields.specs.Labels.{DomainName}
 use Rattle.dns_rdata.specs.{Data.shape, Data.Fills, Data.NoValue, Data.data_octets, ReadErrors.IsReadError, declared.record_data.RData.RData}
@@ -11,20 +10,13 @@ use Rattle.dns_types.specs.declared.error.DecodeError.TheVariants as decode
 use Rattle.dns_types.specs.declared.error.ParseError.TheVariants as parse
 use Rattle.dns_tokens.specs.Reads.{UnlessParseMemory}
 use Rattle.dns_zone_rows.specs.{RowFaults.row_value, RowFaults.RowFault, RowTable.zone_row_of, RowTexts.row_texts, RowTexts.texts_of, declared.zone_row.ZoneRow.ZoneRow}
-use Rattle.dns_zone_tokens.specs.{Errors.Says, Remaining.AreUnknown, Remaining.TookAll, declared.tokens_error.TokensError.TokensError}
-use Rattle.dns_zone_tokens.specs.Tokens.{Token, Cursor, tokens_at, with_token, zone_tokens}
+use Rattle.dns_zone_tokens.specs.{Errors.Says, Remaining.AreUnknown, Remaining.TookAll, Tokens.Token, Tokens.Cursor, Tokens.tokens_at, Tokens.zone_tokens}
 use Rattle.dns_tokens.proofs.Steps.{unless_map}
-use Rattle.dns_rdata_zone.specs.ZoneGives.{AreUnknownData, AreUnmarked, GiveByRow, TokensGive, IsWhole, has_name, AreDataOf, GivesValue, GivesNone}
-use Rattle.dns_rdata_zone.specs.ZoneGives.{at_start}
-use Rattle.dns_rdata_zone.specs.ZoneFaults.{OctetsFault, IsBehindMark, BehindMarkFault}
-use Rattle.dns_rdata_zone.specs.ZoneFaults.{HasNoMark, LacksRow, TokensFault, ByRowFault, ZoneFault}
+use Rattle.dns_zone_tokens.proofs.{FirstSteps.or_then, NamePuts.if_err, RemainingSteps.token_ok}
 use Rattle.dns_rdata_zone.specs.ZoneSteps.{AreNoData, UnknownIs, UnknownIsNone, RowIs, RowIsNone}
-use Rattle.dns_rdata_zone.proofs.ZoneOnce.{same_tokens, unknown_once, by_row_once, data_one}
-
--- what is handed on
-pub exit_with : {T : Type 0} (F : Result T ParseError → Type 0) (e : ParseError) (r : Result T ParseError) → IsErrAnd r (λ y. y ≡ e) → F (Err e) → F r
-exit_with F e (Ok x) h f = elim h [ ]
-exit_with F e (Err y) h f = subst (λ (z : ParseError). F (Err z)) (sym h) f
+use Rattle.dns_rdata_zone.specs.ZoneFaults.{OctetsFault, IsBehindMark, BehindMarkFault, HasNoMark, LacksRow, TokensFault, ByRowFault}
+use Rattle.dns_rdata_zone.specs.ZoneGives.{AreUnknownData, AreUnmarked, GiveByRow, TokensGive, IsWhole, has_name, AreDataOf, GivesValue, GivesNone, at_start}
+use Rattle.dns_rdata_zone.proofs.ZoneOnce.{same_tokens, unknown_once, not_both, by_row_once, data_one}
 
 -- ---- octets that are read
 
@@ -85,9 +77,8 @@ pub row_refused : {T : Type 0} (r : Result T ParseError) (origin : Option Domain
     → tokens_at cursor ≡ zone_tokens text
     → s ≡ octets → TookAll (GiveByRow origin (zone_row_of t)) octets cursor → IfErr r (λ e. UnlessParseMemory e (AreNoData s t))
     → IfErr r (λ e. UnlessParseMemory e (RowIsNone origin t text))
-row_refused (Ok x) origin t octets s text cursor starts same took h = tt
-row_refused (Err e) origin t octets s text cursor starts same took h =
-    row_none e origin t octets text cursor starts took (subst (λ (o : List ℕ). UnlessParseMemory e (AreNoData o t)) same h)
+row_refused r origin t octets s text cursor starts same took = if_err _ _ r
+    (λ e h. row_none e origin t octets text cursor starts took (subst (λ (o : List ℕ). UnlessParseMemory e (AreNoData o t)) same h))
 
 -- what is the same of the zone rows is the same of the one zone row
 same_rows : {T : Type 0} (view : ZoneRow → T) (o : Option ZoneRow) (zone_row : ZoneRow) (r : Option T) → o ≡ Some zone_row → option_map view o ≡ r
@@ -98,17 +89,14 @@ pub row_fault : {T : Type 0} (origin : Option DomainName) (t : RecordType) (text
     → o ≡ Some zone_row → option_map row_value o ≡ zone_row_of t → option_map row_texts o ≡ texts_of t → tokens_at cursor ≡ zone_tokens text
     → IfErr r (λ e. (e ≡ parse.Memory) ⊎ RowFault origin zone_row cursor e)
     → IfErr r (λ e. (e ≡ parse.Memory) ⊎ LacksRow t e ⊎ TokensFault origin t text e)
-row_fault origin t text o zone_row cursor (Ok x) e f g starts h = tt
-row_fault origin t text o zone_row cursor (Err y) e f g starts (inl memory) = inl memory
-row_fault origin t text o zone_row cursor (Err y) e f g starts (inr fault) =
-    inr (inr (record {
-      zone_row = zone_row;
-      of_type = same_rows row_value o zone_row (zone_row_of t) e f;
-      texts = same_rows row_texts o zone_row (texts_of t) e g;
-      cursor = cursor;
-      starts = starts;
-      has = fault;
-    }))
+row_fault origin t text o zone_row cursor r e f g starts = if_err _ _ r (λ y. or_then (λ fault. inr (record {
+  zone_row = zone_row;
+  of_type = same_rows row_value o zone_row (zone_row_of t) e f;
+  texts = same_rows row_texts o zone_row (texts_of t) e g;
+  cursor = cursor;
+  starts = starts;
+  has = fault;
+})))
 
 -- ---- why octets are rejected
 
@@ -125,9 +113,8 @@ read_why cause old behind octets n t start all h = inr (record {
 
 pub unknown_why : (e : ParseError) (t : RecordType) (octets s : List ℕ) (cursor : Cursor) → s ≡ octets → TookAll AreUnknown octets cursor
     → (e ≡ parse.Memory) ⊎ OctetsFault s t e → (e ≡ parse.Memory) ⊎ BehindMarkFault t cursor e
-unknown_why e t octets s cursor same took (inl memory) = inl memory
-unknown_why e t octets s cursor same took (inr fault) =
-    inr (inr (record { octets = octets; took = took; why = inl (subst (λ (o : List ℕ). OctetsFault o t e) same fault) }))
+unknown_why e t octets s cursor same took =
+    or_then (λ fault. inr (record { octets = octets; took = took; why = inl (subst (λ (o : List ℕ). OctetsFault o t e) same fault) }))
 
 pub pointer_why : (e : ParseError) (t : RecordType) (v : RData) (octets s : List ℕ) (n : ℕ) (cursor : Cursor) → s ≡ octets → n ≡ length octets
     → TookAll AreUnknown octets cursor
@@ -147,30 +134,10 @@ pointer_why e t v octets s n cursor same counted took is named other says = inr 
 pub given_why : {T : Type 0} (r : Result T ParseError) (origin : Option DomainName) (t : RecordType) (octets s text : List ℕ) → s ≡ octets
     → TookAll (GiveByRow origin (zone_row_of t)) octets (at_start text) → IfErr r (λ e. (e ≡ parse.Memory) ⊎ OctetsFault s t e)
     → IfErr r (λ e. (e ≡ parse.Memory) ⊎ ByRowFault origin t text e)
-given_why (Ok x) origin t octets s text same took h = tt
-given_why (Err e) origin t octets s text same took (inl memory) = inl memory
-given_why (Err e) origin t octets s text same took (inr fault) =
-    inr (inr (inr (record { octets = octets; took = took; why = subst (λ (o : List ℕ). OctetsFault o t e) same fault })))
-
-pub marked_why : {T : Type 0} (r : Result T ParseError) (origin : Option DomainName) (t : RecordType) (text : List ℕ) (cursor : Cursor)
-    → IsBehindMark text cursor
-    → IfErr r (λ e. (e ≡ parse.Memory) ⊎ BehindMarkFault t cursor e) → IfErr r (λ e. (e ≡ parse.Memory) ⊎ ZoneFault origin t text e)
-marked_why (Ok x) origin t text cursor b h = tt
-marked_why (Err e) origin t text cursor b (inl memory) = inl memory
-marked_why (Err e) origin t text cursor b (inr why) = inr (inr (inl (record { cursor = cursor; behind = b; why = why })))
-
-pub unmarked_why : {T : Type 0} (r : Result T ParseError) (origin : Option DomainName) (t : RecordType) (text : List ℕ) → HasNoMark text
-    → IfErr r (λ e. (e ≡ parse.Memory) ⊎ ByRowFault origin t text e) → IfErr r (λ e. (e ≡ parse.Memory) ⊎ ZoneFault origin t text e)
-unmarked_why (Ok x) origin t text m h = tt
-unmarked_why (Err e) origin t text m (inl memory) = inl memory
-unmarked_why (Err e) origin t text m (inr why) = inr (inr (inr (record { unmarked = m; why = why })))
+given_why r origin t octets s text same took = if_err _ _ r
+    (λ e. or_then (λ fault. inr (inr (record { octets = octets; took = took; why = subst (λ (o : List ℕ). OctetsFault o t e) same fault }))))
 
 -- ---- a whole text
-
-first_ok : (first : Token) (behind : Result (List Token) TokensError) (all : List Token) → with_token first behind ≡ Ok all
-    → (rest : List Token) × (behind ≡ Ok rest) × (all ≡ first ∷ rest)
-first_ok first (Ok rest) all e = let same : first ∷ rest ≡ all = cc in (rest, refl, sym same)
-first_ok first (Err why) all e = absurd (cc)
 
 unknown_from : (t : RecordType) (v : RData) (octets : List ℕ) (tokens rest : List Token) (first : Token) (cursor : Cursor) → tokens ≡ first ∷ rest
     → tokens_at cursor ≡ Ok rest
@@ -184,11 +151,11 @@ unknown_from t v octets tokens rest first cursor e divided unknown is whole = re
   whole = whole unknown;
 }
 
-none_behind : (origin : Option DomainName) (t : RecordType) (text : List ℕ) (cursor : Cursor) → IsBehindMark text cursor → UnknownIsNone t cursor
+pub none_behind : (origin : Option DomainName) (t : RecordType) (text : List ℕ) (cursor : Cursor) → IsBehindMark text cursor → UnknownIsNone t cursor
     → GivesNone origin t text
 none_behind origin t text cursor b none = record {
   none = λ v g.
-      let k = first_ok b.first (tokens_at cursor) g.gives.tokens (sym b.divided ∙ g.gives.divided) in
+      let k = token_ok b.first (tokens_at cursor) g.gives.tokens (sym b.divided ∙ g.gives.divided) in
       by_form v g k.0 k.1 k.2 g.gives.give;
 } where
   by_form : (v : RData) (g : GivesValue origin t text v) (rest : List Token) → tokens_at cursor ≡ Ok rest → g.gives.tokens ≡ b.first ∷ rest
@@ -196,46 +163,16 @@ none_behind origin t text cursor b none = record {
   by_form v g rest divided e (inl unknown) = none.none v (unknown_from t v g.octets g.gives.tokens rest b.first cursor e divided unknown g.is_data g.whole)
   by_form v g rest divided e (inr own) = (subst AreUnmarked e own.0) b.mark
 
-pub marked_refused : (e : ParseError) (origin : Option DomainName) (t : RecordType) (text : List ℕ) (cursor : Cursor) → IsBehindMark text cursor
-    → UnlessParseMemory e (UnknownIsNone t cursor) → UnlessParseMemory e (GivesNone origin t text)
-marked_refused e origin t text cursor b h = unless_map e (UnknownIsNone t cursor) (GivesNone origin t text) (none_behind origin t text cursor b) h
-
-not_marked : (octets : List ℕ) (tokens : List Token) → AreUnmarked tokens → AreUnknownData octets tokens → ⊥
-not_marked octets [] h k = k
-not_marked octets (first ∷ tokens) h k = h k.0
-
 pub row_gives : (origin : Option DomainName) (t : RecordType) (text : List ℕ) (v : RData) → HasNoMark text → RowIs origin t text v → GivesValue origin t text v
 row_gives origin t text v h u = record {
   octets = u.octets;
   gives = record { tokens = u.tokens; divided = u.divided; give = inr (h.unmarked u.tokens u.divided, u.give) };
   is_data = u.is_data;
-  whole = λ unknown. absurd (not_marked u.octets u.tokens (h.unmarked u.tokens u.divided) unknown);
+  whole = λ unknown. absurd (not_both u.octets u.tokens unknown (h.unmarked u.tokens u.divided));
 }
 
-none_own : (origin : Option DomainName) (t : RecordType) (text : List ℕ) → HasNoMark text → RowIsNone origin t text → GivesNone origin t text
+pub none_own : (origin : Option DomainName) (t : RecordType) (text : List ℕ) → HasNoMark text → RowIsNone origin t text → GivesNone origin t text
 none_own origin t text h none = record { none = λ v g. by_form v g g.gives.give } where
   by_form : (v : RData) (g : GivesValue origin t text v) → TokensGive origin t g.octets g.gives.tokens → ⊥
-  by_form v g (inl unknown) = not_marked g.octets g.gives.tokens (h.unmarked g.gives.tokens g.gives.divided) unknown
+  by_form v g (inl unknown) = not_both g.octets g.gives.tokens unknown (h.unmarked g.gives.tokens g.gives.divided)
   by_form v g (inr own) = none.none v (record { tokens = g.gives.tokens; divided = g.gives.divided; octets = g.octets; give = own.1; is_data = g.is_data })
-
-pub own_refused : (e : ParseError) (origin : Option DomainName) (t : RecordType) (text : List ℕ) → HasNoMark text
-    → UnlessParseMemory e (RowIsNone origin t text) → UnlessParseMemory e (GivesNone origin t text)
-own_refused e origin t text h k = unless_map e (RowIsNone origin t text) (GivesNone origin t text) (none_own origin t text h) k
-
--- ---- what calls return
-
-pub marked_answer : {T : Type 0} (r : Result T ParseError) (origin : Option DomainName) (t : RecordType) (text : List ℕ) (cursor : Cursor)
-    → IsBehindMark text cursor
-    → IfErr r (λ e. UnlessParseMemory e (UnknownIsNone t cursor)) → IfErr r (λ e. UnlessParseMemory e (GivesNone origin t text))
-marked_answer (Ok x) origin t text cursor b h = tt
-marked_answer (Err e) origin t text cursor b h = marked_refused e origin t text cursor b h
-
-pub row_answer : {T : Type 0} (r : Result T ParseError) (origin : Option DomainName) (t : RecordType) (text : List ℕ) → HasNoMark text
-    → IfErr r (λ e. UnlessParseMemory e (RowIsNone origin t text)) → IfErr r (λ e. UnlessParseMemory e (GivesNone origin t text))
-row_answer (Ok x) origin t text m h = tt
-row_answer (Err e) origin t text m h = own_refused e origin t text m h
-
-pub row_found : (r : Result RData ParseError) (origin : Option DomainName) (t : RecordType) (text : List ℕ) → HasNoMark text
-    → IfOk r (RowIs origin t text) → IfOk r (GivesValue origin t text)
-row_found (Ok v) origin t text m h = row_gives origin t text v m h
-row_found (Err e) origin t text m h = tt

@@ -1,6 +1,5 @@
 -- Printable ASCII.
-use Rattle.std.specs.Prelude.{ℕ, ◌≤◌, List}
-use Rattle.std.specs.List.{AllByRecursion}
+use Rattle.std.specs.{List.AllByRecursion, Prelude.ℕ, Prelude.◌≤◌, Prelude.List}
 
 -- each octet is a blank or a graphic character of ASCII, so none is a line end
 abbrev pub ArePrintable : List ℕ → Type 0

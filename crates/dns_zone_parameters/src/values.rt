@@ -11,7 +11,7 @@ use base64::DecodeAllocError;
 use base64::engine::general_purpose::STANDARD;
 use dns_rdata_service::svcb::SvcParamKey;
 use dns_types::{Octets, ParseError};
-use dns_zone_tokens::{ZoneToken, put_text, u16_of};
+use dns_zone_tokens::{ZoneToken, number_of, put_text};
 use std::alloc::Global;
 
 const NO_ESCAPE: &str = "`\\` without a meaning in a service parameter";
@@ -141,7 +141,7 @@ fn port_of(alloc: Global, text: &[u8], wrong: &'static str) -> Result<Octets, Pa
         quoted: false,
         joined: false,
     };
-    let port = u16_of(token, wrong)?;
+    let port = number_of(token, 2, wrong)? as u16;
     Ok(Octets::from_slice(alloc, &port.to_be_bytes())?)
 }
 

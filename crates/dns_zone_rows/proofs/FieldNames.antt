@@ -1,8 +1,6 @@
 -- The fields of a zone row by their names.
 use Rattle.std.proofs.Common.{◌≡◌, ℕ, zero, suc, ◌+◌, ◌<◌, ◌≤◌, ◌==◌, Bool, true, false, get_or, List, [], ◌∷◌, ◌++◌, length, map, Option, Some, None, refl, sym, ◌∙◌, ap, subst, arith}
-use Rattle.std.specs.{Cmp.Lexicographic.pointwise, Cmp.Lexicographic.pointwise_decides, Cmp.unsigned_Decides}
-use Rattle.std.specs.List.{slice_get}
-use Rattle.std.specs.Option.{option_map}
+use Rattle.std.specs.{List.slice_get, Option.option_map, Cmp.unsigned_Decides, Cmp.Lexicographic.pointwise, Cmp.Lexicographic.pointwise_decides}
 use Rattle.std.proofs.lemmas.List.{length-append, length-map}
 use Rattle.std.proofs.lemmas.Option.{slice_get-get_or, slice_get-map, slice_get_within}
 use Rattle.dns_types.specs.declared.record_type.RecordType.{RecordType}
@@ -62,10 +60,6 @@ field_there {t} {name} {index} zone_row e has =
       before_rest = omega (arith, long, within);
       named = has.named;
     }
-
--- a type without a zone row has no fields
-pub no_field : {t : RecordType} {name : List ℕ} {index : ℕ} → None ≡ texts_of t → IsFieldOf t name index → ⊥
-no_field e is = let bad : None ≡ Some is.texts = e ∙ is.of_type in absurd (cc)
 
 -- ---- one field after the other
 

@@ -1,21 +1,17 @@
 -- Tokens give at most one list of octets by a zone row.
-use Rattle.std.proofs.Common.{◌≡◌, ℕ, true, List, [], ◌∷◌, ◌++◌, drop, find, codes, Option, Some, None, Result, Ok, refl, sym, ap, ◌∙◌, subst, inl}
-use Rattle.std.proofs.Common.{inr}
-use Rattle.std.specs.{List.flat_map, Net.Addr.ipv4_octets, Net.Addr.ipv6_octets, Str.Parse.digits_value}
 use Rattle.std.proofs.NetLemmas.Theorems.{IsIpv4Text_unique, IsIpv6Text_unique}
+use Rattle.std.proofs.Common.{◌≡◌, ℕ, true, List, [], ◌∷◌, ◌++◌, drop, find, codes, Option, Some, None, Result, Ok, refl, sym, ap, ◌∙◌, subst, inl, inr}
+use Rattle.std.specs.{List.flat_map, Net.Addr.ipv4_octets, Net.Addr.ipv6_octets, Str.Parse.digits_value}
 use Rattle.dns_fields.specs.{Bitmaps.block, Bitmaps.minimal, Fields.Kind, Fields.Value, Labels.DomainName, Tlvs.string as string_octets}
 use Rattle.dns_text.proofs.TtlSteps.{periods_one}
 use Rattle.dns_types.specs.{declared.record_type.RecordType.RecordType, declared.record_type.RecordType.TheVariants.Unknown}
 use Rattle.dns_types.specs.RecordTypes.{number_of, is_named, named_types, record_type_of, type_text, has_name, IsTypeName, IsNumberText, IsTypeText}
 use Rattle.dns_types.proofs.TypeTexts.{reads_name}
-use Rattle.dns_tokens.specs.Forms.{ttl, ipv4, ipv6}
-use Rattle.dns_zone_tokens.specs.{Forms.ZoneForm, Forms.bare, Forms.number, Forms.string, Forms.text, NameTokens.name, TypeNames.IsZoneType, Tokens.Token}
+use Rattle.dns_zone_tokens.specs.{Tokens.Token, TypeNames.IsZoneType, Mnemonics.number_named, Forms.ZoneForm, Forms.number, Forms.string, Forms.text}
 use Rattle.dns_zone_parameters.proofs.{Items.same_both, OneReading.one_reading}
-use Rattle.dns_zone_tokens.specs.Mnemonics.{Named, number_named}
-use Rattle.dns_zone_rows.specs.Mnemonics.{IsNamedNumber, named_number}
-use Rattle.dns_zone_rows.specs.Rows.{FieldKind, Number, NamedNumber, Ttl, Ipv4, Ipv6, Name, String, Tag, Octets, RestKind, NoToken, SomeStrings}
-use Rattle.dns_zone_rows.specs.Rows.{SomeHex, SomeBase64, AnyTypes, AnyParameters, RowShape, Gives, tag, FieldGives, IsTypeNumber, RestGives, FieldsGive}
-use Rattle.dns_zone_rows.specs.Rows.{RowGives}
+use Rattle.dns_zone_rows.specs.Rows.{FieldKind, Number, NamedNumber, Ttl, Ipv4, Ipv6, Name, String, Tag, Octets, RestKind, NoToken, SomeStrings, SomeHex}
+use Rattle.dns_zone_rows.specs.Mnemonics.{IsNamedNumber}
+use Rattle.dns_zone_rows.specs.Rows.{SomeBase64, AnyTypes, AnyParameters, RowShape, Gives, FieldGives, IsTypeNumber, RestGives, FieldsGive, RowGives}
 
 -- ---- one token
 
@@ -34,44 +30,25 @@ by_name_once : (w : ℕ) (named : Option ℕ) (token : Token) (v n : ℕ) → Is
 by_name_once w (Some value) token v n x y = x.1 ∙ sym y.1
 by_name_once w None token v n x y = (number_once w).one token v n x y
 
-named_once : (w : ℕ) (table : List Named) → Once (named_number w table)
-named_once w table = record { one = λ token v n x y. by_name_once w (number_named table token.octets) token v n x y }
-
-ttl_once : (most : ℕ) → Once (bare (ttl most))
-ttl_once most = record { one = λ token v n x y. periods_one x.1.0.sum y.1.0.sum }
-
-ipv4_once : Once (bare ipv4)
-ipv4_once = record { one = λ token v w x y. x.1.2 ∙ ap ipv4_octets (IsIpv4Text_unique token.octets x.1.0 y.1.0 x.1.1 y.1.1) ∙ sym y.1.2 }
-
-ipv6_once : Once (bare ipv6)
-ipv6_once = record { one = λ token v w x y. x.1.2 ∙ ap ipv6_octets (IsIpv6Text_unique token.octets x.1.0 y.1.0 x.1.1 y.1.1) ∙ sym y.1.2 }
-
 same_name : (o : Option DomainName) (v w : DomainName) → o ≡ Some v → o ≡ Some w → v ≡ w
 same_name o v w e f = cc
-
-name_once : (origin : Option DomainName) → Once (name origin)
-name_once origin = record { one = λ token v w x y. same_name _ v w x.named y.named }
 
 string_once : Once string
 string_once = record { one = λ token v w x y. x.0.value ∙ sym y.0.value }
 
-text_once : Once text
-text_once = record { one = λ token v w x y. x.value ∙ sym y.value }
-
-tag_once : Once tag
-tag_once = record { one = λ token v w x y. x.value ∙ sym y.value }
-
 field_once : (origin : Option DomainName) (field : FieldKind) (a b : List ℕ) (token : Token) → FieldGives origin field a token
     → FieldGives origin field b token → a ≡ b
 field_once origin (Number w) a b token x y = gives_once (number_once w) x y
-field_once origin (NamedNumber w table) a b token x y = gives_once (named_once w table) x y
-field_once origin Ttl a b token x y = gives_once (ttl_once 4294967295) x y
-field_once origin Ipv4 a b token x y = gives_once ipv4_once x y
-field_once origin Ipv6 a b token x y = gives_once ipv6_once x y
-field_once origin Name a b token x y = gives_once (name_once origin) x y
+field_once origin (NamedNumber w table) a b token x y = gives_once (record { one = λ k v n f g. by_name_once w (number_named table k.octets) k v n f g }) x y
+field_once origin Ttl a b token x y = gives_once (record { one = λ k v n f g. periods_one f.1.0.sum g.1.0.sum }) x y
+field_once origin Ipv4 a b token x y =
+    gives_once (record { one = λ k v w f g. f.1.2 ∙ ap ipv4_octets (IsIpv4Text_unique k.octets f.1.0 g.1.0 f.1.1 g.1.1) ∙ sym g.1.2 }) x y
+field_once origin Ipv6 a b token x y =
+    gives_once (record { one = λ k v w f g. f.1.2 ∙ ap ipv6_octets (IsIpv6Text_unique k.octets f.1.0 g.1.0 f.1.1 g.1.1) ∙ sym g.1.2 }) x y
+field_once origin Name a b token x y = gives_once (record { one = λ k v w f g. same_name _ v w f.named g.named }) x y
 field_once origin String a b token x y = gives_once string_once x y
-field_once origin Tag a b token x y = gives_once tag_once x y
-field_once origin Octets a b token x y = gives_once text_once x y
+field_once origin Tag a b token x y = gives_once (record { one = λ k v w f g. f.value ∙ sym g.value }) x y
+field_once origin Octets a b token x y = gives_once (record { one = λ k v w f g. f.value ∙ sym g.value }) x y
 
 -- ---- types of records
 

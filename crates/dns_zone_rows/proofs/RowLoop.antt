@@ -1,9 +1,7 @@
 -- Fields taken one after the other.
-use Rattle.std.proofs.Common.{◌≡◌, ℕ, suc, ◌+◌, ◌<◌, List, [], ◌∷◌, ◌++◌, length, map, drop, get_or, Option, Result, Ok, refl, sym, subst, ap, ◌∙◌}
-use Rattle.std.proofs.Common.{inl, inr, ◌⊎◌, ◌≤◌, append_assoc, add-one}
-use Rattle.std.proofs.{Math.Seq.drop-cons, lemmas.List.drop_all}
-use Rattle.std.specs.Prelude.{IfErr}
-use Rattle.std.specs.Result.{IsErrAnd}
+use Rattle.std.proofs.Common.{◌≡◌, ℕ, suc, ◌+◌, ◌<◌, List, [], ◌∷◌, ◌++◌, length, map, drop, get_or, Option, Result, Ok, refl, sym, subst, ap, ◌∙◌, inl, inr}
+use Rattle.std.proofs.{Math.Seq.drop-cons, lemmas.List.drop_all, Common.◌⊎◌, Common.◌≤◌, Common.append_assoc, Common.add-one}
+use Rattle.std.specs.{Prelude.IfErr, Result.IsErrAnd}
 use Rattle.dns_fields.specs.Labels.{DomainName}
 use Rattle.dns_types.specs.declared.error.ParseError.{ParseError}
 use Rattle.dns_types.specs.declared.error.ParseError.TheVariants as parse
@@ -11,7 +9,7 @@ use Rattle.dns_tokens.specs.Reads.{UnlessParseMemory}
 use Rattle.dns_zone_tokens.specs.Remaining.{TookAll, NoneOfAll, ReadsAll, PutAll}
 use Rattle.dns_zone_tokens.specs.Tokens.{Token, Cursor, tokens_at, with_token}
 use Rattle.dns_tokens.proofs.Steps.{unless_map}
-use Rattle.dns_zone_tokens.proofs.{FirstSteps.exit_fault, FirstSteps.exit_with, RemainingSteps.token_ok}
+use Rattle.dns_zone_tokens.proofs.{FirstSteps.exit_fault, FirstSteps.exit_with, FirstSteps.or_then, RemainingSteps.token_ok}
 use Rattle.dns_zone_rows.specs.{RowSteps.AddedFirst, RowSteps.NoFirstGives, Rows.FieldGives, Rows.RestGives, Rows.FieldsGive, Rows.RowGives}
 use Rattle.dns_zone_rows.specs.{declared.zone_row.ZoneField.ZoneField, declared.zone_row.ZoneRest.ZoneRest, declared.zone_row.ZoneRow.ZoneRow}
 use Rattle.dns_zone_rows.specs.RowFaults.{kind_of, rest_kind_of, row_value, FieldFault, RestFault, FieldsFault, RowFault}
@@ -111,30 +109,17 @@ no_first : {origin : Option DomainName} {field : ZoneField} {left : List ZoneFie
 no_first octets [] divided g none = g.is
 no_first octets (token ∷ tokens) divided g none = none.none g.is.front token tokens divided g.is.first
 
--- the first of the remaining fields has no token
-field_refused : (origin : Option DomainName) (zone_row : ZoneRow) (field : ZoneField) (left : List ZoneField) (old now : Cursor) (before : List ℕ) (e : ParseError)
-    → FieldsSoFar origin zone_row.fields.now (field ∷ left) zone_row.rest old now before
-    → UnlessParseMemory e (NoFirstGives (FieldGives origin (kind_of field)) now)
-    → UnlessParseMemory e (NoneOfAll (RowGives origin (row_value zone_row)) old)
-field_refused origin zone_row field left old now before e so none =
-    unless_map e (NoFirstGives (FieldGives origin (kind_of field)) now) (NoneOfAll (RowGives origin (row_value zone_row)) old)
+-- what the remaining tokens do not give by what is left of the zone row
+row_refused : {origin : Option DomainName} (zone_row : ZoneRow) {left : List ZoneField} {old now : Cursor} {before : List ℕ} (e : ParseError) (P : Type 0)
+    → FieldsSoFar origin zone_row.fields.now left zone_row.rest old now before
+    → (P → (octets : List ℕ) (tokens : List Token) → tokens_at now ≡ Ok tokens → Given origin left zone_row.rest octets tokens → ⊥)
+    → UnlessParseMemory e P → UnlessParseMemory e (NoneOfAll (RowGives origin (row_value zone_row)) old)
+row_refused {origin} zone_row {old = old} e P so not = unless_map e P (NoneOfAll (RowGives origin (row_value zone_row)) old)
     (λ no. record {
       none = λ v tokens divided is.
           let k = so.only v (record { tokens = tokens; divided = divided; given = record { is = is.fields } }) in
-          no_first k.0 k.1.tokens k.1.divided k.1.given no;
-    }) none
-
--- the tokens after the fields give nothing
-rest_refused : (origin : Option DomainName) (zone_row : ZoneRow) (old now : Cursor) (before : List ℕ) (e : ParseError)
-    → FieldsSoFar origin zone_row.fields.now [] zone_row.rest old now before → UnlessParseMemory e (NoneOfAll (RestGives (rest_kind_of zone_row.rest)) now)
-    → UnlessParseMemory e (NoneOfAll (RowGives origin (row_value zone_row)) old)
-rest_refused origin zone_row old now before e so none =
-    unless_map e (NoneOfAll (RestGives (rest_kind_of zone_row.rest)) now) (NoneOfAll (RowGives origin (row_value zone_row)) old)
-    (λ no. record {
-      none = λ v tokens divided is.
-          let k = so.only v (record { tokens = tokens; divided = divided; given = record { is = is.fields } }) in
-          no.none k.0 k.1.tokens k.1.divided k.1.given.is;
-    }) none
+          not no k.0 k.1.tokens k.1.divided k.1.given;
+    })
 
 -- all were taken
 fields_taken : (origin : Option DomainName) (zone_row : ZoneRow) (old now : Cursor) (before after : List ℕ)
@@ -144,20 +129,6 @@ fields_taken origin zone_row old now before after so a =
     let at = so.gives a.octets (record { tokens = a.tokens; divided = a.divided; given = record { is = a.given } }) in
     record { tokens = at.tokens; divided = at.divided; value = record { fields = subst (λ (s : List ℕ). FieldsGive origin (map kind_of zone_row.fields.now) (rest_kind_of zone_row.rest) s at.tokens) (sym a.same) at.given.is } }
 
--- why a field was rejected
-field_fault : (origin : Option DomainName) (zone_row : ZoneRow) (field : ZoneField) (left : List ZoneField) (old now : Cursor) (before : List ℕ) (e : ParseError)
-    → FieldsSoFar origin zone_row.fields.now (field ∷ left) zone_row.rest old now before → (e ≡ parse.Memory) ⊎ FieldFault origin field now e
-    → (e ≡ parse.Memory) ⊎ RowFault origin zone_row old e
-field_fault origin zone_row field left old now before e so (inl memory) = inl memory
-field_fault origin zone_row field left old now before e so (inr f) = inr (record { fault = so.fault e (inl f) })
-
--- why the rest was rejected
-rest_fault : (origin : Option DomainName) (zone_row : ZoneRow) (old now : Cursor) (before : List ℕ) (e : ParseError)
-    → FieldsSoFar origin zone_row.fields.now [] zone_row.rest old now before → (e ≡ parse.Memory) ⊎ RestFault zone_row.rest now e
-    → (e ≡ parse.Memory) ⊎ RowFault origin zone_row old e
-rest_fault origin zone_row old now before e so (inl memory) = inl memory
-rest_fault origin zone_row old now before e so (inr f) = inr (record { fault = so.fault e f })
-
 -- ---- ways out of the loop
 
 pub exit_field : {T : Type 0} (view : T → List ℕ) (r : Result T ParseError) (origin : Option DomainName) (zone_row : ZoneRow) (at : ℕ) (old now : Cursor) (before : List ℕ)
@@ -165,25 +136,25 @@ pub exit_field : {T : Type 0} (view : T → List ℕ) (r : Result T ParseError) 
     → UnlessParseMemory e (NoFirstGives (FieldGives origin (kind_of (get_or zone_row.fields.now at d))) now)
     → ReadsAll (RowGives origin (row_value zone_row)) view r old
 exit_field view r origin zone_row at old now before d e h l so none = exit_with (λ r. ReadsAll (RowGives origin (row_value zone_row)) view r old) e r h
-    (field_refused origin zone_row (get_or zone_row.fields.now at d) (drop (suc at) zone_row.fields.now) old now before e (here origin zone_row at old now before d l so) none)
+    (row_refused zone_row e _ (here origin zone_row at old now before d l so) (λ no octets tokens divided given. no_first octets tokens divided given no) none)
 
 pub exit_field_fault : {T : Type 0} (r : Result T ParseError) (origin : Option DomainName) (zone_row : ZoneRow) (at : ℕ) (old now : Cursor) (before : List ℕ)
     (d : ZoneField) (e : ParseError) → IsErrAnd r (λ y. y ≡ e) → at < length zone_row.fields.now → RowSoFar origin zone_row at old now before
     → (e ≡ parse.Memory) ⊎ FieldFault origin (get_or zone_row.fields.now at d) now e → IfErr r (λ y. (y ≡ parse.Memory) ⊎ RowFault origin zone_row old y)
 exit_field_fault r origin zone_row at old now before d e h l so f = exit_fault (λ y. (y ≡ parse.Memory) ⊎ RowFault origin zone_row old y) r e h
-    (field_fault origin zone_row (get_or zone_row.fields.now at d) (drop (suc at) zone_row.fields.now) old now before e (here origin zone_row at old now before d l so) f)
+    (or_then (λ fault. record { fault = (here origin zone_row at old now before d l so).fault e (inl fault) }) f)
 
 pub exit_rest : {T : Type 0} (view : T → List ℕ) (r : Result T ParseError) (origin : Option DomainName) (zone_row : ZoneRow) (at : ℕ) (old now : Cursor) (before : List ℕ)
     (e : ParseError) → IsErrAnd r (λ y. y ≡ e) → length zone_row.fields.now ≤ at → RowSoFar origin zone_row at old now before
     → UnlessParseMemory e (NoneOfAll (RestGives (rest_kind_of zone_row.rest)) now) → ReadsAll (RowGives origin (row_value zone_row)) view r old
 exit_rest view r origin zone_row at old now before e h l so none = exit_with (λ r. ReadsAll (RowGives origin (row_value zone_row)) view r old) e r h
-    (rest_refused origin zone_row old now before e (over origin zone_row at old now before l so) none)
+    (row_refused zone_row e _ (over origin zone_row at old now before l so) (λ no octets tokens divided given. no.none octets tokens divided given.is) none)
 
 pub exit_rest_fault : {T : Type 0} (r : Result T ParseError) (origin : Option DomainName) (zone_row : ZoneRow) (at : ℕ) (old now : Cursor) (before : List ℕ)
     (e : ParseError) → IsErrAnd r (λ y. y ≡ e) → length zone_row.fields.now ≤ at → RowSoFar origin zone_row at old now before
     → (e ≡ parse.Memory) ⊎ RestFault zone_row.rest now e → IfErr r (λ y. (y ≡ parse.Memory) ⊎ RowFault origin zone_row old y)
 exit_rest_fault r origin zone_row at old now before e h l so f = exit_fault (λ y. (y ≡ parse.Memory) ⊎ RowFault origin zone_row old y) r e h
-    (rest_fault origin zone_row old now before e (over origin zone_row at old now before l so) f)
+    (or_then (λ fault. record { fault = (over origin zone_row at old now before l so).fault e fault }) f)
 
 pub row_taken : (origin : Option DomainName) (zone_row : ZoneRow) (at : ℕ) (old now : Cursor) (before after result : List ℕ) → length zone_row.fields.now ≤ at
     → RowSoFar origin zone_row at old now before → PutAll (RestGives (rest_kind_of zone_row.rest)) before after now → result ≡ after

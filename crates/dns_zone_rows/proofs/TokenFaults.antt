@@ -1,11 +1,10 @@
 -- The token that an error is about is found by the name of a field.
 use Rattle.std.proofs.Common.{◌≡◌, ℕ, zero, suc, ◌<◌, ◌≤◌, List, [], ◌∷◌, Option, Some, None, refl, sym, subst, arith}
-use Rattle.std.specs.List.{slice_get}
-use Rattle.std.specs.{Option.option_map, Option.IfSome, Option.IfNone, declared.ops.Range.Range}
+use Rattle.std.specs.{List.slice_get, declared.ops.Range.Range, Option.option_map, Option.IfSome, Option.IfNone}
 use Rattle.dns_types.specs.{Errors.IsAbout, declared.error.ParseError.ParseError, declared.record_type.RecordType.RecordType}
 use Rattle.dns_types.proofs.FieldNames.{one_field}
 use Rattle.dns_zone_rows.specs.{declared.zone_row.ZoneRow.ZoneRow, RowTexts.HasFieldAt, RowTexts.IsFieldOf, RowTexts.row_texts, RowTexts.texts_of}
-use Rattle.dns_zone_rows.proofs.FieldNames.{field_here, field_there, no_field}
+use Rattle.dns_zone_rows.proofs.FieldNames.{field_here, field_there}
 use Rattle.dns_zone_tokens.specs.Spans.{spans}
 use Rattle.dns_zone_rows.specs.TokenFaults.{IsTokenAtFault}
 
@@ -20,10 +19,6 @@ here : {t : RecordType} {text name : List ℕ} {e : ParseError} {span : ℕ × �
     → (is : IsTokenAtFault t text e span) → HasFieldAt zone_row name is.index
 here {t} {text} {name} {e} zone_row about same is =
     field_here zone_row same (subst (λ (n : List ℕ). IsFieldOf t n is.index) (one_field e is.name name is.about about) is.field)
-
--- the type has no zone row
-pub no_row : {t : RecordType} {text : List ℕ} {e : ParseError} → None ≡ texts_of t → (span : ℕ × ℕ) → IsTokenAtFault t text e span → ⊥
-no_row none span is = no_field none is.field
 
 -- no field of the zone row has the error's name
 pub no_name : {t : RecordType} {text name : List ℕ} {e : ParseError} (zone_row : ZoneRow) → IsAbout e name → Some (row_texts zone_row) ≡ texts_of t

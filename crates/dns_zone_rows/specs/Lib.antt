@@ -5,4 +5,3 @@ pub mod RowSteps
 pub mod RowTexts
 pub mod Rows
 pub mod TokenFaults
-pub mod TypeSteps

@@ -1,12 +1,13 @@
 -- Why the tokens of RDATA give no octets by a zone row: the first field with a fault.
 use Rattle.std.specs.Prelude.{◌≡◌, ◌≢◌, ◌⊎◌, ℕ, List, [], ◌∷◌, map, Option, Ok}
+use Rattle.std.specs.Borrow.{Bor}
 use Rattle.dns_fields.specs.Labels.{DomainName}
 use Rattle.dns_types.specs.{declared.record_type.RecordType.RecordType, declared.error.ParseError.ParseError}
 use Rattle.dns_types.specs.declared.error.ParseError.TheVariants as parse
 use Rattle.dns_tokens.specs.{Forms.ttl, Forms.ipv4, Forms.ipv6, Reads.HoldsOfNone, declared.field.Field.Field}
 use Rattle.dns_zone_tokens.specs.{Forms.bare, Forms.number, Forms.StringFault, Forms.TextFault, Forms.IsType, NameTokens.NameFault, Remaining.AmongFault, Remaining.HexFault}
 use Rattle.dns_zone_tokens.specs.{Remaining.Base64Fault, Tokens.Token, Tokens.Cursor, Tokens.tokens_at, Tokens.with_token}
-use Rattle.dns_zone_tokens.specs.ZoneReads.{IsUndividedError, LacksFirst, WhyNoField, WhyFirst}
+use Rattle.dns_zone_tokens.specs.ZoneReads.{IsUndividedError, LacksFirst, WhyFirst, WrongToken}
 use Rattle.dns_zone_parameters.specs.Faults.{ParametersFault}
 use Rattle.dns_zone_rows.specs.{declared.zone_row.ZoneField.ZoneField, declared.zone_row.ZoneRest.ZoneRest, declared.zone_row.ZoneRow.ZoneRow}
 use Rattle.dns_zone_rows.specs.Mnemonics.{named_number, cert_types, algorithms}
@@ -44,20 +45,39 @@ row_value zone_row = record { fields = map kind_of zone_row.fields.now; rest = r
 
 -- ---- faults
 
+-- the field's name, as an error has it if the token is missing
+abbrev pub name_of : ZoneField → Bor (List ℕ)
+name_of (field.U8 f) = f.name
+name_of (field.U16 f) = f.name
+name_of (field.U32 f) = f.name
+name_of (field.Ttl f) = f.name
+name_of (field.Ipv4 f) = f.name
+name_of (field.Ipv6 f) = f.name
+name_of (field.Name f) = f.name
+name_of (field.String f) = f.name
+name_of (field.Tag f) = f.name
+name_of (field.CertType f) = f.name
+name_of (field.Algorithm f) = f.name
+name_of (field.RawText f) = f.name
+
+-- why a token gives no octets of the field
+abbrev pub TokenFault : Option DomainName → ZoneField → Token → ParseError → Type 0
+TokenFault origin (field.U8 f) = WrongToken (number 1) (parse.Message f.wrong)
+TokenFault origin (field.U16 f) = WrongToken (number 2) (parse.Message f.wrong)
+TokenFault origin (field.U32 f) = WrongToken (number 4) (parse.Message f.wrong)
+TokenFault origin (field.Ttl f) = WrongToken (bare (ttl 4294967295)) (parse.Message f.wrong)
+TokenFault origin (field.Ipv4 f) = WrongToken (bare ipv4) (parse.Message f.wrong)
+TokenFault origin (field.Ipv6 f) = WrongToken (bare ipv6) (parse.Message f.wrong)
+TokenFault origin (field.Name f) = NameFault f origin
+TokenFault origin (field.String f) = StringFault f
+TokenFault origin (field.Tag f) = WrongToken tag (parse.Message f.wrong)
+TokenFault origin (field.CertType f) = WrongToken (named_number 2 cert_types) (parse.Message f.wrong)
+TokenFault origin (field.Algorithm f) = WrongToken (named_number 1 algorithms) (parse.Message f.wrong)
+TokenFault origin (field.RawText f) = TextFault (parse.Message f.wrong)
+
 -- why no first token gives octets of the field
 abbrev pub FieldFault : Option DomainName → ZoneField → Cursor → ParseError → Type 0
-FieldFault origin (field.U8 f) = WhyNoField (number 1) f
-FieldFault origin (field.U16 f) = WhyNoField (number 2) f
-FieldFault origin (field.U32 f) = WhyNoField (number 4) f
-FieldFault origin (field.Ttl f) = WhyNoField (bare (ttl 4294967295)) f
-FieldFault origin (field.Ipv4 f) = WhyNoField (bare ipv4) f
-FieldFault origin (field.Ipv6 f) = WhyNoField (bare ipv6) f
-FieldFault origin (field.Name f) = WhyFirst (parse.MissingToken f.name) (NameFault f origin)
-FieldFault origin (field.String f) = WhyFirst (parse.MissingToken f.name) (StringFault f)
-FieldFault origin (field.Tag f) = WhyNoField tag f
-FieldFault origin (field.CertType f) = WhyNoField (named_number 2 cert_types) f
-FieldFault origin (field.Algorithm f) = WhyNoField (named_number 1 algorithms) f
-FieldFault origin (field.RawText f) = WhyFirst (parse.MissingToken f.name) (TextFault (parse.Message f.wrong))
+FieldFault origin field = WhyFirst (parse.MissingToken (name_of field)) (TokenFault origin field)
 
 -- the token is no type
 abbrev pub TypeFault : Field → Token → ParseError → Type 0

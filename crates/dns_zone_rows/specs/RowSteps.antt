@@ -23,3 +23,18 @@ abbrev pub AddsFirst : {T : Type 0} → (List ℕ → Token → Type 0) → Resu
     → Type 0
 AddsFirst gives (Ok x) before after old new = AddedFirst gives before after old new
 AddsFirst gives (Err e) before after old new = UnlessParseMemory e (NoFirstGives gives old)
+
+-- octets that the token gives were appended
+pub record PutField (gives : List ℕ → Token → Type 0) (before after : List ℕ) (token : Token) : Type 0 where
+  pub octets : List ℕ
+  pub given : gives octets token
+  pub same : after ≡ before ++ octets
+
+-- the token gives no octets
+pub record GivesNone (gives : List ℕ → Token → Type 0) (token : Token) : Type 0 where
+  pub none : (octets : List ℕ) → gives octets token → ⊥
+
+-- appends the octets that the token gives, exactly if it gives some
+abbrev pub PutsField : {T : Type 0} → (List ℕ → Token → Type 0) → Result T ParseError → List ℕ → List ℕ → Token → Type 0
+PutsField gives (Ok x) before after token = PutField gives before after token
+PutsField gives (Err e) before after token = UnlessParseMemory e (GivesNone gives token)

@@ -1,14 +1,11 @@
 //! Numbers that tokens have by name.
 
-ghost use Rattle.std.specs.Prelude.{◌≡◌, IfErr, IfSome, IfNone};
+ghost use Rattle.std.specs.Prelude.{◌≡◌, ◌≤◌, IfErr, IfSome, IfNone};
 ghost use Rattle.dns_zone_rows.specs.Mnemonics.{named_number, cert_types, algorithms, IsByName, IsNotByName};
-ghost use Rattle.dns_zone_tokens.specs.{Mnemonics.named_values, Views.token_value, Tokens.tokens_at, Tokens.behind_first};
-ghost use Rattle.dns_zone_tokens.specs.ZoneReads.{ReadsAs, ReadsFirst, WhyNoField, WrongToken};
+ghost use Rattle.dns_zone_tokens.specs.{Mnemonics.named_values, Views.token_value, ZoneReads.ReadsAs, ZoneReads.WrongToken};
 
 use dns_types::ParseError;
-use dns_zone_tokens::{
-    Field, Mnemonic, ZoneToken, ZoneTokens, named, number_named, some_token, u8_of, u16_of,
-};
+use dns_zone_tokens::{Mnemonic, ZoneToken, named, number_named, number_of};
 
 static CERT_TYPES: [Mnemonic; 10] = [
     named!("PKIX" = 1),
@@ -76,47 +73,20 @@ fn number_by_name(token: ZoneToken<'_>, names: &[Mnemonic]) -> Option<u16>
     number_named(names, token.raw)
 }
 
-/// Reads a certificate type, by its name or by a number of 16 bits, without quotes. Any other token gives
-/// [`Message`](ParseError::Message) with the text `wrong`. Allocates nothing.
-pub fn cert_type_of(token: ZoneToken<'_>, wrong: &'static str) -> Result<u16, ParseError>
-    ensures reads { ReadsAs (named_number 2 cert_types) (λ n. n) result (token_value token.entry) }
-    ensures why { IfErr result (WrongToken (named_number 2 cert_types) (ParseError.Message wrong.entry) (token_value token.entry)) }
+/// Reads a number by one of these names, or by a number of so many octets, at most four, without quotes. Any other token
+/// gives [`Message`](ParseError::Message) with the text `wrong`. Allocates nothing.
+pub fn named_of(
+    token: ZoneToken<'_>,
+    octets: u32,
+    names: &[Mnemonic],
+    wrong: &'static str,
+) -> Result<u32, ParseError>
+    requires { octets ≤ 4 }
+    ensures reads { ReadsAs (named_number octets (named_values names.now)) (λ n. n) result (token_value token.entry) }
+    ensures why { IfErr result (WrongToken (named_number octets (named_values names.now)) (ParseError.Message wrong.entry) (token_value token.entry)) }
 {
-    match number_by_name(token, cert_type_names()) {
-        Some(value) => Ok(value),
-        None => u16_of(token, wrong),
+    match number_by_name(token, names) {
+        Some(value) => Ok(value as u32),
+        None => number_of(token, octets, wrong),
     }
-}
-
-/// Reads a DNSSEC algorithm, by its name or by a number of 8 bits, as `cert_type_of` does.
-pub fn algorithm_of(token: ZoneToken<'_>, wrong: &'static str) -> Result<u8, ParseError>
-    ensures reads { ReadsAs (named_number 1 algorithms) (λ n. n) result (token_value token.entry) }
-    ensures why { IfErr result (WrongToken (named_number 1 algorithms) (ParseError.Message wrong.entry) (token_value token.entry)) }
-{
-    match number_by_name(token, algorithm_names()) {
-        Some(value) => Ok(value as u8),
-        None => u8_of(token, wrong),
-    }
-}
-
-/// Reads a certificate type (`cert_type_of`) from the next token, which is taken even if this returns an error.
-#[inline]
-pub fn next_cert_type(tokens: &mut ZoneTokens<'_>, field: Field) -> Result<u16, ParseError>
-    ensures reads { ReadsFirst (named_number 2 cert_types) (λ n. n) result tokens.old tokens.new }
-    ensures why { IfErr result (WhyNoField (named_number 2 cert_types) field tokens.old) }
-    ensures behind { tokens_at tokens.new ≡ behind_first (tokens_at tokens.old) }
-{
-    let token = some_token(tokens, field.name)?;
-    cert_type_of(token, field.wrong)
-}
-
-/// Reads a DNSSEC algorithm (`algorithm_of`) from the next token, as `next_cert_type` does.
-#[inline]
-pub fn next_algorithm(tokens: &mut ZoneTokens<'_>, field: Field) -> Result<u8, ParseError>
-    ensures reads { ReadsFirst (named_number 1 algorithms) (λ n. n) result tokens.old tokens.new }
-    ensures why { IfErr result (WhyNoField (named_number 1 algorithms) field tokens.old) }
-    ensures behind { tokens_at tokens.new ≡ behind_first (tokens_at tokens.old) }
-{
-    let token = some_token(tokens, field.name)?;
-    algorithm_of(token, field.wrong)
 }

@@ -1,14 +1,15 @@
 //! The names of fields.
 
-ghost use Rattle.std.specs.Prelude.{ℕ, ◌<◌, IfSome, IfNone};
-ghost use Rattle.dns_zone_rows.specs.RowTexts.{IsFirstOf, HasFieldAt, texts_of_field};
+ghost use Rattle.std.specs.Prelude.{◌≡◌, ℕ, ◌<◌, IfSome, IfNone};
+ghost use Rattle.dns_zone_rows.specs.{RowFaults.name_of, RowTexts.IsFirstOf, RowTexts.HasFieldAt, RowTexts.texts_of_field};
 
 use crate::zone_row::{ZoneField, ZoneRow};
 
 impl ZoneField {
     /// The field's name, as errors have it: `MX preference`.
     pub fn name(&self) -> &'static str
-        ensures { IsFirstOf result.now (texts_of_field self.now) }
+        ensures first { IsFirstOf result.now (texts_of_field self.now) }
+        ensures name { result ≡ name_of self.now }
     {
         match self {
             ZoneField::U8(field)

@@ -5,9 +5,8 @@ ghost use Rattle.std.specs.List.{flat_map};
 ghost use Rattle.dns_fields.specs.Tlvs.{string as string_octets};
 ghost use Rattle.dns_zone_tokens.specs.{Forms.StringFault, Tokens.tokens_at, ZoneReads.LacksFirst};
 ghost use Rattle.dns_zone_tokens.specs.Remaining.{AmongFault, HexFault, Base64Fault, PutsAll};
-ghost use Rattle.dns_zone_parameters.specs.Faults.{ParametersFault};
 ghost use Rattle.dns_zone_rows.specs.RowFaults.{rest_kind_of, SurplusFault, RestFault};
-ghost use Rattle.dns_zone_rows.specs.Rows.{NoToken, SomeStrings, SomeHex, SomeBase64, AnyParameters, RestGives};
+ghost use Rattle.dns_zone_rows.specs.Rows.{NoToken, SomeStrings, SomeHex, SomeBase64, RestGives};
 
 use crate::fields::add_octets;
 use crate::types::add_types;
@@ -35,7 +34,7 @@ pub(crate) fn add_rest(
         ZoneRest::Hex(missing, field) => add_hex(alloc, tokens, *missing, field, octets),
         ZoneRest::Base64(field) => add_base64(alloc, tokens, *field, octets),
         ZoneRest::Types(field) => add_types(alloc, tokens, *field, octets),
-        ZoneRest::Parameters => add_parameters(alloc, tokens, octets),
+        ZoneRest::Parameters => put_parameters(alloc, tokens, octets),
     }
 }
 
@@ -97,17 +96,6 @@ fn add_base64(
     ask_some(tokens, field.name)?;
     let data = all_base64(alloc, tokens, field.wrong)?;
     add_octets(octets, data.as_slice())
-}
-
-fn add_parameters(
-    alloc: Global,
-    tokens: &mut ZoneTokens<'_>,
-    octets: &mut Vec<u8>,
-) -> Result<(), ParseError>
-    ensures adds { PutsAll (RestGives AnyParameters) result octets.old.items octets.new.items tokens.old }
-    ensures why { IfErr result (λ e. (e ≡ ParseError.Memory) ⊎ ParametersFault tokens.old e) }
-{
-    put_parameters(alloc, tokens, octets)
 }
 
 // Fails if no token is left. Takes none.

@@ -1,7 +1,7 @@
 -- Letters, one by one.
 use Rattle.std.proofs.Common.{◌≡◌, ℕ, ◌<◌, ◌≤◌, Bool, true, false, cond, eqb, List, [], ◌∷◌, ◌++◌, length, map, get_or, take, drop, length-drop}
-use Rattle.std.proofs.Common.{subst, ◌-◌, zero, suc, ◌≢◌, ap, refl, sym, ◌∙◌, arith, append_assoc}
-use Rattle.std.proofs.{lemmas.List.append-nil, lemmas.List.take_all, lemmas.Bool.Decides.nat_tests}
+use Rattle.std.proofs.Common.{◌-◌, zero, suc, ◌≢◌, ap, refl, sym, ◌∙◌, arith, append_assoc}
+use Rattle.std.proofs.{lemmas.List.append-nil, lemmas.List.nil_from_length, lemmas.List.take_all, lemmas.Bool.Decides.nat_tests}
 use Rattle.dns_zone_tokens.specs.{Forms.text as text_form, Views.BeginsWith, Tokens.Token, ZoneReads.PutAs, ZoneReads.NoValueOf}
 use Rattle.dns_zone_tokens.specs.Letters.{Letter, is_digit, letters, octet_of, escapes_stand}
 
@@ -39,61 +39,42 @@ pub record PutSoFar (text rest before octets : List ℕ) : Type 0 where
   pub escapes : escapes_stand text ≡ escapes_stand rest
   pub value : before ++ map octet_of (letters text) ≡ octets ++ map octet_of (letters rest)
 
--- so were n octets more, none of them a `\`
-pub put_plain : (text rest before octets more : List ℕ) (n : ℕ) → PutSoFar text rest before octets → n ≤ length rest → ((k : ℕ) → k < n → get_or rest k 0 ≢ 92)
-    → more ≡ octets ++ take n rest → PutSoFar text (drop n rest) before more
-put_plain text rest before octets more n so w h e =
-    let own = plain_letters n rest w h in record {
-      escapes = so.escapes ∙ own.0;
-      value = so.value ∙ ap (λ (s : List ℕ). octets ++ s) own.1 ∙ sym (append_assoc octets (take n rest) (map octet_of (letters (drop n rest))))
-          ∙ ap (λ (s : List ℕ). s ++ map octet_of (letters (drop n rest))) (sym e);
-    }
-
--- and so was a letter
-pub put_letter : (text rest left before octets more : List ℕ) (x : Letter) → PutSoFar text rest before octets → BeginsWith x rest left
-    → more ≡ octets ++ octet_of x ∷ []
-    → PutSoFar text left before more
-put_letter text rest left before octets more x so begins e = record {
-  escapes = so.escapes ∙ begins.escapes;
-  value = so.value ∙ ap (λ (xs : List Letter). octets ++ map octet_of xs) begins.first
-      ∙ sym (append_assoc octets (octet_of x ∷ []) (map octet_of (letters left)))
-      ∙ ap (λ (s : List ℕ). s ++ map octet_of (letters left)) (sym e);
-}
-
 -- what a slice from an offset on is
 pub from_offset : (n : ℕ) (s : List ℕ) → take (length s - n) (drop n s) ≡ drop n s
 from_offset n s = take_all (length s - n) (drop n s) (omega (arith, length-drop n s))
 
-pub none_left : (s : List ℕ) → length s ≡ 0 → s ≡ []
-none_left [] e = refl
-none_left (c ∷ s) e = absurd (omega arith)
-
--- octets up to the rest after n, none of them a `\`
+-- so were n octets more, none of them a `\`
 pub put_run : (text rest before octets more : List ℕ) (n : ℕ) → PutSoFar text rest before octets → n ≤ length rest → ((k : ℕ) → k < n → get_or rest k 0 ≢ 92)
     → more ≡ octets ++ take n rest → PutSoFar text (take (length rest - n) (drop n rest)) before more
 put_run text rest before octets more n so w h e =
-    subst (λ (r : List ℕ). PutSoFar text r before more) (sym (from_offset n rest)) (put_plain text rest before octets more n so w h e)
+    let own = plain_letters n rest w h in
+    rw (from_offset n rest) (record {
+      escapes = so.escapes ∙ own.0;
+      value = so.value ∙ ap (λ (s : List ℕ). octets ++ s) own.1 ∙ sym (append_assoc octets (take n rest) (map octet_of (letters (drop n rest))))
+          ∙ ap (λ (s : List ℕ). s ++ map octet_of (letters (drop n rest))) (sym e);
+    })
 
--- and the letter after them
+-- and so was the letter after them
 pub put_next : (text rest before octets more : List ℕ) (n : ℕ) (x : Letter) → PutSoFar text rest before octets → BeginsWith x rest (drop n rest)
     → more ≡ octets ++ octet_of x ∷ []
     → PutSoFar text (take (length rest - n) (drop n rest)) before more
-put_next text rest before octets more n x so begins e =
-    subst (λ (r : List ℕ). PutSoFar text r before more) (sym (from_offset n rest)) (put_letter text rest (drop n rest) before octets more x so begins e)
+put_next text rest before octets more n x so begins e = rw (from_offset n rest) (record {
+  escapes = so.escapes ∙ begins.escapes;
+  value = so.value ∙ ap (λ (xs : List Letter). octets ++ map octet_of xs) begins.first
+      ∙ sym (append_assoc octets (octet_of x ∷ []) (map octet_of (letters (drop n rest))))
+      ∙ ap (λ (s : List ℕ). s ++ map octet_of (letters (drop n rest))) (sym e);
+})
 
 -- all were
 pub put_all : (token : Token) (rest before octets : List ℕ) → PutSoFar token.octets rest before octets → length rest ≡ 0
     → PutAs text_form (λ s. s) before octets token
 put_all token rest before octets so end =
-    let none : rest ≡ [] = none_left rest end in record {
+    let none : rest ≡ [] = nil_from_length rest end in record {
       value = map octet_of (letters token.octets);
       is = record { escapes = so.escapes ∙ ap escapes_stand none; value = refl };
       same = sym (so.value ∙ ap (λ (r : List ℕ). octets ++ map octet_of (letters r)) none ∙ append-nil octets);
     }
 
--- a `\` without a meaning is left
-pub put_fault : (text rest before octets : List ℕ) → PutSoFar text rest before octets → escapes_stand rest ≡ false → escapes_stand text ≡ false
-put_fault text rest before octets so bad = so.escapes ∙ bad
-
+-- a `\` without a meaning
 pub no_text : (token : Token) → escapes_stand token.octets ≡ false → NoValueOf text_form token
 no_text token bad = record { none = λ v is. let both : true ≡ false = sym is.escapes ∙ bad in absurd (cc) }

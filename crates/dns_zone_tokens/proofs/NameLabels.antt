@@ -3,7 +3,7 @@ use Rattle.std.proofs.Common.{◌≡◌, ◌≢◌, ℕ, zero, suc, get_or, take
 use Rattle.std.proofs.Common.{◌++◌, length, refl, sym, ◌∙◌, ap, subst, arith, append_assoc, ◌⊎◌, inl, inr, Option, Some, None}
 use Rattle.std.specs.Prelude.{◌==◌}
 use Rattle.std.proofs.lemmas.Bool.Decides.{nat_tests}
-use Rattle.std.proofs.lemmas.List.{append-nil, length-append, get_or-drop, take_all}
+use Rattle.std.proofs.lemmas.List.{append-nil, nil_from_length, length-append, get_or-drop, take_all}
 use Rattle.dns_fields.specs.Labels.{DomainName, IsLabel, AreLabels, IsName, wire}
 use Rattle.dns_fields.proofs.Runs.{wire-append, AreLabels-append}
 use Rattle.dns_types.specs.declared.error.ParseError.{ParseError}
@@ -12,7 +12,7 @@ use Rattle.dns_zone_tokens.specs.Letters.{Letter, plain, letters, octet_of, stan
 use Rattle.dns_zone_tokens.specs.NameTokens.{parts_from, name_of_parts, with_label, labelled, is_alone, name, HasLabel, IsLongName, LabelsFault}
 use Rattle.dns_zone_tokens.specs.NameSteps.{ReadSoFar, LabelsRead, NoLabels, NotClosed}
 use Rattle.dns_names_wire.specs.NameValues.{root_name, joined_name, completed}
-use Rattle.dns_zone_tokens.proofs.LetterSteps.{from_offset, none_left}
+use Rattle.dns_zone_tokens.proofs.LetterSteps.{from_offset}
 
 -- ---- parts and labels
 
@@ -105,22 +105,18 @@ plain_parts front (suc n) (c ∷ text) w h =
     )
 
 -- such octets are the front of a label
-pub read_plain : (text rest octets : List ℕ) (n : ℕ) → ReadSoFar text rest octets [] → n ≤ length rest → PlainTo n rest
-    → ReadSoFar text (drop n rest) octets (take n rest)
-read_plain text rest octets n so w h =
-    let divided = plain_parts [] n rest w h in record {
+pub front_read : (text rest octets : List ℕ) (n : ℕ) → ReadSoFar text rest octets [] → n ≤ length rest → PlainTo n rest
+    → ReadSoFar text (take (length rest - n) (drop n rest)) octets (take n rest)
+front_read text rest octets n so w h =
+    let divided = plain_parts [] n rest w h in
+    rw (from_offset n rest) (record {
       labels = so.labels;
       are = so.are;
       fits = so.fits;
       same = so.same;
       escapes = so.escapes ∙ divided.1;
       parts = so.parts ∙ ap (λ (ps : List (List ℕ)). so.labels ++ ps) divided.0;
-    }
-
-pub front_read : (text rest octets : List ℕ) (n : ℕ) → ReadSoFar text rest octets [] → n ≤ length rest → PlainTo n rest
-    → ReadSoFar text (take (length rest - n) (drop n rest)) octets (take n rest)
-front_read text rest octets n so w h =
-    subst (λ (r : List ℕ). ReadSoFar text r octets (take n rest)) (sym (from_offset n rest)) (read_plain text rest octets n so w h)
+    })
 
 -- the octet that stops such octets is a dot where it is no `\`
 pub stops_at : (rest : List ℕ) (n : ℕ) → n ≤ length rest → (n < length rest → (get_or rest n 0 ≡ 46) ⊎ (get_or rest n 0 ≡ 92))
@@ -195,9 +191,6 @@ close_fault field text labels octets part parts e divided are same some (inr (in
     let long : IsLongName (labels ++ part ∷ own.0) = omega (arith, not.2, ap length same, wire_least labels part own.0) in
     inr (inr (inr (not.0, subst IsLongName (sym own.1) long)))
 
-pub bad_escape : (text rest octets front : List ℕ) → ReadSoFar text rest octets front → escapes_stand rest ≡ false → escapes_stand text ≡ false
-bad_escape text rest octets front so bad = so.escapes ∙ bad
-
 pub no_close : (field : NameField) (text rest more octets front : List ℕ) (x : Letter) (e : ParseError) → ReadSoFar text rest octets front
     → BeginsWith x rest more
     → stands_for 46 x ≡ true → NotClosed field octets front e → LabelsFault field text e
@@ -230,7 +223,7 @@ pub no_last : (field : NameField) (text octets front : List ℕ) (e : ParseError
 no_last field text octets front e so some not = close_fault field text so.labels octets front [] e so.parts so.are so.same (inl some) not
 
 pub at_end : (text rest octets front : List ℕ) → ReadSoFar text rest octets front → length rest ≡ 0 → ReadSoFar text [] octets front
-at_end text rest octets front so e = subst (λ (r : List ℕ). ReadSoFar text r octets front) (none_left rest e) so
+at_end text rest octets front so e = subst (λ (r : List ℕ). ReadSoFar text r octets front) (nil_from_length rest e) so
 
 pub end_dot : (text octets front : List ℕ) → ReadSoFar text [] octets front → length front ≡ 0 → LabelsRead text true octets
 end_dot text octets [] so none = record {

@@ -1,11 +1,9 @@
 -- Octets at which a reader need not stop: their marks in a vector of sixteen, and the octets before an index.
-use Rattle.std.proofs.Common.{◌≡◌, ◌≢◌, ℕ, ◌+◌, ◌-◌, ◌<◌, ◌≤◌, ◌%◌, ◌^◌, Bool, true, false, cond, eqb, leb, List, length, get_or, map, replicate}
-use Rattle.std.proofs.Common.{take, drop, refl, sym, ap, subst, ◌∙◌, arith, bit_or, inl, inr}
-use Rattle.std.specs.Prelude.{not}
-use Rattle.std.specs.{List.prefix_len, Simd.Lanes.zip2, Simd.Lanes.mask_l, Simd.Lanes.top, Int.trailing_zeros, Int.w64}
-use Rattle.std.proofs.{lemmas.Bool.leb-false, lemmas.Bool.eq-eqb, lemmas.Bool.cases_lt, lemmas.List.length-map, lemmas.List.length-take-le}
-use Rattle.std.proofs.lemmas.Simd.{zip2_splat, zip2_of_maps, map-map, mask_l-mod, trailing_mask_l, run_in_chunk_le, run_in_chunk_fails}
-use Rattle.std.proofs.lemmas.Simd.{none_from_empty_mask, get_or-chunk}
+use Rattle.std.proofs.Common.{◌≡◌, ◌≢◌, ℕ, ◌+◌, ◌-◌, ◌<◌, ◌≤◌, ◌%◌, ◌^◌, Bool, true, false, cond, eqb, leb, List, length, get_or, map, replicate, take, drop}
+use Rattle.std.proofs.lemmas.Simd.{zip2_splat, zip2_of_maps, map-map, mask_l-mod, trailing_mask_l, run_in_chunk_le, run_in_chunk_fails, none_from_empty_mask}
+use Rattle.std.proofs.{lemmas.Simd.get_or-chunk, lemmas.List.length-map, lemmas.List.length-take-le, lemmas.Bool.leb-false, lemmas.Bool.eq-eqb}
+use Rattle.std.proofs.{lemmas.Bool.cases_lt, Common.refl, Common.sym, Common.ap, Common.subst, Common.◌∙◌, Common.arith, Common.bit_or, Common.inl, Common.inr}
+use Rattle.std.specs.{Prelude.not, List.prefix_len, Int.trailing_zeros, Int.w64, Simd.Lanes.zip2, Simd.Lanes.mask_l, Simd.Lanes.top}
 use Rattle.dns_zone_tokens.specs.Quiet.{IsQuiet}
 
 -- what three comparisons leave of an octet

@@ -1,16 +1,15 @@
 -- What is no token of a field. Texts of TTLs and of record types are ASCII.
-use Rattle.std.proofs.Common.{◌≡◌, ℕ, zero, suc, ◌<◌, true, List, [], ◌∷◌, refl, arith, inl, inr, sym, ◌∙◌, Option, Some, None}
-use Rattle.std.specs.Prelude.{codes, IsTrue, ◌&&◌, Bool, false}
-use Rattle.std.specs.{Char.is_ascii, List.list_all, Str.IsUtf8, Str.IsAscii, Net.Grammar.IsIpv4Text, Net.Grammar.IsIpv6Text}
-use Rattle.std.specs.{declared.net.ipv4_addr.Ipv4Addr.Ipv4Addr, declared.net.ipv6_addr.Ipv6Addr.Ipv6Addr}
+use Rattle.std.proofs.Common.{◌≡◌, ℕ, zero, suc, ◌<◌, true, List, [], ◌∷◌, refl, arith, inl, inr, sym, ◌∙◌, Some, None}
+use Rattle.std.specs.{Char.is_ascii, List.list_all, Str.IsUtf8, Str.IsAscii, declared.net.ipv4_addr.Ipv4Addr.Ipv4Addr, declared.net.ipv6_addr.Ipv6Addr.Ipv6Addr}
+use Rattle.std.specs.{Net.Grammar.IsIpv4Text, Net.Grammar.IsIpv6Text, Prelude.codes, Prelude.IsTrue, Prelude.◌&&◌, Prelude.Bool, Prelude.false}
 use Rattle.std.proofs.{lemmas.Bool.Decides.nat_tests, lemmas.Fmt.IsAscii-from_digits}
 use Rattle.std.proofs.lemmas.Str.{IsUtf8-from_ascii, IsUtf8-append, IsUtf8-nil}
-use Rattle.dns_text.specs.Ttl.{IsUnit, weeks, days, hours, minutes, seconds, Periods, unitless, last, next}
+use Rattle.dns_text.specs.Ttl.{Periods, unitless, last, next}
+use Rattle.dns_text.proofs.TtlSteps.{unit_ascii}
 use Rattle.dns_types.specs.{RecordTypes.is_named, RecordTypes.type_text, RecordTypes.IsTypeText, RecordTypes.record_type_of, declared.record_type.RecordType.RecordType}
 use Rattle.dns_types.specs.declared.record_type.RecordType.TheVariants as types
 use Rattle.dns_tokens.specs.{Forms.ttl, Forms.ipv4, Forms.ipv6, Reads.HoldsOfNone}
-use Rattle.dns_zone_tokens.specs.{Forms.bare, Forms.IsType, Mnemonics.number_named, TypeNames.registry, TypeNames.IsRegistered}
-use Rattle.dns_zone_tokens.specs.{TypeNames.IsZoneType, Tokens.Token, ZoneReads.NoValueOf}
+use Rattle.dns_zone_tokens.specs.{Tokens.Token, ZoneReads.NoValueOf, Forms.bare, Forms.IsType, Mnemonics.number_named, TypeNames.registry, TypeNames.IsZoneType}
 
 -- a token that is no address does not have the form
 pub no_ipv4 : (token : Token) → ((a : Ipv4Addr) → ¬ (IsIpv4Text token.octets a)) → NoValueOf (bare ipv4) token
@@ -28,19 +27,13 @@ one_ascii c h (suc i) = omega arith
 one_utf8 : (c : ℕ) → c < 128 → IsUtf8 (c ∷ [])
 one_utf8 c h = IsUtf8-from_ascii (c ∷ []) (one_ascii c h)
 
-unit_small : {c n : ℕ} → IsUnit c n → c < 128
-unit_small {c} (weeks e) = grind (arith, nat_tests, e)
-unit_small {c} (days e) = grind (arith, nat_tests, e)
-unit_small {c} (hours e) = grind (arith, nat_tests, e)
-unit_small {c} (minutes e) = grind (arith, nat_tests, e)
-unit_small {c} (seconds e) = grind (arith, nat_tests, e)
-
 periods_utf8 : {text : List ℕ} {sum : ℕ} → Periods text sum → IsUtf8 text
 periods_utf8 {text} (unitless digits e) = IsUtf8-from_ascii text (IsAscii-from_digits text digits.1)
 periods_utf8 (last {unit = unit} front digits is same e) =
-    rw same (IsUtf8-append front (unit ∷ []) (IsUtf8-from_ascii front (IsAscii-from_digits front digits.1)) (one_utf8 unit (unit_small is)))
+    rw same (IsUtf8-append front (unit ∷ []) (IsUtf8-from_ascii front (IsAscii-from_digits front digits.1)) (one_utf8 unit (unit_ascii is)))
 periods_utf8 (next {rest = rest} {unit = unit} front digits is more same e) =
-    rw same (IsUtf8-append front (unit ∷ rest) (IsUtf8-from_ascii front (IsAscii-from_digits front digits.1)) (IsUtf8-append (unit ∷ []) rest (one_utf8 unit (unit_small is)) (periods_utf8 more)))
+    rw same (IsUtf8-append front (unit ∷ rest) (IsUtf8-from_ascii front (IsAscii-from_digits front digits.1))
+    (IsUtf8-append (unit ∷ []) rest (one_utf8 unit (unit_ascii is)) (periods_utf8 more)))
 
 pub no_ttl : (token : Token) (most : ℕ) → ¬ (IsUtf8 token.octets) → NoValueOf (bare (ttl most)) token
 no_ttl token most isnt = record { none = λ v is. isnt (periods_utf8 is.1.0.sum) }

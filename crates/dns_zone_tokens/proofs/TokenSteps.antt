@@ -1,10 +1,11 @@
 -- Tokens of a text, octet by octet.
 use Rattle.std.proofs.Common.{◌≡◌, ℕ, zero, suc, ◌+◌, ◌-◌, ◌<◌, ◌≤◌, Bool, true, false, ◌||◌, eqb, if◌then◌else◌, List, [], ◌∷◌, ◌++◌, length, take, drop, get_or, refl}
-use Rattle.std.proofs.Common.{sym, subst, ◌∙◌, ap, add-one, arith, Result, Err}
+use Rattle.std.proofs.Common.{sym, subst, ◌∙◌, ap, add-one, arith, Err}
 use Rattle.std.proofs.{Math.Seq.take-suc, Math.Seq.drop-cons, lemmas.Bool.Decides.nat_tests, lemmas.List.get_or-drop}
-use Rattle.dns_zone_tokens.specs.{declared.tokens_error.TokensError.TokensError, Quiet.IsQuiet, Spans.Left, Spans.lefts_from, TokenSteps.NoGap, TokenSteps.QuotesRefused}
+use Rattle.dns_zone_tokens.specs.Tokens.{Spot, is_blank, is_line_end, begins_gap, ends_run, gap_on, run_on, on, between, run, run_backslash, quotes}
+use Rattle.dns_zone_tokens.specs.{Quiet.IsQuiet, Spans.lefts_from, TokenSteps.NoGap, TokenSteps.QuotesRefused, declared.tokens_error.TokensError.TokensError}
+use Rattle.dns_zone_tokens.specs.Tokens.{quotes_backslash, over, over_comment, refused, tokens_read_from}
 use Rattle.dns_zone_tokens.specs.declared.tokens_error.TokensError.TheVariants.{NoParenthesis, LineInQuotes, FurtherLine}
-use Rattle.dns_zone_tokens.specs.Tokens.{Token, Spot, is_blank, is_line_end, begins_gap, ends_run, gap_on, run_on, between, run, quotes, over, over_comment, refused, tokens_read_from}
 use Rattle.dns_zone_tokens.proofs.{LetterSteps.from_offset, QuietSteps.AreQuiet}
 
 -- a rejected text stays rejected
@@ -85,124 +86,111 @@ module _ {A : Type 0} (go : List ℕ → List ℕ → A) (text : List ℕ) where
       rw next (one_passed (n + m) (quiet_passed most b c n m (n + m) step so (omega arith) (λ k lt. quiet k (omega arith)) refl) (omega arith)
       (step (take (n + m) text) (octet (n + m)) (drop (n + m + 1) text) (subst (IsQuiet most b c) (get_or-drop n text m 0) (quiet m (omega arith)))))
 
--- ---- strings in quotes
+-- ---- readers that go from spot to spot
 
-abbrev quoted : ℕ → Bool → List ℕ → List ℕ → Result (List Token) TokensError
-quoted depth joined front = tokens_read_from (quotes depth joined front)
+-- the octet ends the token that the reader is in
+abbrev stops : Spot → ℕ → Bool
+stops (run depth joined front) c = ends_run c
+stops (run_backslash depth joined front) c = is_line_end c
+stops (quotes depth joined front) c = eqb c 34
+stops spot c = false
 
--- the first n octets are in the quotes, and more may be
-abbrev pub QuotesOn : List ℕ → ℕ → Type 0
-QuotesOn text n = (depth : ℕ) (joined : Bool) → PassedTo (quoted depth joined) text n
+-- after an octet that ends no token it reads on from the next spot
+pub record Walks {A : Type 0} (go : Spot → List ℕ → A) : Type 0 where
+  pub goes : (spot : Spot) (c : ℕ) (text : List ℕ) → stops spot c ≡ false → go spot (c ∷ text) ≡ go (on spot c) text
 
--- the same of the remaining tokens
-abbrev quoted_left : ℕ → Bool → List ℕ → List ℕ → List Left
-quoted_left depth joined front = lefts_from (quotes depth joined front)
+tokens_go : (spot : Spot) (c : ℕ) (text : List ℕ) → stops spot c ≡ false → tokens_read_from spot (c ∷ text) ≡ tokens_read_from (on spot c) text
+tokens_go (run depth joined front) c text h = rw h refl
+tokens_go (run_backslash depth joined front) c text h = rw h refl
+tokens_go (quotes depth joined front) c text h = rw h refl
+tokens_go spot c text h = refl
 
-abbrev pub QuotesLeft : List ℕ → ℕ → Type 0
-QuotesLeft text n = (depth : ℕ) (joined : Bool) → PassedTo (quoted_left depth joined) text n
+lefts_go : (spot : Spot) (c : ℕ) (text : List ℕ) → stops spot c ≡ false → lefts_from spot (c ∷ text) ≡ lefts_from (on spot c) text
+lefts_go (run depth joined front) c text h = rw h refl
+lefts_go (run_backslash depth joined front) c text h = rw h refl
+lefts_go (quotes depth joined front) c text h = rw h refl
+lefts_go spot c text h = refl
 
-line_feed : (depth : ℕ) (joined : Bool) (front : List ℕ) (c : ℕ) (text : List ℕ) → eqb c 34 ≡ false → eqb c 10 ≡ true
-    → tokens_read_from (quotes depth joined front) (c ∷ text) ≡ Err LineInQuotes
-line_feed depth joined front c text h k = rw (h, k) (stays_refused LineInQuotes text)
+pub tokens_walk : Walks tokens_read_from
+tokens_walk = record { goes = tokens_go }
 
-line_feed_left : (depth : ℕ) (joined : Bool) (front : List ℕ) (c : ℕ) (text : List ℕ) → eqb c 34 ≡ false → eqb c 10 ≡ true
-    → lefts_from (quotes depth joined front) (c ∷ text) ≡ []
-line_feed_left depth joined front c text h k = rw (h, k) (refused_left LineInQuotes text)
+pub lefts_walk : Walks lefts_from
+lefts_walk = record { goes = lefts_go }
 
-pub quotes_line : (text : List ℕ) (n : ℕ) → QuotesOn text n → QuotesLeft text n → n < length text → eqb (get_or text n 0) 34 ≡ false
-    → eqb (get_or text n 0) 10 ≡ true
-    → QuotesRefused text LineInQuotes
-quotes_line text n so left lt h k = record {
-  why = λ depth joined.
+module _ {A : Type 0} {go : Spot → List ℕ → A} (walks : Walks go) where
+  -- octets at which no reader stops, and that neither end the quotes nor begin with a `\`
+  quotes_one : (depth : ℕ) (joined : Bool) (front : List ℕ) (c : ℕ) (text : List ℕ) → IsQuiet 10 34 92 c
+      → go (quotes depth joined front) (c ∷ text) ≡ go (quotes depth joined (front ++ c ∷ [])) text
+  quotes_one depth joined front c text quiet =
+      let h : eqb c 34 ≡ false = grind (arith, nat_tests) in
+      let k : eqb c 10 ≡ false = grind (arith, nat_tests) in
+      let e : eqb c 92 ≡ false = grind (arith, nat_tests) in
+      let next : on (quotes depth joined front) c ≡ quotes depth joined (front ++ c ∷ []) = rw (h, k, e) refl in
+      walks.goes (quotes depth joined front) c text h ∙ ap (λ (spot : Spot). go spot text) next
+
+  pair : (depth : ℕ) (joined : Bool) (front : List ℕ) (c d : ℕ) (text : List ℕ) → eqb c 34 ≡ false → eqb c 10 ≡ false → eqb c 92 ≡ true
+      → go (quotes depth joined front) (c ∷ d ∷ text) ≡ go (quotes depth joined ((front ++ c ∷ []) ++ d ∷ [])) text
+  pair depth joined front c d text h k e =
+      let next : on (quotes depth joined front) c ≡ quotes_backslash depth joined (front ++ c ∷ []) = rw (h, k, e) refl in
+      walks.goes (quotes depth joined front) c (d ∷ text) h ∙ ap (λ (spot : Spot). go spot (d ∷ text)) next
+      ∙ walks.goes (quotes_backslash depth joined (front ++ c ∷ [])) d text refl
+
+  run_one : (depth : ℕ) (joined : Bool) (front : List ℕ) (c : ℕ) (text : List ℕ) → IsQuiet 41 59 92 c
+      → go (run depth joined front) (c ∷ text) ≡ go (run depth joined (front ++ c ∷ [])) text
+  run_one depth joined front c text quiet =
+      let h : ends_run c ≡ false = grind (arith, nat_tests) in
+      let e : eqb c 92 ≡ false = grind (arith, nat_tests) in
+      let next : on (run depth joined front) c ≡ run depth joined (front ++ c ∷ []) = rw (h, e) refl in
+      walks.goes (run depth joined front) c text h ∙ ap (λ (spot : Spot). go spot text) next
+
+  -- the first n octets are in the quotes, and more may be
+  abbrev pub QuotesOn : List ℕ → ℕ → Type 0
+  QuotesOn text n = (depth : ℕ) (joined : Bool) → PassedTo (λ (front : List ℕ). go (quotes depth joined front)) text n
+
+  pub quotes_quiet : (text : List ℕ) (n : ℕ) → n ≤ length text → AreQuiet 10 34 92 text n → QuotesOn text n
+  quotes_quiet text n within quiet depth joined =
+      quiet_passed (λ (front : List ℕ). go (quotes depth joined front)) text 10 34 92 0 n n (quotes_one depth joined) refl (omega arith) quiet (omega arith)
+
+  -- so are a `\`, the octet after it, and quiet octets after that
+  pub quotes_escape : (text : List ℕ) (n m : ℕ) → QuotesOn text n → n + 1 < length text → eqb (get_or text n 0) 34 ≡ false → eqb (get_or text n 0) 10 ≡ false
+      → eqb (get_or text n 0) 92 ≡ true → m ≤ length text - (n + 2) → AreQuiet 10 34 92 (take (length text - (n + 2)) (drop (n + 2) text)) m
+      → QuotesOn text (n + 2 + m)
+  quotes_escape text n m so lt h k e within quiet depth joined =
+      let quoted : List ℕ → List ℕ → A = λ front. go (quotes depth joined front) in
+      quiet_passed quoted text 10 34 92 (n + 2) m (n + 2 + m) (quotes_one depth joined)
+      (two_passed quoted text n (so depth joined) lt (pair depth joined (take n text) _ _ _ h k e)) within
+      (subst (λ (s : List ℕ). AreQuiet 10 34 92 s m) (from_offset (n + 2) text) quiet) refl
+
+  -- a line end in the quotes
+  quotes_end : (text : List ℕ) (n : ℕ) → QuotesOn text n → n < length text → eqb (get_or text n 0) 34 ≡ false → eqb (get_or text n 0) 10 ≡ true
+      → (depth : ℕ) (joined : Bool) → go (quotes depth joined []) text ≡ go (refused LineInQuotes) (drop (n + 1) text)
+  quotes_end text n so lt h k depth joined =
+      let next : on (quotes depth joined (take n text)) (get_or text n 0) ≡ refused LineInQuotes = rw (h, k) refl in
       so depth joined
-      ∙ ap (tokens_read_from (quotes depth joined (take n text))) (next_drop (quoted depth joined) text n lt)
-      ∙ line_feed depth joined (take n text) (get_or text n 0) (drop (n + 1) text) h k;
-  left = λ depth joined.
-      left depth joined
-      ∙ ap (lefts_from (quotes depth joined (take n text))) (next_drop (quoted depth joined) text n lt)
-      ∙ line_feed_left depth joined (take n text) (get_or text n 0) (drop (n + 1) text) h k;
+      ∙ ap (go (quotes depth joined (take n text))) (next_drop (λ (front : List ℕ). go (quotes depth joined front)) text n lt)
+      ∙ walks.goes (quotes depth joined (take n text)) (get_or text n 0) (drop (n + 1) text) h
+      ∙ ap (λ (spot : Spot). go spot (drop (n + 1) text)) next
+
+  -- a token without quotes
+  pub run_quiet : (text : List ℕ) (n : ℕ) → n ≤ length text → AreQuiet 41 59 92 text n
+      → (depth : ℕ) (joined : Bool) → go (run depth joined []) text ≡ go (run depth joined (take n text)) (drop n text)
+  run_quiet text n within quiet depth joined =
+      quiet_passed (λ (front : List ℕ). go (run depth joined front)) text 41 59 92 0 n n (run_one depth joined) refl (omega arith) quiet (omega arith)
+
+  -- between tokens, `)` without `(`
+  pub closes_nothing : (depth : ℕ) (joined : Bool) (text : List ℕ) → depth ≡ 0 → 0 < length text → get_or text 0 0 ≡ 41
+      → go (between depth joined) text ≡ go (refused NoParenthesis) (drop 1 text)
+  closes_nothing depth joined [] none some h = absurd (omega arith)
+  closes_nothing depth joined (c ∷ text) none some h =
+      let next : on (between depth joined) c ≡ refused NoParenthesis = rw (none, h) refl in
+      walks.goes (between depth joined) c text refl ∙ ap (λ (spot : Spot). go spot text) next
+
+pub quotes_line : (text : List ℕ) (n : ℕ) → QuotesOn tokens_walk text n → QuotesOn lefts_walk text n → n < length text → eqb (get_or text n 0) 34 ≡ false
+    → eqb (get_or text n 0) 10 ≡ true → QuotesRefused text LineInQuotes
+quotes_line text n so left lt h k = record {
+  why = λ depth joined. quotes_end tokens_walk text n so lt h k depth joined ∙ stays_refused LineInQuotes (drop (n + 1) text);
+  left = λ depth joined. quotes_end lefts_walk text n left lt h k depth joined ∙ refused_left LineInQuotes (drop (n + 1) text);
 }
-
-pair : (depth : ℕ) (joined : Bool) (front : List ℕ) (c d : ℕ) (text : List ℕ) → eqb c 34 ≡ false → eqb c 10 ≡ false → eqb c 92 ≡ true
-    → tokens_read_from (quotes depth joined front) (c ∷ d ∷ text) ≡ tokens_read_from (quotes depth joined ((front ++ c ∷ []) ++ d ∷ [])) text
-pair depth joined front c d text h k e = rw (h, k, e) refl
-
-pub quotes_two : (text : List ℕ) (n : ℕ) → QuotesOn text n → n + 1 < length text → eqb (get_or text n 0) 34 ≡ false → eqb (get_or text n 0) 10 ≡ false
-    → eqb (get_or text n 0) 92 ≡ true → QuotesOn text (n + 2)
-quotes_two text n so lt h k e depth joined = two_passed (quoted depth joined) text n (so depth joined) lt (pair depth joined (take n text) _ _ _ h k e)
-
-pair_left : (depth : ℕ) (joined : Bool) (front : List ℕ) (c d : ℕ) (text : List ℕ) → eqb c 34 ≡ false → eqb c 10 ≡ false → eqb c 92 ≡ true
-    → lefts_from (quotes depth joined front) (c ∷ d ∷ text) ≡ lefts_from (quotes depth joined ((front ++ c ∷ []) ++ d ∷ [])) text
-pair_left depth joined front c d text h k e = rw (h, k, e) refl
-
-pub quotes_two_left : (text : List ℕ) (n : ℕ) → QuotesLeft text n → n + 1 < length text → eqb (get_or text n 0) 34 ≡ false
-    → eqb (get_or text n 0) 10 ≡ false → eqb (get_or text n 0) 92 ≡ true → QuotesLeft text (n + 2)
-quotes_two_left text n so lt h k e depth joined =
-    two_passed (quoted_left depth joined) text n (so depth joined) lt (pair_left depth joined (take n text) _ _ _ h k e)
-
--- octets at which no reader stops, and that neither end the quotes nor begin with a `\`
-quotes_one : (depth : ℕ) (joined : Bool) (front : List ℕ) (c : ℕ) (text : List ℕ) → IsQuiet 10 34 92 c
-    → tokens_read_from (quotes depth joined front) (c ∷ text) ≡ tokens_read_from (quotes depth joined (front ++ c ∷ [])) text
-quotes_one depth joined front c text quiet =
-    let h : eqb c 34 ≡ false = grind (arith, nat_tests) in
-    let k : eqb c 10 ≡ false = grind (arith, nat_tests) in
-    let e : eqb c 92 ≡ false = grind (arith, nat_tests) in
-    rw (h, k, e) refl
-
-quotes_one_left : (depth : ℕ) (joined : Bool) (front : List ℕ) (c : ℕ) (text : List ℕ) → IsQuiet 10 34 92 c
-    → lefts_from (quotes depth joined front) (c ∷ text) ≡ lefts_from (quotes depth joined (front ++ c ∷ [])) text
-quotes_one_left depth joined front c text quiet =
-    let h : eqb c 34 ≡ false = grind (arith, nat_tests) in
-    let k : eqb c 10 ≡ false = grind (arith, nat_tests) in
-    let e : eqb c 92 ≡ false = grind (arith, nat_tests) in
-    rw (h, k, e) refl
-
-pub quotes_quiet_left : (text : List ℕ) (n : ℕ) → n ≤ length text → AreQuiet 10 34 92 text n → QuotesLeft text n
-quotes_quiet_left text n within quiet depth joined =
-    quiet_passed (quoted_left depth joined) text 10 34 92 0 n n (quotes_one_left depth joined) refl (omega arith) quiet (omega arith)
-
-pub quotes_more_left : (text : List ℕ) (n m : ℕ) → QuotesLeft text n → m ≤ length text - n
-    → AreQuiet 10 34 92 (take (length text - n) (drop n text)) m → QuotesLeft text (n + m)
-quotes_more_left text n m so within quiet depth joined =
-    quiet_passed (quoted_left depth joined) text 10 34 92 n m (n + m) (quotes_one_left depth joined) (so depth joined) within
-    (subst (λ (s : List ℕ). AreQuiet 10 34 92 s m) (from_offset n text) quiet) refl
-
-pub quotes_quiet : (text : List ℕ) (n : ℕ) → n ≤ length text → AreQuiet 10 34 92 text n → QuotesOn text n
-quotes_quiet text n within quiet depth joined =
-    quiet_passed (quoted depth joined) text 10 34 92 0 n n (quotes_one depth joined) refl (omega arith) quiet (omega arith)
-
--- and as many of them after an index
-pub quotes_more : (text : List ℕ) (n m : ℕ) → QuotesOn text n → m ≤ length text - n → AreQuiet 10 34 92 (take (length text - n) (drop n text)) m
-    → QuotesOn text (n + m)
-quotes_more text n m so within quiet depth joined =
-    quiet_passed (quoted depth joined) text 10 34 92 n m (n + m) (quotes_one depth joined) (so depth joined) within
-    (subst (λ (s : List ℕ). AreQuiet 10 34 92 s m) (from_offset n text) quiet) refl
-
--- ---- tokens without quotes
-
-run_one : (depth : ℕ) (joined : Bool) (front : List ℕ) (c : ℕ) (text : List ℕ) → IsQuiet 41 59 92 c
-    → tokens_read_from (run depth joined front) (c ∷ text) ≡ tokens_read_from (run depth joined (front ++ c ∷ [])) text
-run_one depth joined front c text quiet =
-    let h : ends_run c ≡ false = grind (arith, nat_tests) in
-    let e : eqb c 92 ≡ false = grind (arith, nat_tests) in
-    rw (h, e) refl
-
-run_one_left : (depth : ℕ) (joined : Bool) (front : List ℕ) (c : ℕ) (text : List ℕ) → IsQuiet 41 59 92 c
-    → lefts_from (run depth joined front) (c ∷ text) ≡ lefts_from (run depth joined (front ++ c ∷ [])) text
-run_one_left depth joined front c text quiet =
-    let h : ends_run c ≡ false = grind (arith, nat_tests) in
-    let e : eqb c 92 ≡ false = grind (arith, nat_tests) in
-    rw (h, e) refl
-
-pub run_quiet_left : (text : List ℕ) (n : ℕ) → n ≤ length text → AreQuiet 41 59 92 text n
-    → (depth : ℕ) (joined : Bool) → lefts_from (run depth joined []) text ≡ lefts_from (run depth joined (take n text)) (drop n text)
-run_quiet_left text n within quiet depth joined =
-    quiet_passed (λ (front : List ℕ). lefts_from (run depth joined front)) text 41 59 92 0 n n (run_one_left depth joined) refl (omega arith) quiet (omega arith)
-
-pub run_quiet : (text : List ℕ) (n : ℕ) → n ≤ length text → AreQuiet 41 59 92 text n
-    → (depth : ℕ) (joined : Bool) → tokens_read_from (run depth joined []) text ≡ tokens_read_from (run depth joined (take n text)) (drop n text)
-run_quiet text n within quiet depth joined =
-    quiet_passed (λ (front : List ℕ). tokens_read_from (run depth joined front)) text 41 59 92 0 n n (run_one depth joined) refl (omega arith) quiet (omega arith)
 
 -- ---- after the line
 
@@ -212,16 +200,6 @@ further [] some h k e = absurd (omega arith)
 further (c ∷ text) some h k e = rw (h, k, e) (stays_refused FurtherLine text)
 
 -- ---- between tokens
-
-pub closes_nothing : (depth : ℕ) (joined : Bool) (text : List ℕ) → depth ≡ 0 → 0 < length text → get_or text 0 0 ≡ 41
-    → tokens_read_from (between depth joined) text ≡ Err NoParenthesis
-closes_nothing depth joined [] none some h = absurd (omega arith)
-closes_nothing depth joined (c ∷ text) none some h = rw (none, h) (stays_refused NoParenthesis text)
-
-pub closes_nothing_left : (depth : ℕ) (joined : Bool) (text : List ℕ) → depth ≡ 0 → 0 < length text → get_or text 0 0 ≡ 41
-    → lefts_from (between depth joined) text ≡ []
-closes_nothing_left depth joined [] none some h = absurd (omega arith)
-closes_nothing_left depth joined (c ∷ text) none some h = rw (none, h) (refused_left NoParenthesis text)
 
 -- a token without quotes begins
 run_begins : (depth : ℕ) (joined : Bool) (c : ℕ) → begins_gap c ≡ false → eqb c 34 ≡ false → gap_on depth joined c ≡ run_on depth joined [] c

@@ -1,8 +1,7 @@
 -- The texts of errors about a field, by the name of the field.
 use Rattle.std.specs.Prelude.{ℕ, List, [], ◌∷◌, ◌++◌, codes}
 use Rattle.dns_tokens.specs.declared.field.Field.{Field}
-use Rattle.dns_zone_tokens.specs.declared.field.HexField.{HexField}
-use Rattle.dns_zone_tokens.specs.declared.field.NameField.{NameField}
+use Rattle.dns_zone_tokens.specs.{declared.field.HexField.HexField, declared.field.NameField.NameField}
 use Rattle.dns_zone_tokens.specs.declared.field.StringField.{StringField}
 
 -- ---- the texts that the code keeps for a field, in the order of their declaration

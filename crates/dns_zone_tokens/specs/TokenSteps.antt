@@ -1,8 +1,7 @@
 -- What the code of tokens keeps.
 use Rattle.std.specs.Prelude.{◌≡◌, ℕ, suc, ◌+◌, take, drop, length, Bool, true, false, List, [], ◌∷◌, Err}
-use Rattle.dns_zone_tokens.specs.Spans.{lefts_from}
+use Rattle.dns_zone_tokens.specs.{Spans.lefts_from, declared.tokens_error.TokensError.TokensError}
 use Rattle.dns_zone_tokens.specs.Tokens.{begins_gap, between, run, quotes, tokens_read_from, with_token}
-use Rattle.dns_zone_tokens.specs.declared.tokens_error.TokensError.{TokensError}
 
 -- the text does not begin with a gap
 abbrev pub NoGap : List ℕ → Type 0

@@ -90,6 +90,7 @@ impl<'a> Letters<'a> {
 
 /// Returns the first octet of a text and how many octets it takes there; `None` if a `\` escapes nothing.
 #[inline]
+#[tactic(auto, using(crate::proofs::LetterSteps::no_third))]
 pub(crate) fn first_letter(text: &[u8]) -> Option<(Letter, usize)>
     requires { 0 < length text.now }
     ensures some { IfSome result (λ r. BeginsWith (letter_value r.0) text.now (drop r.1 text.now)) }

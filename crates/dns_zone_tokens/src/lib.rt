@@ -17,11 +17,11 @@ pub mod type_names;
 
 pub use dns_tokens::{Field, number_field};
 pub use field::{HexField, NameField, StringField};
-pub use fields::{next_ipv4, next_ipv6, next_ttl, next_u8, next_u16, next_u32, some_token};
+pub use fields::{next_number, some_token};
 pub use letter::{Letter, Letters};
 pub use mnemonics::{Mnemonic, number_named};
 pub use names::put_name;
-pub use numbers::{u8_of, u16_of, u32_of};
+pub use numbers::number_of;
 pub use remaining::{all_base64, all_hex, is_unknown_mark, no_more, unknown_data};
 pub use spans::token_span;
 pub use texts::{ipv4_of, ipv6_of, put_string, put_text, ttl_of, type_of};

@@ -7,46 +7,24 @@ ghost use Rattle.dns_zone_tokens.specs.{Forms.number, Forms.IsNumber, Views.toke
 use crate::tokens::ZoneToken;
 use dns_types::ParseError;
 
-/// Reads a decimal number of 8 bits: only digits, without quotes. Any other token gives
+/// Reads a decimal number of so many octets, at most four: only digits, without quotes. Any other token gives
 /// [`Message`](ParseError::Message) with the text `wrong`. Allocates nothing.
 #[inline]
-pub fn u8_of(token: ZoneToken<'_>, wrong: &'static str) -> Result<u8, ParseError>
-    ensures reads { ReadsAs (number 1) (λ n. n) result (token_value token.entry) }
-    ensures why { IfErr result (WrongToken (number 1) (ParseError.Message wrong.entry) (token_value token.entry)) }
+#[tactic(auto, using(crate::proofs::DecimalSteps::small_power))]
+pub fn number_of(token: ZoneToken<'_>, octets: u32, wrong: &'static str) -> Result<u32, ParseError>
+    requires { octets ≤ 4 }
+    ensures reads { ReadsAs (number octets) (λ n. n) result (token_value token.entry) }
+    ensures why { IfErr result (WrongToken (number octets) (ParseError.Message wrong.entry) (token_value token.entry)) }
 {
-    match number_of(token) {
-        Some(n) if n < 256 => Ok(n as u8),
+    match token_number(token) {
+        Some(n) if (n as u64) < 1 << (8 * octets) => Ok(n),
         _ => Err(ParseError::Message(wrong)),
-    }
-}
-
-/// Reads a decimal number of 16 bits, as `u8_of` does.
-#[inline]
-pub fn u16_of(token: ZoneToken<'_>, wrong: &'static str) -> Result<u16, ParseError>
-    ensures reads { ReadsAs (number 2) (λ n. n) result (token_value token.entry) }
-    ensures why { IfErr result (WrongToken (number 2) (ParseError.Message wrong.entry) (token_value token.entry)) }
-{
-    match number_of(token) {
-        Some(n) if n < 65536 => Ok(n as u16),
-        _ => Err(ParseError::Message(wrong)),
-    }
-}
-
-/// Reads a decimal number of 32 bits, as `u8_of` does.
-#[inline]
-pub fn u32_of(token: ZoneToken<'_>, wrong: &'static str) -> Result<u32, ParseError>
-    ensures reads { ReadsAs (number 4) (λ n. n) result (token_value token.entry) }
-    ensures why { IfErr result (WrongToken (number 4) (ParseError.Message wrong.entry) (token_value token.entry)) }
-{
-    match number_of(token) {
-        Some(n) => Ok(n),
-        None => Err(ParseError::Message(wrong)),
     }
 }
 
 // The number of 32 bits that a token without quotes is.
 #[inline]
-fn number_of(token: ZoneToken<'_>) -> Option<u32>
+fn token_number(token: ZoneToken<'_>) -> Option<u32>
     ensures some { IfSome result (λ n. IsNumber n (token_value token.entry)) }
     ensures none { IfNone result ((n : ℕ) → IsNumber n (token_value token.entry) → 2 ^ 32 ≤ n) }
 {

@@ -6,7 +6,7 @@ ghost use Rattle.dns_zone_tokens.specs.Remaining.{AreJoined, AreHex, AreBase64, 
 ghost use Rattle.dns_zone_tokens.specs.Remaining.{QuotesFault, HexFault, Base64Fault, UnknownFault};
 
 use crate::field::HexField;
-use crate::fields::next_u16;
+use crate::fields::next_number;
 use crate::hex_field;
 use crate::tokens::{ZoneToken, ZoneTokens};
 use base64::DecodeAllocError;
@@ -77,7 +77,7 @@ pub fn unknown_data(alloc: Global, tokens: &mut ZoneTokens<'_>) -> Result<Octets
     ensures reads { ReadsAll AreUnknown (λ x. x) result tokens.old }
     ensures why { IfErr result (λ e. (e ≡ ParseError.Memory) ⊎ UnknownFault tokens.old e) }
 {
-    let length = next_u16(tokens, UNKNOWN_LENGTH)?;
+    let length = next_number(tokens, 2, UNKNOWN_LENGTH)?;
     let octets = all_hex(alloc, tokens, &UNKNOWN_DATA)?;
     if octets.len() != length as usize {
         return Err(ParseError::Message(OTHER_LENGTH));

@@ -305,6 +305,7 @@ fn quiet_behind_escape(text: &[u8]) -> usize
 }
 
 // After the end of the line only blanks, line ends and comments may be left.
+#[tactic(auto, using(crate::proofs::TokenSteps::further, crate::proofs::TokenSteps::over_left))]
 fn line_is_over(text: &[u8]) -> Result<(), TokensError>
     ensures ok { OnOk result (tokens_read_from over text.now ≡ Ok []) }
     ensures none_left { lefts_from over text.now ≡ [] }

@@ -7,7 +7,7 @@ use dns_zone_parameters::put_parameters;
 use dns_zone_rows::{row_octets, token_at_fault, zone_row_of};
 use dns_zone_tokens::{
     Field, NameField, StringField, ZoneTokens, all_base64, ipv4_of, is_unknown_mark, name_field,
-    next_ttl, next_u16, number_field, put_name, put_string, some_token, string_field, type_of,
+    next_number, number_field, put_name, put_string, some_token, string_field, ttl_of, type_of,
     unknown_data,
 };
 use std::alloc::Global;
@@ -75,6 +75,11 @@ fn strings(alloc: Global, tokens: &mut ZoneTokens<'_>) -> std::result::Result<St
     }
 }
 
+// The time to live that the first token is.
+fn seconds(tokens: &mut ZoneTokens<'_>) -> std::result::Result<u32, ParseError> {
+    ttl_of(some_token(tokens, NUMBER.name)?, NUMBER.wrong)
+}
+
 // The name that the first token is.
 fn name(
     alloc: Global,
@@ -102,8 +107,8 @@ pub fn field(alloc: Global, kind: &str, text: &str) -> Result<String> {
         "parameters" => parameters(alloc, &mut tokens),
         "strings" => show(alloc, strings(alloc, &mut tokens)),
         "base64" => show(alloc, all_base64(alloc, &mut tokens, "no base64")),
-        "number" => show(alloc, next_u16(&mut tokens, NUMBER)),
-        "ttl" => show(alloc, next_ttl(&mut tokens, NUMBER)),
+        "number" => show(alloc, next_number(&mut tokens, 2, NUMBER)),
+        "ttl" => show(alloc, seconds(&mut tokens)),
         _ => token_field(alloc, kind, tokens),
     }
 }

@@ -3,7 +3,8 @@ use Rattle.std.specs.Prelude.{IfErr}
 use Rattle.dns_tokens.specs.Reads.{UnlessParseMemory}
 use Rattle.dns_rdata_zone.specs.{ZoneSteps.UnknownIsNone, ZoneFaults.BehindMarkFault}
 use Rattle.dns_types.specs.declared.error.ParseError.TheVariants as parse
-use Rattle.dns_rdata_zone.proofs.ZoneSteps.{exit_with, unknown_refused, not_whole, unknown_why, pointer_why}
+use Rattle.dns_zone_tokens.proofs.FirstSteps.{exit_with}
+use Rattle.dns_rdata_zone.proofs.ZoneSteps.{unknown_refused, not_whole, unknown_why, pointer_why}
 use Rattle.dns_rdata_zone.proofs.reading.from_unknown_data.Goals as goal
 
 pub returns-in_err-value-clause-refused : goal.returns-in_err-value-clause-refused

@@ -4,7 +4,8 @@ use Rattle.dns_names_wire.specs.State.{Reading}
 use Rattle.dns_tokens.specs.Reads.{UnlessParseMemory}
 use Rattle.dns_rdata_zone.specs.{ZoneSteps.AreNoData, ZoneFaults.OctetsFault}
 use Rattle.dns_types.specs.declared.error.ParseError.TheVariants as parse
-use Rattle.dns_rdata_zone.proofs.ZoneSteps.{exit_with, octets_refused, read_why}
+use Rattle.dns_zone_tokens.proofs.FirstSteps.{exit_with}
+use Rattle.dns_rdata_zone.proofs.ZoneSteps.{octets_refused, read_why}
 use Rattle.dns_rdata_zone.proofs.reading.read_octets.Goals as goal
 
 pub returns-in_err-read-clause-refused : goal.returns-in_err-read-clause-refused

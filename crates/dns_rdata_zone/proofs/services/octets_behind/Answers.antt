@@ -1,5 +1,4 @@
-use Rattle.std.proofs.Common.{◌∙◌, ap, drop, List, ℕ}
-use Rattle.std.proofs.lemmas.List.{drop-drop}
+use Rattle.std.proofs.{lemmas.List.drop-drop, Common.◌∙◌, Common.ap, Common.drop, Common.List, Common.ℕ}
 use Rattle.dns_rdata.specs.Data.{data_octets}
 use Rattle.dns_rdata_zone.proofs.ServiceDigits.{next_drop}
 use Rattle.dns_rdata_zone.proofs.services.octets_behind.Goals as goal

@@ -1,5 +1,4 @@
-use Rattle.std.proofs.Common.{◌*◌, [], ◌∷◌, rules}
-use Rattle.std.proofs.Output.{has_written_append, has_written_of_eq}
+use Rattle.std.proofs.{Common.◌*◌, Common.[], Common.◌∷◌, Common.rules, Output.has_written_append, Output.has_written_of_eq}
 use Rattle.std.specs.Fmt.{HasWritten}
 use Rattle.hex.specs.Hex.{encode_lower}
 use Rattle.dns_rdata_zone.specs.Tokens.{tokens_from}

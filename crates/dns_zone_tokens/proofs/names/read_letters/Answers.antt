@@ -1,7 +1,7 @@
 use Rattle.std.proofs.Common.{List, ℕ, [], length, ap, refl, ◌∙◌, sym, inl, inr, arith}
 use Rattle.dns_zone_tokens.specs.{NameSteps.ReadSoFar, NameTokens.LabelsFault, Views.letter_value}
 use Rattle.dns_zone_tokens.proofs.{FirstSteps.exit_fault, NamePuts.if_ok, NamePuts.if_err}
-use Rattle.dns_zone_tokens.proofs.NameLabels.{bad_escape, read_dot, no_close, no_room, at_end}
+use Rattle.dns_zone_tokens.proofs.NameLabels.{read_dot, no_close, no_room, at_end}
 use Rattle.dns_zone_tokens.proofs.names.read_letters.Goals as goal
 
 pub returns-in_err-letter-clause-refused : goal.returns-in_err-letter-clause-refused
@@ -10,7 +10,7 @@ returns-in_err-letter-clause-refused c =
     c.from_residual.ensures.1
     (λ text so. inl (
       c.in_err-letter.ensures.why,
-      bad_escape text c.letters.letters c.letters.wire.items c.letters.label.items (c.letters.invariant text so) c.in_err-letter.ensures.refused,
+      (c.letters.invariant text so).escapes ∙ c.in_err-letter.ensures.refused,
     ))
 
 pub returns-in_err-close_label-in-Some-clause-refused : goal.returns-in_err-close_label-in-Some-clause-refused

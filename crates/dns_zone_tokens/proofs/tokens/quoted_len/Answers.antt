@@ -1,13 +1,12 @@
-use Rattle.std.proofs.Common.{◌+◌, arith}
-use Rattle.std.proofs.lemmas.Bool.Decides.{nat_tests}
-use Rattle.dns_zone_tokens.proofs.TokenSteps.{quotes_line, quotes_more, quotes_more_left, quotes_quiet, quotes_quiet_left, quotes_two, quotes_two_left}
+use Rattle.std.proofs.{Common.arith, lemmas.Bool.Decides.nat_tests}
+use Rattle.dns_zone_tokens.proofs.TokenSteps.{quotes_line, quotes_quiet, quotes_escape, tokens_walk, lefts_walk}
 use Rattle.dns_zone_tokens.proofs.tokens.quoted_len.Goals as goal
 
 pub octets-init : goal.octets-init
 octets-init c = record {
   within = c.quiet_len-at.ensures.within;
-  so = quotes_quiet c.args.text.now c.quiet_len-at.result c.quiet_len-at.ensures.within c.quiet_len-at.ensures.quiet;
-  left = quotes_quiet_left c.args.text.now c.quiet_len-at.result c.quiet_len-at.ensures.within c.quiet_len-at.ensures.quiet;
+  so = quotes_quiet tokens_walk c.args.text.now c.quiet_len-at.result c.quiet_len-at.ensures.within c.quiet_len-at.ensures.quiet;
+  left = quotes_quiet lefts_walk c.args.text.now c.quiet_len-at.result c.quiet_len-at.ensures.within c.quiet_len-at.ensures.quiet;
 }
 
 pub returns-then-text-at-eq10-clause-refused : goal.returns-then-text-at-eq10-clause-refused
@@ -17,10 +16,8 @@ returns-then-text-at-eq10-clause-refused c =
 pub octets-preserved-then-not-is_number : goal.octets-preserved-then-not-is_number
 octets-preserved-then-not-is_number c = record {
   within = omega (arith, c.quiet_behind_escape-at.ensures.within);
-  so = quotes_more c.args.text.now (c.octets.at + 2) c.quiet_behind_escape-at.result
-      (quotes_two c.args.text.now c.octets.at c.octets.invariant.so (omega arith) (grind (arith, nat_tests)) (grind (arith, nat_tests)) (grind (arith, nat_tests)))
-      (omega (arith, c.quiet_behind_escape-at.ensures.within)) c.quiet_behind_escape-at.ensures.quiet;
-  left = quotes_more_left c.args.text.now (c.octets.at + 2) c.quiet_behind_escape-at.result
-      (quotes_two_left c.args.text.now c.octets.at c.octets.invariant.left (omega arith) (grind (arith, nat_tests)) (grind (arith, nat_tests)) (grind (arith, nat_tests)))
-      (omega (arith, c.quiet_behind_escape-at.ensures.within)) c.quiet_behind_escape-at.ensures.quiet;
+  so = quotes_escape tokens_walk c.args.text.now c.octets.at c.quiet_behind_escape-at.result c.octets.invariant.so (omega arith) (grind (arith, nat_tests))
+      (grind (arith, nat_tests)) (grind (arith, nat_tests)) (omega (arith, c.quiet_behind_escape-at.ensures.within)) c.quiet_behind_escape-at.ensures.quiet;
+  left = quotes_escape lefts_walk c.args.text.now c.octets.at c.quiet_behind_escape-at.result c.octets.invariant.left (omega arith) (grind (arith, nat_tests))
+      (grind (arith, nat_tests)) (grind (arith, nat_tests)) (omega (arith, c.quiet_behind_escape-at.ensures.within)) c.quiet_behind_escape-at.ensures.quiet;
 }

@@ -1,5 +1,4 @@
-use Rattle.std.proofs.Common.{◌∙◌, arith}
-use Rattle.std.proofs.Output.{has_written_of_eq}
+use Rattle.std.proofs.{Common.◌∙◌, Common.arith, Output.has_written_of_eq}
 use Rattle.dns_rdata.specs.WholeOctets.{name_octets}
 use Rattle.dns_rdata_zone.proofs.{Digits.length_low, TokenSteps.generic_short}
 use Rattle.dns_rdata_zone.proofs.generic.GenericNameDisplay.fmt.Goals as goal

@@ -1,7 +1,5 @@
-use Rattle.std.proofs.Common.{◌≡◌, [], rules, ap}
-use Rattle.std.specs.Prelude.{flat_map}
-use Rattle.std.proofs.Output.{has_written_append, has_written_of_eq}
-use Rattle.std.specs.Fmt.{HasWritten}
+use Rattle.std.proofs.{Common.◌≡◌, Common.[], Common.rules, Common.ap, Output.has_written_append, Output.has_written_of_eq}
+use Rattle.std.specs.{Fmt.HasWritten, Prelude.flat_map}
 use Rattle.dns_rdata_zone.specs.Names.{zone_label}
 use Rattle.dns_rdata_zone.proofs.Digits.{labels_more, labels_all}
 use Rattle.dns_rdata_zone.proofs.names.ZoneLabelsDisplay.fmt.Goals as goal

@@ -1,6 +1,5 @@
 use Rattle.std.proofs.Common.{◌≡◌, ℕ, List, ◌++◌}
-use Rattle.std.specs.Prelude.{flat_map}
-use Rattle.std.specs.Fmt.{HasWritten, IsPlainFormatter}
+use Rattle.std.specs.{Prelude.flat_map, Fmt.HasWritten, Fmt.IsPlainFormatter}
 use Rattle.dns_rdata_zone.specs.Names.{zone_label}
 use Rattle.dns_rdata_zone.proofs.names.ZoneLabelsDisplay.fmt.Given as goal
 

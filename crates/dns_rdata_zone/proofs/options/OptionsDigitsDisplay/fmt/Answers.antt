@@ -1,5 +1,4 @@
-use Rattle.std.proofs.Common.{refl, sym, ap, rules, ℕ, List}
-use Rattle.std.proofs.Output.{has_written_append, has_written_of_eq}
+use Rattle.std.proofs.{Output.has_written_append, Output.has_written_of_eq, Common.refl, Common.sym, Common.ap, Common.rules, Common.ℕ, Common.List}
 use Rattle.dns_rdata_zone.specs.Tokens.{in_tokens}
 use Rattle.dns_rdata_zone.proofs.{Digits.hex_none, OptionDigits.option_written, OptionDigits.option_left}
 use Rattle.dns_rdata_zone.proofs.options.OptionsDigitsDisplay.fmt.Goals as goal

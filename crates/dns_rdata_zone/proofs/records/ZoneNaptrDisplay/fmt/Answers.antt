@@ -1,5 +1,4 @@
-use Rattle.std.proofs.Common.{refl, decimal}
-use Rattle.std.proofs.Output.{has_written_append, has_written_of_eq}
+use Rattle.std.proofs.{Common.refl, Common.decimal, Output.has_written_append, Output.has_written_of_eq}
 use Rattle.dns_rdata_zone.specs.Names.{zone_name}
 use Rattle.dns_rdata_zone.proofs.Joined.{naptr_joined}
 use Rattle.dns_rdata_zone.proofs.records.ZoneNaptrDisplay.fmt.Goals as goal

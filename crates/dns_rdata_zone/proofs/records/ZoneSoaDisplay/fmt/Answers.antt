@@ -1,6 +1,5 @@
-use Rattle.std.proofs.Common.{◌≡◌, refl, decimal, rules}
+use Rattle.std.proofs.{Common.◌≡◌, Common.refl, Common.decimal, Common.rules, Output.has_written_append, Output.has_written_of_eq}
 use Rattle.std.specs.Int.{cast_unsigned, w32}
-use Rattle.std.proofs.Output.{has_written_append, has_written_of_eq}
 use Rattle.dns_rdata_zone.specs.Names.{zone_name}
 use Rattle.dns_rdata_zone.proofs.Joined.{soa_joined}
 use Rattle.dns_rdata_zone.proofs.records.ZoneSoaDisplay.fmt.Goals as goal

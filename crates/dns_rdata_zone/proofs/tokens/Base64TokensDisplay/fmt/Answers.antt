@@ -1,6 +1,5 @@
+use Rattle.std.proofs.{lemmas.List.length-take, Output.has_written_append, Output.has_written_of_eq}
 use Rattle.std.proofs.Common.{take, [], ◌∷◌, rules, arith}
-use Rattle.std.proofs.lemmas.List.{length-take}
-use Rattle.std.proofs.Output.{has_written_append, has_written_of_eq}
 use Rattle.std.specs.Fmt.{HasWritten}
 use Rattle.base64.specs.{Engines.standard, GeneralPurpose.encode_of}
 use Rattle.dns_rdata_zone.proofs.TokenSteps.{base64_step, base64_last}

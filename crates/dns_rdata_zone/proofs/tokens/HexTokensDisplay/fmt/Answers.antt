@@ -1,5 +1,4 @@
-use Rattle.std.proofs.Common.{take, [], ◌∷◌, rules}
-use Rattle.std.proofs.Output.{has_written_append, has_written_of_eq}
+use Rattle.std.proofs.{Common.take, Common.[], Common.◌∷◌, Common.rules, Output.has_written_append, Output.has_written_of_eq}
 use Rattle.std.specs.Fmt.{HasWritten}
 use Rattle.hex.specs.Hex.{encode_lower}
 use Rattle.dns_rdata_zone.proofs.TokenSteps.{hex_step, hex_last}

@@ -1,5 +1,4 @@
-use Rattle.std.proofs.Common.{◌≡◌, sym, ap, arith, ◌∙◌}
-use Rattle.std.proofs.lemmas.Bool.Decides.{nat_tests}
+use Rattle.std.proofs.{lemmas.Bool.Decides.nat_tests, Common.◌≡◌, Common.sym, Common.ap, Common.arith, Common.◌∙◌}
 use Rattle.dns_zone_tokens.specs.Tokens.{Cursor}
 use Rattle.dns_zone_tokens.proofs.{LetterSteps.from_offset, TokenSteps.run_begins_left}
 use Rattle.dns_zone_tokens.proofs.tokens.ZoneTokens.first_token.Goals as goal
