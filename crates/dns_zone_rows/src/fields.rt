@@ -91,7 +91,11 @@ fn put_named(
     add_number(octets, value, count)
 }
 
-fn put_ttl(octets: &mut Vec<u8>, token: ZoneToken<'_>, wrong: &'static str) -> Result<(), ParseError>
+fn put_ttl(
+    octets: &mut Vec<u8>,
+    token: ZoneToken<'_>,
+    wrong: &'static str,
+) -> Result<(), ParseError>
     ensures puts { PutsAs (bare (ttl 4294967295)) (bytes_high_first 4) result octets.old.items octets.new.items (token_value token.entry) }
     ensures why { IfErr result (λ e. (e ≡ ParseError.Memory) ⊎ WrongToken (bare (ttl 4294967295)) (ParseError.Message wrong.entry) (token_value token.entry) e) }
 {
@@ -99,7 +103,11 @@ fn put_ttl(octets: &mut Vec<u8>, token: ZoneToken<'_>, wrong: &'static str) -> R
     add_octets(octets, &seconds.to_be_bytes())
 }
 
-fn put_ipv4(octets: &mut Vec<u8>, token: ZoneToken<'_>, wrong: &'static str) -> Result<(), ParseError>
+fn put_ipv4(
+    octets: &mut Vec<u8>,
+    token: ZoneToken<'_>,
+    wrong: &'static str,
+) -> Result<(), ParseError>
     ensures puts { PutsAs (bare ipv4) (λ s. s) result octets.old.items octets.new.items (token_value token.entry) }
     ensures why { IfErr result (λ e. (e ≡ ParseError.Memory) ⊎ WrongToken (bare ipv4) (ParseError.Message wrong.entry) (token_value token.entry) e) }
 {
@@ -107,7 +115,11 @@ fn put_ipv4(octets: &mut Vec<u8>, token: ZoneToken<'_>, wrong: &'static str) -> 
     add_octets(octets, &address.octets())
 }
 
-fn put_ipv6(octets: &mut Vec<u8>, token: ZoneToken<'_>, wrong: &'static str) -> Result<(), ParseError>
+fn put_ipv6(
+    octets: &mut Vec<u8>,
+    token: ZoneToken<'_>,
+    wrong: &'static str,
+) -> Result<(), ParseError>
     ensures puts { PutsAs (bare ipv6) (λ s. s) result octets.old.items octets.new.items (token_value token.entry) }
     ensures why { IfErr result (λ e. (e ≡ ParseError.Memory) ⊎ WrongToken (bare ipv6) (ParseError.Message wrong.entry) (token_value token.entry) e) }
 {
@@ -116,7 +128,11 @@ fn put_ipv6(octets: &mut Vec<u8>, token: ZoneToken<'_>, wrong: &'static str) -> 
 }
 
 // Appends the length and the octets of a token, of 1 to 255 octets and without quotes, as it is.
-fn put_tag(octets: &mut Vec<u8>, token: ZoneToken<'_>, wrong: &'static str) -> Result<(), ParseError>
+fn put_tag(
+    octets: &mut Vec<u8>,
+    token: ZoneToken<'_>,
+    wrong: &'static str,
+) -> Result<(), ParseError>
     ensures puts { PutsAs tag string_octets result octets.old.items octets.new.items (token_value token.entry) }
     ensures why { IfErr result (λ e. (e ≡ ParseError.Memory) ⊎ WrongToken tag (ParseError.Message wrong.entry) (token_value token.entry) e) }
 {

@@ -95,7 +95,11 @@ module _ {is : List Token → Type 0} {old now : Cursor} (so : TakenSoFar is old
   pub fault_among : {fault : Token → ParseError → Type 0} (token : Token) (new : Cursor) {e : ParseError} → tokens_at now ≡ with_token token (tokens_at new)
       → fault token e → AmongFault fault old e
   fault_among token new first has = inr (record {
-    front = so.tokens; token = token; behind = tokens_at new; divided = so.behind ∙ ap (with_tokens so.tokens) first; has = has;
+    front = so.tokens;
+    token = token;
+    behind = tokens_at new;
+    divided = so.behind ∙ ap (with_tokens so.tokens) first;
+    has = has;
   })
 
 -- ---- their octets, none in quotes

@@ -30,7 +30,11 @@ pub fn some_token<'a>(
 /// Reads a decimal number of so many octets, at most four, from the next token. Errors name the field; the token is
 /// taken all the same. Allocates nothing.
 #[inline]
-pub fn next_number(tokens: &mut ZoneTokens<'_>, octets: u32, field: Field) -> Result<u32, ParseError>
+pub fn next_number(
+    tokens: &mut ZoneTokens<'_>,
+    octets: u32,
+    field: Field,
+) -> Result<u32, ParseError>
     requires { octets ≤ 4 }
     ensures reads { ReadsFirst (number octets) (λ n. n) result tokens.old tokens.new }
     ensures why { IfErr result (WhyNoField (number octets) field tokens.old) }

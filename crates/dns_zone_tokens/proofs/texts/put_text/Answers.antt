@@ -15,9 +15,12 @@ returns-in_default-clause-puts c = no_text (token_value c.args.token)
     c.runs.invariant c.plain_len-len.ensures.within c.plain_len-len.ensures.plain c.in_ok-extend_from_slice.ensures.items).escapes ∙ c.in_default.ensures.none)
 
 pub returns-in_default-clause-why : goal.returns-in_default-clause-why
-returns-in_default-clause-why c = inr (refl, (put_run c.args.token.raw.now c.runs.rest.now c.args.octets.now.items c.runs.octets.items
-    c.extend_from_slice.new.self.items c.plain_len-len.result
-    c.runs.invariant c.plain_len-len.ensures.within c.plain_len-len.ensures.plain c.in_ok-extend_from_slice.ensures.items).escapes ∙ c.in_default.ensures.none)
+returns-in_default-clause-why c = inr (
+  refl,
+  (put_run c.args.token.raw.now c.runs.rest.now c.args.octets.now.items c.runs.octets.items
+      c.extend_from_slice.new.self.items c.plain_len-len.result
+      c.runs.invariant c.plain_len-len.ensures.within c.plain_len-len.ensures.plain c.in_ok-extend_from_slice.ensures.items).escapes ∙ c.in_default.ensures.none,
+)
 
 pub runs-preserved : goal.runs-preserved
 runs-preserved c = put_next c.args.token.raw.now _ c.args.octets.now.items c.extend_from_slice.new.self.items c.push.new.self.items c.in-Some.count (letter_value c.in-Some.letter)
