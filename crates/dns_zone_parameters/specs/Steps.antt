@@ -80,7 +80,8 @@ pub record TookParameter (p : Parameter) (old new : Cursor) : Type 0 where
   pub front : List Token
   pub divided : tokens_at old ≡ with_tokens front (tokens_at new)
   pub is : IsParameter p front
-  pub only : (all : List Parameter) (tokens : List Token) → tokens_at old ≡ Ok tokens → AreWritten all tokens → AreLeft new
+  pub only : (all : List Parameter) (tokens : List Token) → tokens_at old ≡ Ok tokens → AreWritten all tokens
+      → AreLeft new
 
 -- takes the next parameter exactly if the tokens begin with one; at their end there is none
 abbrev pub ReadsNext : Result (Option CodeParameter) ParseError → Cursor → Cursor → Type 0
