@@ -78,7 +78,7 @@ def items_of(crate):
                     text = "\n".join(lines[i : i + 40]).split(";\n")[0]
                     paragraph = doc[: doc.index("")] if "" in doc else doc
                     found[-1].calls.append(Item("fn", name, paragraph, text, crate))
-            if line.strip() and not line.strip().startswith("#["):
+            if line.strip() and not line.strip().startswith(("#[", "//")):
                 doc = []
         modules[module] = found
     return modules, types
