@@ -12,7 +12,7 @@ CRATE = TOP / "crates/dns_rdata_c/src"
 IN_C = {
     "Global": [], "&[u8]": ["octets", "size_t"], "&mut [u8]": ["buffer", "size_t"], "usize": ["size_t"], "u16": ["uint16_t"],
     "&mut usize": ["size_t *"], "&mut u16": ["uint16_t *"], "&mut i32": ["int32_t *"],
-    "&mut Refusal": ["struct dns_rdata_refusal *"], "&mut PartsCursor": ["struct dns_rdata_parts *"],
+    "&mut Reason": ["struct dns_rdata_refusal *"], "&mut PartsCursor": ["struct dns_rdata_parts *"],
 }
 OF_C = {"const uint8_t *": "octets", "const char *": "octets", "uint8_t *": "buffer", "char *": "buffer", "dns_rdata_status": "u32", "int32_t": "i32"}
 OF_RUST = {
@@ -103,11 +103,12 @@ def main():
     want_same("Python's status", {name: of_crate.get(name) for name in of_python}, of_python)
     of_rust = numbers(rust, r"^const (\w+): u32 = (\d+);")
     want_same("Rust's status", {name: of_crate.get(name) for name in of_rust}, of_rust)
-    for file, of_crate, of_header in [("check.rt", "Refusal", "dns_rdata_refusal"), ("parts_cursor.rt", "PartsCursor", "dns_rdata_parts")]:
+    for file, of_crate, name in [("check.rt", "Reason", "Refusal"), ("parts_cursor.rt", "PartsCursor", "Parts")]:
+        of_header = "dns_rdata_" + name.lower()
         fields = {of_header: crate_fields(file, of_crate)}
         want_same("the fields of", fields, {of_header: header_fields(header, of_header)})
-        want_same("in Rust the fields of", fields, {of_header: rust_fields(rust, "Raw" + of_crate.removesuffix("Cursor"))})
-        want_same("in Python the fields of", fields, {of_header: python_fields(python, of_crate.removesuffix("Cursor"))})
+        want_same("in Rust the fields of", fields, {of_header: rust_fields(rust, "Raw" + name)})
+        want_same("in Python the fields of", fields, {of_header: python_fields(python, name)})
     calls = crate_calls()
     want_same("call", calls, header_calls(header))
     want_same("Rust's call", calls, rust_calls(rust))
