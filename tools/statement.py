@@ -5,8 +5,9 @@ through other definitions, with its file, line and number of lines.
     tools/statement.py            writes docs/STATEMENT.md
     tools/statement.py --check    compares it with what would be written; the last line is 'N as wanted, M not'
 
-It follows the imports of the files in crates/*/specs. Blank lines, comments and imports are not counted. What code declares
-(structs, enums and constants) and the words of the kit's standard library are not counted either.
+It follows the imports of the files in crates/*/specs. Blank lines, comments and imports are not counted. Of what code declares
+the kinds of fields and the rows of the types are counted (`DECLARED`): they are the grammar. Other structs and enums and the
+words of the kit's standard library are not.
 """
 import collections
 import pathlib
@@ -21,13 +22,17 @@ HEAD = re.compile(
 )
 WORD = re.compile(r"[^\s(){}\[\],;:∷≡×⊎→λ¬+\-*/<>≤≢↦|∥=\"]+")
 
-# The calls of the headline: the file, the line at which the contract begins, and how the page names them.
+# The calls of the headline: the file, the line at which the contract begins, how the page names them, and the clauses that
+# say what the headline says.
 CALLS = [
-    ("dns_rdata/src/record_data.rt", "    pub fn read(", "`RData::read`"),
-    ("dns_rdata/src/record_data.rt", "    fn emit(", "`RData::emit`"),
-    ("dns_rdata/src/record_data.rt", "    fn eq(", "`==` of `RData`"),
-    ("dns_rdata/src/order.rt", "    fn cmp(", "`RData::cmp`"),
+    ("dns_rdata/src/record_data.rt", "    pub fn read(", "`RData::read`", ["found", "refused", "kind"]),
+    ("dns_rdata/src/record_data.rt", "    fn emit(", "`RData::emit`", ["again"]),
+    ("dns_rdata/src/record_data.rt", "    fn eq(", "`==` of `RData`", ["canonical"]),
+    ("dns_rdata/src/order.rt", "    fn cmp(", "`RData::cmp`", ["canonical"]),
 ]
+
+# What code declares of the grammar: the crate, the module of the definitions, and the file.
+DECLARED = [("dns_fields", "declared", "lib.rt"), ("dns_rows", "declared.row", "row.rt")]
 
 
 def imports_of(text):
@@ -74,6 +79,8 @@ class Specs:
             crate = file.relative_to(TOP / "crates").parts[0]
             module = ".".join(file.relative_to(TOP / "crates" / crate / "specs").with_suffix("").parts)
             self.read("" if module == "Lib" else module, crate, file)
+        for crate, module, file in DECLARED:
+            self.declared(crate, module, TOP / "crates" / crate / "src" / file)
         for (crate, module, name), (_, _, lines) in self.lines.items():
             self.owner[crate, module, name] = (crate, module, name)
             if re.match(r"^(?:pub )?data", lines[0]):
@@ -100,6 +107,24 @@ class Specs:
                 current = None
             if current and line.strip() and not line.strip().startswith("--"):
                 self.lines[current][2].append(line)
+
+    def declared(self, crate, module, file):
+        """The enums, structs and statics of a file of code."""
+        current = None
+        for number, line in enumerate(file.read_text(encoding="utf-8").split("\n"), 1):
+            head = re.match(r"^pub (enum|struct|static) (\w+)", line)
+            if head:
+                within = f"{module}.TheConstants" if head[1] == "static" else f"{module}.{head[2]}"
+                current = (crate, within, head[2])
+                self.lines[current] = (file, number, [])
+                self.imports.setdefault((crate, within), {})
+            if current and line.strip() and not line.strip().startswith("//"):
+                self.lines[current][2].append(line)
+                variant = re.match(r"^    (\w+)(?:\(.*\))?,$", line)
+                if variant:
+                    self.owner[crate, f"{current[1]}.TheVariants", variant[1]] = current
+            if line in ("}", "];") or line.endswith("];"):
+                current = None
 
     def at(self, path):
         """The definition that a full path names."""
@@ -147,53 +172,76 @@ class Specs:
 
 
 def clauses(file, start):
-    """The lines of the clauses of a function."""
+    """The clauses of a function, each with its name."""
     text = (TOP / "crates" / file).read_text(encoding="utf-8").split("\n")
     at = next(i for i, line in enumerate(text) if line.startswith(start))
-    lines = []
+    found = []
     for line in text[at:]:
         if line.strip() == "{":
             break
-        if line.strip().startswith(("ensures", "requires", "×", "⊎")):
-            lines.append(line)
-    return lines, imports_of("\n".join(text))
+        head = re.match(r"^\s*(?:ensures|requires) (\w*)", line)
+        if head:
+            found.append((head[1], [line]))
+        elif found and not line.strip().startswith("//"):
+            found[-1][1].append(line)
+    return found, imports_of("\n".join(text))
+
+
+def size(specs, keys):
+    return sum(len(specs.lines[key][2]) for key in keys)
+
+
+def table(specs, keys):
+    out = ["| Definition | Where | Lines |\n|---|---|---|"]
+    for key in keys:
+        where, line, text = specs.lines[key]
+        path = where.relative_to(TOP)
+        shown = f"{path.parts[1]}/{'/'.join(path.parts[3:])}"
+        out.append(f"| `{key[2]}` | [`{shown}:{line}`](../{path}#L{line}) | {len(text)} |")
+    return out + [""]
+
+
+def part(specs, title, keys):
+    by_crate = collections.Counter()
+    for key in keys:
+        by_crate[key[0]] += len(specs.lines[key][2])
+    parts = ", ".join(f"`{crate}` {count}" for crate, count in sorted(by_crate.items()))
+    told = f"{len(keys)} definitions that were not listed before, {size(specs, keys)} lines: {parts or 'none'}.\n"
+    return [f"{title}\n", told, *(table(specs, keys) if keys else [])]
 
 
 def page():
-    specs, seen, out, total = Specs(), set(), [], 0
-    for file, start, name in CALLS:
-        lines, imports = clauses(file, start)
-        order = specs.reached(specs.named_in(lines, imports), seen)
-        size = sum(len(specs.lines[key][2]) for key in order)
-        total += size
-        by_crate = collections.Counter()
-        for key in order:
-            by_crate[key[0]] += len(specs.lines[key][2])
-        parts = ", ".join(f"`{crate}` {count}" for crate, count in sorted(by_crate.items()))
-        out.append(f"## {name}\n")
-        out.append(f"{len(order)} definitions that were not listed before, {size} lines: {parts or 'none'}.\n")
-        out.append("| Definition | Where | Lines |\n|---|---|---|")
-        for key in order:
-            where, line, text = specs.lines[key]
-            path = where.relative_to(TOP)
-            shown = f"{path.parts[1]}/{'/'.join(path.parts[3:])}"
-            out.append(f"| `{key[2]}` | [`{shown}:{line}`](../{path}#L{line}) | {len(text)} |")
-        out.append("")
-    head = [
-        "# What one must read to believe the headline",
-        "",
-        "Made by `tools/statement.py`; the gate compares.",
-        "",
-        "The prover checks every proof. What it cannot check is whether a contract says what its reader thinks that it says. So a",
-        "reader who wants to believe the promise of README reads the clauses of four calls (`crates/dns_rdata/src/record_data.rt`,",
-        "`order.rt`) and every definition that they name, directly or through other definitions. These are all of them, each in front",
-        "of what it names. [DEFINITIONS](dev/DEFINITIONS.md) reads them aloud.",
-        "",
-        f"**{total} lines in all.** Blank lines, comments and imports are not counted, nor are the types that code declares and the words",
-        "of the kit's standard library.",
-        "",
-    ]
-    return "\n".join(head + out).rstrip() + "\n"
+    specs, seen, headline, rest = Specs(), set(), [], []
+    fills = specs.reached([("dns_rdata", "Data", "Fills")], seen)
+    out = part(specs, "## `Fills`: which octets are the RDATA of which value", fills)
+    for told in (True, False):
+        out.append("## The clauses of the headline\n" if told else "## The other clauses of these calls\n")
+        for file, start, name, names in CALLS:
+            found, imports = clauses(file, start)
+            lines = [line for clause, text in found if (clause in names) == told for line in text]
+            shown = ", ".join(f"`{clause}`" for clause, _ in found if clause and (clause in names) == told)
+            keys = specs.reached(specs.named_in(lines, imports), seen)
+            (headline if told else rest).extend(keys)
+            out.extend(part(specs, f"### {name}: {shown}", keys))
+    head = f"""# What one must read to believe the headline
+
+Made by `tools/statement.py`; the gate compares.
+
+The prover checks every proof. What it cannot check is whether a contract says what its reader thinks that it says. So a
+reader who wants to believe the promise of README reads some clauses of four calls (`crates/dns_rdata/src/record_data.rt`,
+`order.rt`) and every definition that they name, directly or through other definitions. These are all of them, each in front
+of what it names. [DEFINITIONS](dev/DEFINITIONS.md) reads them aloud.
+
+| | Lines |
+|---|---|
+| `Fills`, which says what octets are the RDATA of a value, and what it names | {size(specs, fills)} |
+| the clauses of the headline, `Fills` included | {size(specs, fills) + size(specs, headline)} |
+| all clauses of these four calls: which error comes when, and what state is left | {size(specs, fills) + size(specs, headline) + size(specs, rest)} |
+
+Blank lines, comments and imports are not counted. The kinds of fields and the rows of the types, which code declares, are.
+Other types that code declares and the words of the kit's standard library are not.
+"""
+    return "\n".join([head, *out]).rstrip() + "\n"
 
 
 write_or_check(PAGE, page())

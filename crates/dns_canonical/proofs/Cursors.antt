@@ -3,7 +3,8 @@ use Rattle.std.proofs.Common.{◌≡◌, ℕ, ◌+◌, ◌-◌, ◌*◌, ◌<◌
 use Rattle.std.proofs.Common.{if◌then◌else◌, sym, ap, ◌∙◌, arith, subst}
 use Rattle.std.proofs.{lemmas.Bool.Decides.nat_tests, lemmas.List.drop-drop, Math.ListN.drop_of_length-le, Math.Seq.drop-append_seam}
 use Rattle.std.specs.{List.AllByRecursion, List.list_all, Cmp.first_so, Cmp.second_so}
-use Rattle.dns_fields.specs.Fields.{Kind, CharacterString, CharacterStrings, Value, Values, is_emittable, all_emittable}
+use Rattle.dns_fields.specs.Fields.{Value, Values, is_emittable, all_emittable}
+use Rattle.dns_fields.specs.declared.Kind.{Kind, TheVariants.CharacterString, TheVariants.CharacterStrings}
 use Rattle.dns_canonical.specs.{Cursor.Remaining, Cursor.Chooses, Cursor.Advances, Steps.IsShort, Steps.AllShort}
 
 -- ---- choices of two calls

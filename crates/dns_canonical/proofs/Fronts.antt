@@ -5,7 +5,9 @@ use Rattle.std.specs.declared.cmp.Ordering.TheVariants.{Less, Equal, Greater}
 use Rattle.std.specs.{Ordering.nat_cmp, Ordering.ordering_then, FinMap.nat_cmp-IsAntisymmetric, declared.cmp.Ordering.Ordering, Cmp.Lexicographic.slice_cmp}
 use Rattle.std.specs.{Char.to_ascii_lowercase, Int.bytes_high_first, Cmp.nat_cmp_is}
 use Rattle.dns_fields.specs.{Fields.field_octets, Fields.canonical, Labels.AreLabels, Labels.lowered}
-use Rattle.dns_fields.specs.Fields.{Kind, Number, Octets, Name, CharacterString, CharacterStrings, Rest, Options, Parameters, Bitmap, Value, Values}
+use Rattle.dns_fields.specs.Fields.{Value, Values}
+use Rattle.dns_fields.specs.declared.Kind.{Kind, TheVariants.Number, TheVariants.Octets, TheVariants.Name, TheVariants.CharacterString}
+use Rattle.dns_fields.specs.declared.Kind.{TheVariants.CharacterStrings, TheVariants.Rest, TheVariants.Options, TheVariants.Parameters, TheVariants.Bitmap}
 use Rattle.dns_fields.proofs.Numbers.{number_cmp, length-bytes}
 use Rattle.dns_canonical.specs.Fronts.{canonical_cmp, field_cmp, fields_cmp, EndsAlike, AllEndAlike}
 use Rattle.dns_canonical.proofs.{Comparing.cmp_shared, Comparing.then_assoc, Comparing.then_equal, Comparing.then_kept, Comparing.apart, Sharing.same_further}

@@ -1,7 +1,9 @@
 -- The order of canonical octets, and field by field.
 use Rattle.std.specs.Prelude.{◌≡◌, List, [], ◌∷◌, length}
 use Rattle.std.specs.{Cmp.Lexicographic.slice_cmp, Ordering.nat_cmp, Ordering.ordering_then, declared.cmp.Ordering.Ordering}
-use Rattle.dns_fields.specs.Fields.{Kind, Number, Octets, Name, CharacterString, Value, Values, canonical, field_octets}
+use Rattle.dns_fields.specs.Fields.{Value, Values, canonical, field_octets}
+use Rattle.dns_fields.specs.declared.Kind.{Kind, TheVariants.Number, TheVariants.Octets, TheVariants.Name}
+use Rattle.dns_fields.specs.declared.Kind.{TheVariants.CharacterString}
 use Rattle.dns_fields.specs.Labels.{AreLabels}
 
 -- by the first difference of the canonical octets, a proper beginning before what goes on

@@ -2,7 +2,8 @@
 -- and, in a list that takes a step for each part, the part and the item in it.
 use Rattle.std.specs.Prelude.{◌≡◌, ℕ, zero, suc, ◌+◌, ◌*◌, ◌<◌, ◌≤◌, Option, Some, None, List, [], ◌∷◌, ◌++◌, length}
 use Rattle.std.specs.List.{AllByRecursion}
-use Rattle.dns_fields.specs.Fields.{Kind, CharacterString, CharacterStrings, Value, Values, canonical}
+use Rattle.dns_fields.specs.Fields.{Value, Values, canonical}
+use Rattle.dns_fields.specs.declared.Kind.{Kind, TheVariants.CharacterString, TheVariants.CharacterStrings}
 use Rattle.dns_canonical.specs.declared.step.Step.{Step}
 
 -- the octets of a record that are left at each position

@@ -1,7 +1,8 @@
 //! A few octets that are kept.
 
 ghost use Rattle.std.specs.Prelude.{◌≡◌, ◌+◌, ◌<◌, ◌≤◌, [], ◌++◌, length, ℕ, List};
-ghost use Rattle.dns_fields.specs.Fields.{Number, CharacterString, field_octets};
+ghost use Rattle.dns_fields.specs.Fields.{field_octets};
+ghost use Rattle.dns_fields.specs.declared.Kind.{TheVariants.Number, TheVariants.CharacterString};
 
 use crate::tail::Tail;
 use arrayvec::ArrayVec;

@@ -2,7 +2,9 @@
 
 ghost use Rattle.std.specs.Prelude.{◌≡◌, ◌<◌, ◌≤◌, ◌^◌, ◌⊎◌, length};
 ghost use Rattle.std.specs.{Cmp.Lexicographic.slice_cmp, Int.bytes_high_first, Ordering.nat_cmp, Ordering.ordering_then};
-ghost use Rattle.dns_fields.specs.{Fields.Name as NameKind, Fields.Number, Fields.Rest, Fields.CharacterString, Fields.field_octets, Labels.AreLabels};
+ghost use Rattle.dns_fields.specs.{declared.Kind.TheVariants.Name as NameKind, declared.Kind.TheVariants.Number};
+ghost use Rattle.dns_fields.specs.{declared.Kind.TheVariants.Rest, declared.Kind.TheVariants.CharacterString};
+ghost use Rattle.dns_fields.specs.{Fields.field_octets, Labels.AreLabels};
 ghost use Rattle.dns_canonical.specs.Runs.{next_order};
 
 use crate::tail::Tail;

@@ -2,7 +2,8 @@
 
 ghost use Rattle.std.specs.Prelude.{◌≡◌, ◌+◌, ◌<◌, ◌^◌, [], ◌∷◌, ◌++◌, length as size, take, drop, map, min, MatchOption, ℕ, List};
 ghost use Rattle.std.specs.{Cmp.Lexicographic.slice_cmp, Char.to_ascii_lowercase, Ordering.nat_cmp};
-ghost use Rattle.dns_fields.specs.Fields.{Name as NameKind, Rest, field_octets};
+ghost use Rattle.dns_fields.specs.Fields.{field_octets};
+ghost use Rattle.dns_fields.specs.declared.Kind.{TheVariants.Name as NameKind, TheVariants.Rest};
 ghost use Rattle.dns_canonical.specs.Runs.{Shares, Copies, tail_octets};
 
 use crate::common::{common_beginning, common_lowered};

@@ -5,7 +5,8 @@ use Rattle.std.specs.{List.flat_map, List.AllByRecursion, List.list_any, Int.bit
 use Rattle.std.proofs.lemmas.List.{length-append}
 use Rattle.dns_fields.specs.{Octets.At}
 use Rattle.dns_fields.specs.Bitmaps.{Block, block, IsBlock, IsTypeSet, has_type, minimal, window, types_octet, mark, BitmapAt}
-use Rattle.dns_fields.specs.Fields.{Bitmap, Field, field_octets}
+use Rattle.dns_fields.specs.Fields.{Field, field_octets}
+use Rattle.dns_fields.specs.declared.Kind.{TheVariants.Bitmap}
 use Rattle.dns_fields.specs.Examples.{BitmapExamples}
 use Rattle.dns_fields.proofs.{Bitmaps.minimal_first, Bitmaps.minimal_types}
 use Rattle.dns_fields.proofs.Examples.{reads, next, at, At-whole, number}

@@ -6,7 +6,8 @@ use Rattle.std.proofs.lemmas.Bool.Decides.{nat_tests}
 use Rattle.dns_fields.specs.Tlvs.{Numbered, OptionValue, Subnet, OpaqueOption, option_octets, OptionFits, IsAddress, option_emittable, options_emittable}
 use Rattle.dns_fields.specs.Tlvs.{ParameterValue, Mandatory, Alpn, parameter_octets, ParameterFits, IsEmittable, parameter_emittable, is_some}
 use Rattle.dns_fields.specs.Tlvs.{Below, Rising, rising_behind, rising}
-use Rattle.dns_fields.specs.Fields.{Kind, CharacterString, CharacterStrings, Options, Parameters, Value, Values, Fits, AllFit, is_emittable, all_emittable}
+use Rattle.dns_fields.specs.Fields.{Value, Values, Fits, AllFit, is_emittable, all_emittable}
+use Rattle.dns_fields.specs.declared.Kind.{Kind, TheVariants.CharacterString, TheVariants.CharacterStrings, TheVariants.Options, TheVariants.Parameters}
 
 short_string : (s : List ℕ) → length s < 256 → nat_le (length s) 255 ≡ true
 short_string s h = grind (arith, nat_tests)

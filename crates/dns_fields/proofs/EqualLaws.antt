@@ -3,7 +3,8 @@ use Rattle.std.proofs.Common.{◌≡◌, ℕ, zero, suc, ◌↔◌, List, [], �
 use Rattle.std.specs.{Bool.Decides, Cmp.unsigned_Decides, Cmp.booleans_Decides, Cmp.Lexicographic.pointwise, Cmp.Lexicographic.pointwise_decides}
 use Rattle.std.specs.{FinMap.IsAntisymmetric, FinMap.nat_cmp-IsAntisymmetric, FinMap.slice_cmp-IsAntisymmetric, List.Sorted.IsPermutation}
 use Rattle.std.proofs.{lemmas.Bool.Decides.Decides-and, lemmas.List.Sorted.IsPermutation-map}
-use Rattle.dns_fields.specs.{Labels.lowname, Fields.Kind, Fields.Number, Fields.Name, Fields.CharacterStrings, Fields.Options, Fields.Parameters, Fields.Value}
+use Rattle.dns_fields.specs.{Labels.lowname, declared.Kind.Kind, declared.Kind.TheVariants.Number, declared.Kind.TheVariants.Name}
+use Rattle.dns_fields.specs.{declared.Kind.TheVariants.CharacterStrings, declared.Kind.TheVariants.Options, declared.Kind.TheVariants.Parameters, Fields.Value}
 use Rattle.dns_fields.specs.{Fields.SameField, Fields.IsFull, Equal.Key, Equal.key_eq, Equal.key_cmp, Equal.option_key_of, Equal.option_key}
 use Rattle.dns_fields.specs.{Equal.option_keys, Equal.parameter_key_of, Equal.parameter_key, Equal.parameter_keys, Equal.kind_eq, Laws.EqualLaw}
 use Rattle.dns_fields.specs.Tlvs.{Numbered, OptionValue, Subnet, OpaqueOption, ParameterValue, Mandatory, Alpn, NoDefaultAlpn, Port, Ipv4Hint, Ipv6Hint}

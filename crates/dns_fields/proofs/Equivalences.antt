@@ -3,7 +3,8 @@ use Rattle.std.specs.Prelude.{[], ◌∷◌, List}
 use Rattle.std.specs.{Cmp.IsEquivalence, Cmp.and_equiv, Cmp.on_equiv, Cmp.bool_eq_equiv, Cmp.nat_eq_equiv, Cmp.Derive.point_equiv}
 use Rattle.std.specs.Cmp.Lexicographic.{pointwise, lists_equiv, nat_list_eq_equiv, on_texts_equal}
 use Rattle.dns_fields.specs.{Labels.lowname, Comparing.is_qualified, Equal.key_eq, Equal.option_keys, Equal.parameter_keys, Equal.kind_eq}
-use Rattle.dns_fields.specs.{Equal.values_eq, Fields.Kind, Fields.Number, Fields.Name, Fields.CharacterStrings, Fields.Options, Fields.Parameters, Fields.Values}
+use Rattle.dns_fields.specs.{Equal.values_eq, declared.Kind.Kind, declared.Kind.TheVariants.Number, declared.Kind.TheVariants.Name}
+use Rattle.dns_fields.specs.{declared.Kind.TheVariants.CharacterStrings, declared.Kind.TheVariants.Options, declared.Kind.TheVariants.Parameters, Fields.Values}
 
 keys_equiv : IsEquivalence (pointwise key_eq)
 keys_equiv = lists_equiv (lists_equiv nat_list_eq_equiv)

@@ -7,7 +7,8 @@ use Rattle.std.proofs.lemmas.Str.{IsUtf8-from_ascii, is_utf8-from_IsUtf8}
 use Rattle.dns_fields.specs.{Octets.At, Labels.DomainName, Labels.FitsName, Names.LabelsStand, Names.LabelsStand.whole, Names.LabelsStand.pointed}
 use Rattle.dns_fields.specs.Tlvs.{IsAddress, string, Numbered, tlv, tlvs, IsTlv, AreTlvs, OptionValue, Subnet, OpaqueOption, OptionHeld, AllHeld}
 use Rattle.dns_fields.specs.Tlvs.{IsTruncated, ParameterValue, ParameterHeld, Rising, Port, Mandatory, Alpn, NoDefaultAlpn, Ipv4Hint, Ipv6Hint, Opaque}
-use Rattle.dns_fields.specs.Fields.{Kind, Number, Name, Options, Parameters, Values, Field, Stands, canonical, field_octets, CompleteOptions}
+use Rattle.dns_fields.specs.Fields.{Values, Field, Stands, canonical, field_octets, CompleteOptions}
+use Rattle.dns_fields.specs.declared.Kind.{Kind, TheVariants.Number, TheVariants.Name, TheVariants.Options, TheVariants.Parameters}
 use Rattle.dns_fields.specs.Fields.{ParametersAt}
 use Rattle.dns_fields.specs.Examples.{Reads, HoldsNone, full, www_label, www_twice, example_label, com_label, xxx_label, twenty, address_of_six}
 use Rattle.dns_fields.specs.Examples.{StringExamples, NameExamples, OptionExamples, ParameterExamples}

@@ -5,8 +5,10 @@ use Rattle.std.proofs.lemmas.List.Sorted.{IsPermutation-refl, IsPermutation-sym,
 use Rattle.dns_fields.specs.{Sorting.sorted, declared.RDataEncoding.RDataEncoding, Labels.full_name}
 use Rattle.dns_fields.specs.Tlvs.{string, Numbered, tlv, tlvs, AllHeld, as_tlv, HoldThemselves, OptionValue, option_octets, OptionHeld}
 use Rattle.dns_fields.specs.Tlvs.{OptionFits, parameter_octets, ParameterHeld, ParameterFits}
-use Rattle.dns_fields.specs.Fields.{Options, Parameters, Lawful, option_tlvs, parameter_tlvs, CompleteOptions, TruncatedOptions, Bitmap, Kind, Number}
-use Rattle.dns_fields.specs.Fields.{Octets, Name, CharacterString, CharacterStrings, Rest, Value, field_octets, Fits, Field, WroteField, SameField, EndsItself, IsFull}
+use Rattle.dns_fields.specs.Fields.{Lawful, option_tlvs, parameter_tlvs, CompleteOptions, TruncatedOptions}
+use Rattle.dns_fields.specs.declared.Kind.{TheVariants.Options, TheVariants.Parameters, TheVariants.Bitmap, Kind, TheVariants.Number}
+use Rattle.dns_fields.specs.Fields.{Value, field_octets, Fits, Field, WroteField, SameField, EndsItself, IsFull}
+use Rattle.dns_fields.specs.declared.Kind.{TheVariants.Octets, TheVariants.Name, TheVariants.CharacterString, TheVariants.CharacterStrings, TheVariants.Rest}
 use Rattle.dns_fields.proofs.{Bitmaps.bitmap_same, Bitmaps.bitmap_append, Bitmaps.minimal_stands, Numbers.length-bytes, Numbers.same_number}
 use Rattle.dns_fields.proofs.Sorted.{octets_cmp, sorted_same, sorted_permutes, sorted_all, map_sorted, flat_map_all, length_sorted}
 use Rattle.dns_fields.proofs.Tlvs.{tlvs_same, complete_or_truncated, held_same, held_fit, lawful_held, fit_tlvs}

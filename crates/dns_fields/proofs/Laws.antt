@@ -2,7 +2,8 @@
 use Rattle.std.proofs.Common.{◌≡◌, ℕ, ◌≤◌, List, [], ◌∷◌, ◌++◌, length, refl, sym, ap, ◌∙◌, arith, subst, append_assoc}
 use Rattle.std.proofs.lemmas.List.{length-append, append-nil}
 use Rattle.dns_fields.specs.{declared.RDataEncoding.RDataEncoding, declared.RDataEncoding.TheVariants.Other}
-use Rattle.dns_fields.specs.Fields.{Kind, Value, Values, Field, Stands, Wrote, Same, AllFit, AllLawful, canonical, field_octets, AllFull}
+use Rattle.dns_fields.specs.Fields.{Value, Values, Field, Stands, Wrote, Same, AllFit, AllLawful, canonical, field_octets, AllFull}
+use Rattle.dns_fields.specs.declared.Kind.{Kind}
 use Rattle.dns_fields.specs.Laws.{IsShape, StandsLaw, OneEnd, CanonicalLaw, CanonicalReads}
 use Rattle.dns_fields.proofs.FieldLaws.{field_append, field_same, field_end, field_fits, field_lawful, wrote_field, wrote_tail, wrote_fits}
 use Rattle.dns_fields.proofs.FieldLaws.{octets_wrote, octets_same, same_sym, same_then, field_full}

@@ -10,7 +10,9 @@ use Rattle.dns_fields.specs.Tlvs.{Numbered, tlv, tlvs, AllHeld, as_tlv, OptionVa
 use Rattle.dns_fields.specs.Tlvs.{ParameterValue, Alpn, Port, parameter_octets, IsBody}
 use Rattle.dns_fields.specs.Tlvs.{ParameterHeld}
 use Rattle.dns_fields.specs.Bitmaps.{Block, block, IsBlock, mark, keep, trimmed, types_octet, window, minimal}
-use Rattle.dns_fields.specs.Fields.{Kind, Number, Name, Rest, Options, Parameters, Bitmap, Value, Field, field_octets, canonical}
+use Rattle.dns_fields.specs.Fields.{Value, Field, field_octets, canonical}
+use Rattle.dns_fields.specs.declared.Kind.{Kind, TheVariants.Number, TheVariants.Name, TheVariants.Rest, TheVariants.Options, TheVariants.Parameters}
+use Rattle.dns_fields.specs.declared.Kind.{TheVariants.Bitmap}
 use Rattle.dns_fields.specs.Fields.{option_tlvs, parameter_tlvs, CompleteOptions, TruncatedOptions}
 use Rattle.dns_fields.proofs.{Stays.labels_stand, Sorted.octets_cmp, Sorted.sorted_all, Bitmaps.mark_small, Bitmaps.minimal_fit, Bitmaps.minimal_all, Bitmaps.packed_less}
 

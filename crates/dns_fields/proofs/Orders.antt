@@ -5,7 +5,9 @@ use Rattle.std.specs.Cmp.{IsTotalOrder, then_total, on_total, nat_cmp_total, boo
 use Rattle.std.specs.Cmp.Lexicographic.{pointwise, slice_cmp, lists_total, lists_ties, texts_ties, nat_list_cmp_total}
 use Rattle.dns_fields.specs.{Labels.lowname, Comparing.is_qualified, Order.kind_cmp, Order.values_cmp}
 use Rattle.dns_fields.specs.Equal.{Key, key_eq, key_cmp, option_keys, parameter_keys, kind_eq, values_eq}
-use Rattle.dns_fields.specs.Fields.{Kind, Number, Name, CharacterStrings, Options, Parameters, Value, Values}
+use Rattle.dns_fields.specs.Fields.{Value, Values}
+use Rattle.dns_fields.specs.declared.Kind.{Kind, TheVariants.Number, TheVariants.Name, TheVariants.CharacterStrings, TheVariants.Options}
+use Rattle.dns_fields.specs.declared.Kind.{TheVariants.Parameters}
 
 pub key_total : IsTotalOrder key_cmp
 key_total = lists_total nat_list_cmp_total

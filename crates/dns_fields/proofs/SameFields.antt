@@ -5,7 +5,9 @@ use Rattle.std.specs.{Cmp.Lexicographic.pointwise_decides, List.list_all, List.l
 use Rattle.std.specs.Cmp.{first_so, second_so, unsigned_Decides}
 use Rattle.std.proofs.lemmas.List.Sorted.{list_any-IsPermutation}
 use Rattle.dns_fields.specs.{Labels.lowname, Equal.kind_eq, Equal.values_eq}
-use Rattle.dns_fields.specs.Fields.{Kind, Name, CharacterString, CharacterStrings, Options, Parameters, Value, Values, SameField, Same}
+use Rattle.dns_fields.specs.Fields.{Value, Values, SameField, Same}
+use Rattle.dns_fields.specs.declared.Kind.{Kind, TheVariants.Name, TheVariants.CharacterString, TheVariants.CharacterStrings, TheVariants.Options}
+use Rattle.dns_fields.specs.declared.Kind.{TheVariants.Parameters}
 use Rattle.dns_fields.specs.Fields.{is_emittable, all_emittable}
 use Rattle.dns_fields.specs.Tlvs.{option_octets, option_emittable, parameters_emittable}
 use Rattle.dns_fields.proofs.EqualLaws.{field_decide}

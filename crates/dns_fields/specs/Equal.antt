@@ -6,7 +6,10 @@ use Rattle.std.specs.{Cmp.Lexicographic.pointwise, Cmp.Lexicographic.slice_cmp, 
 use Rattle.dns_fields.specs.{Sorting.sorted, Comparing.name_eq}
 use Rattle.dns_fields.specs.Tlvs.{Numbered, OptionValue, Subnet, OpaqueOption, ParameterValue, Mandatory, Alpn, NoDefaultAlpn, Port, Ipv4Hint, Ipv6Hint}
 use Rattle.dns_fields.specs.Tlvs.{Opaque}
-use Rattle.dns_fields.specs.Fields.{Kind, Number, Octets, Name, CharacterString, CharacterStrings, Rest, Options, Parameters, Bitmap, Value, Values}
+use Rattle.dns_fields.specs.Fields.{Value, Values}
+use Rattle.dns_fields.specs.declared.Kind.{Kind, TheVariants.Number, TheVariants.Octets, TheVariants.Name}
+use Rattle.dns_fields.specs.declared.Kind.{TheVariants.CharacterString, TheVariants.CharacterStrings, TheVariants.Rest}
+use Rattle.dns_fields.specs.declared.Kind.{TheVariants.Options, TheVariants.Parameters, TheVariants.Bitmap}
 
 -- a pair as lists of numbers: its number and what its value is, and then what the value holds
 abbrev pub Key : Type 0

@@ -3,7 +3,10 @@ use Rattle.std.specs.Prelude.{◌≡◌, ℕ, true, false, List, [], ◌∷◌, 
 use Rattle.std.specs.declared.cmp.Ordering.TheVariants.{Less, Equal}
 use Rattle.dns_fields.specs.{Labels.DomainName, Equal.values_eq, Order.values_cmp}
 use Rattle.dns_fields.specs.Tlvs.{Subnet, OpaqueOption, Mandatory, Alpn, Port, Ipv4Hint, Ipv6Hint, Opaque}
-use Rattle.dns_fields.specs.Fields.{Kind, Number, Octets, Name, CharacterString, CharacterStrings, Rest, Options, Parameters, Bitmap, Values, Stands, canonical}
+use Rattle.dns_fields.specs.Fields.{Values, Stands, canonical}
+use Rattle.dns_fields.specs.declared.Kind.{Kind, TheVariants.Number, TheVariants.Octets, TheVariants.Name}
+use Rattle.dns_fields.specs.declared.Kind.{TheVariants.CharacterString, TheVariants.CharacterStrings, TheVariants.Rest}
+use Rattle.dns_fields.specs.declared.Kind.{TheVariants.Options, TheVariants.Parameters, TheVariants.Bitmap}
 
 -- in the message the values are between two offsets, and these are their canonical octets
 pub record Reads (message : List ℕ) (start end : ℕ) (kinds : List Kind) (values : Values kinds)

@@ -1,4 +1,7 @@
 -- The grammar of RDATA: each type is a list of kinds of fields.
+use Rattle.dns_fields.specs.declared.Kind.{Kind}
+use Rattle.dns_fields.specs.declared.Kind.TheVariants.{Number, Octets, Name, CharacterString, CharacterStrings, Rest}
+use Rattle.dns_fields.specs.declared.Kind.TheVariants.{Options, Parameters, Bitmap}
 use Rattle.std.specs.Prelude.{◌≡◌, Bool, true, nat_le, ◌&&◌, ℕ, ◌<◌, ◌^◌, List, [], ◌∷◌, ◌++◌, length, ◌-◌, ◌⊎◌, map}
 use Rattle.std.specs.{Int.bytes_high_first, List.Sorted.IsPermutation, Ordering.nat_cmp, Cmp.Lexicographic.slice_cmp}
 use Rattle.std.specs.List.{flat_map, list_all, AllByRecursion}
@@ -7,26 +10,6 @@ use Rattle.dns_fields.specs.{Names.IsNameIn, Names.NameWrote, Names.SameName, Bi
 use Rattle.dns_fields.specs.Tlvs.{string, Numbered, tlv, tlvs, AreTlvs, AllHeld, as_tlv, HoldThemselves, OptionValue, option_octets}
 use Rattle.dns_fields.specs.Tlvs.{OptionHeld, OptionFits, options_emittable, IsTruncated, ParameterValue, parameter_octets, ParameterHeld, ParameterFits}
 use Rattle.dns_fields.specs.Tlvs.{Rising, parameters_emittable}
-
-pub data Kind : Type 0 where
-  -- an unsigned number of so many octets, the highest first
-  Number : ℕ → Kind
-  -- so many octets
-  Octets : ℕ → Kind
-  -- a domain name
-  Name : Kind
-  -- a character string
-  CharacterString : Kind
-  -- character strings to the end
-  CharacterStrings : Kind
-  -- every octet to the end
-  Rest : Kind
-  -- options of EDNS, the whole record
-  Options : Kind
-  -- parameters of service binding, to the end
-  Parameters : Kind
-  -- a set of type numbers, to the end
-  Bitmap : Kind
 
 -- what a field of this kind holds
 abbrev pub Value : Kind → Type 0

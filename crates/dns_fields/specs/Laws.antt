@@ -1,7 +1,9 @@
 -- What holds of every list of kinds.
 use Rattle.std.specs.Prelude.{◌≡◌, ◌↔◌, ℕ, List, [], ◌∷◌, length}
 use Rattle.dns_fields.specs.{declared.RDataEncoding.RDataEncoding, Octets.AreOctets, Equal.values_eq, Order.values_cmp}
-use Rattle.dns_fields.specs.Fields.{Kind, Value, Values, Field, Stands, canonical, AllFit, AllLawful, AllFull, Wrote, Same, EndsItself}
+use Rattle.dns_fields.specs.Fields.{Value, Values, Field, Stands, canonical, AllFit, AllLawful, AllFull, Wrote, Same}
+use Rattle.dns_fields.specs.Fields.{EndsItself}
+use Rattle.dns_fields.specs.declared.Kind.{Kind}
 use Rattle.std.specs.{Bool.Decides, Cmp.IsEquivalence, Cmp.IsTotalOrder, Ordering.is_eq}
 
 -- each field but the last says where it ends

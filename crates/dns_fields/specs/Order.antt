@@ -3,7 +3,10 @@ use Rattle.std.specs.Prelude.{List, [], ◌∷◌}
 use Rattle.std.specs.{Cmp.Lexicographic.slice_cmp, Ordering.nat_cmp, Ordering.ordering_then, declared.cmp.Ordering.Ordering}
 use Rattle.std.specs.declared.cmp.Ordering.TheVariants.{Equal}
 use Rattle.dns_fields.specs.{Comparing.name_cmp, Equal.key_cmp, Equal.option_keys, Equal.parameter_keys}
-use Rattle.dns_fields.specs.Fields.{Kind, Number, Octets, Name, CharacterString, CharacterStrings, Rest, Options, Parameters, Bitmap, Value, Values}
+use Rattle.dns_fields.specs.Fields.{Value, Values}
+use Rattle.dns_fields.specs.declared.Kind.{Kind, TheVariants.Number, TheVariants.Octets, TheVariants.Name}
+use Rattle.dns_fields.specs.declared.Kind.{TheVariants.CharacterString, TheVariants.CharacterStrings, TheVariants.Rest}
+use Rattle.dns_fields.specs.declared.Kind.{TheVariants.Options, TheVariants.Parameters, TheVariants.Bitmap}
 
 abbrev pub kind_cmp : (k : Kind) → Value k → Value k → Ordering
 kind_cmp (Number w) a b = nat_cmp a b

@@ -17,6 +17,29 @@ pub enum RDataEncoding {
     Other,
 }
 
+/// A kind of field of RDATA: how its octets are laid out. A type of record is a list of kinds.
+#[derive(Clone, Copy, Debug, PartialEq, Eq)]
+pub enum Kind {
+    /// An unsigned number of so many octets, the highest first (RFC 1035, 2.3.2).
+    Number(u8),
+    /// So many octets.
+    Octets(u8),
+    /// A domain name (RFC 1035, 3.1 and 4.1.4).
+    Name,
+    /// A character string: one octet of length and at most 255 octets (RFC 1035, 3.3).
+    CharacterString,
+    /// Character strings up to the end of the RDATA.
+    CharacterStrings,
+    /// All octets up to the end of the RDATA.
+    Rest,
+    /// Options of EDNS: the whole RDATA (RFC 6891, 6.1.2).
+    Options,
+    /// Parameters of a service binding, up to the end of the RDATA (RFC 9460, 2.2).
+    Parameters,
+    /// A bitmap of type numbers, up to the end of the RDATA (RFC 4034, 4.1.2).
+    Bitmap,
+}
+
 /// Laws of reading and writing, for every list of kinds of fields.
 pub fn fields_hold()
     // Fields at an offset have one value, and it can be emitted.

@@ -2,7 +2,8 @@
 use Rattle.std.proofs.Common.{◌≡◌, ℕ, ◌+◌, ◌≤◌, ◌<◌, List, [], ◌∷◌, length, refl, sym, ◌∙◌, arith, subst}
 use Rattle.dns_names_wire.specs.State.{Reading}
 use Rattle.dns_names_wire.specs.Terms.{TookField, LacksField, Took, Lacks, StaysBehind, UnlessMemory, RefusedField, Refused, IsLong}
-use Rattle.dns_fields.specs.Fields.{Kind, Number, Value, Values, Field, Stands, EndsItself}
+use Rattle.dns_fields.specs.Fields.{Value, Values, Field, Stands, EndsItself}
+use Rattle.dns_fields.specs.declared.Kind.{Kind, TheVariants.Number}
 use Rattle.dns_types.specs.declared.error.DecodeError.{DecodeError}
 use Rattle.dns_types.specs.declared.error.DecodeError.TheVariants as decode
 use Rattle.dns_fields.proofs.{Numbers.length-bytes, FieldLaws.field_inside, FieldLaws.field_same, FieldLaws.field_end}

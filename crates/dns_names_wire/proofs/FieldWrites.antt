@@ -4,7 +4,8 @@ use Rattle.std.proofs.{lemmas.List.length-append, lemmas.List.append-nil, Math.B
 use Rattle.std.specs.Result.{IsErrAnd}
 use Rattle.dns_names_wire.specs.{Terms.Stopped, Terms.Emits, Terms.EmitsAs, Terms.EmitsField, State.Writing}
 use Rattle.dns_names_wire.specs.Terms.{AppendedField, Appended, Keeps, WithinLimit, Extends, NoRoomField, NoRoom, UnfitField, Unfit, Because, StoppedField}
-use Rattle.dns_fields.specs.Fields.{Kind, Octets, Rest, Value, Values, Wrote, is_emittable, canonical, field_octets}
+use Rattle.dns_fields.specs.Fields.{Value, Values, Wrote, is_emittable, canonical, field_octets}
+use Rattle.dns_fields.specs.declared.Kind.{Kind, TheVariants.Octets, TheVariants.Rest}
 use Rattle.dns_fields.specs.declared.RDataEncoding.{RDataEncoding}
 use Rattle.dns_types.specs.declared.error.ProtoError.{ProtoError}
 use Rattle.dns_fields.proofs.FieldLaws.{wrote_tail}

@@ -3,7 +3,8 @@ use Rattle.std.proofs.Common.{◌≡◌, ℕ, ◌<◌, ◌≤◌, ◌%◌, List,
 use Rattle.std.proofs.lemmas.List.{length-append, append-nil}
 use Rattle.std.specs.Int.{bytes_high_first}
 use Rattle.dns_names_wire.specs.{Terms.AppendedField, Terms.Appended, Terms.WithinLimit, Terms.Stopped, Terms.Emits, Terms.EmitsField, State.Writing}
-use Rattle.dns_fields.specs.Fields.{Kind, Number, Octets, CharacterString, Rest, Values, Wrote, WroteField, AllFit, canonical, field_octets}
+use Rattle.dns_fields.specs.Fields.{Values, Wrote, WroteField, AllFit, canonical, field_octets}
+use Rattle.dns_fields.specs.declared.Kind.{Kind, TheVariants.Number, TheVariants.Octets, TheVariants.CharacterString, TheVariants.Rest}
 use Rattle.dns_fields.specs.declared.RDataEncoding.{RDataEncoding}
 use Rattle.dns_types.specs.declared.error.ProtoError.{ProtoError}
 use Rattle.dns_names_wire.proofs.FieldWrites.{keeps_then, emits_then, because_map, all_tail}

@@ -3,7 +3,8 @@ use Rattle.std.proofs.Common.{◌≡◌, ℕ, Bool, ◌+◌, ◌<◌, ◌≤◌,
 use Rattle.std.proofs.lemmas.List.{append-nil}
 use Rattle.std.specs.Result.{OnOk, OnErr, IfErr}
 use Rattle.dns_labels.specs.{Messages.Written, Messages.StaysInVector, Labels.AreNameOctets, Labels.name_of}
-use Rattle.dns_fields.specs.{declared.RDataEncoding.RDataEncoding, Fields.Name, Fields.field_octets, Names.NameWrote, Names.IsNameIn, Labels.DomainName}
+use Rattle.dns_fields.specs.{declared.RDataEncoding.RDataEncoding, declared.Kind.TheVariants.Name, Fields.field_octets, Names.NameWrote, Names.IsNameIn}
+use Rattle.dns_fields.specs.{Labels.DomainName}
 use Rattle.dns_fields.proofs.NameLaws.{lowname_length, name_inside}
 use Rattle.dns_types.specs.declared.error.ProtoError.{ProtoError}
 use Rattle.dns_names_wire.specs.Terms.{NoRoomField, UnfitField, Because, EmitsField, TookField, StaysBehind}

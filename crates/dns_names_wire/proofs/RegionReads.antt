@@ -2,7 +2,7 @@
 use Rattle.std.proofs.Common.{◌≡◌, ℕ, ◌+◌, ◌<◌, List, [], ◌∷◌, refl, sym, ◌∙◌, Result, Ok, Err}
 use Rattle.std.specs.Result.{IfErr}
 use Rattle.dns_types.specs.declared.error.DecodeError.{DecodeError}
-use Rattle.dns_fields.specs.{Octets.AreOctets, Fields.Kind, Fields.Values, Fields.Stands}
+use Rattle.dns_fields.specs.{Octets.AreOctets, declared.Kind.Kind, Fields.Values, Fields.Stands}
 use Rattle.dns_fields.proofs.FieldLaws.{field_end}
 use Rattle.dns_names_wire.specs.{State.Reading, Terms.Took, Terms.Lacks, Terms.Refused, Terms.StaysBehind, Terms.ReadsIf, Terms.ReadsTo}
 use Rattle.dns_names_wire.specs.{Terms.ReadsBy, Terms.IsLong, Terms.AllEnd, Terms.Region, Terms.RefusedRegion, Terms.ReadsRegion}

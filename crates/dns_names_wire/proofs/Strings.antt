@@ -3,7 +3,8 @@ use Rattle.std.proofs.Common.{◌≡◌, ℕ, ◌+◌, ◌%◌, List, [], ◌∷
 use Rattle.std.proofs.lemmas.List.{length-append, drop-drop, take-take, take_at, drop_at, drop-take, take-append-drop}
 use Rattle.std.proofs.Math.Nat.{mod-eq_of_lt}
 use Rattle.dns_names_wire.specs.{State.Reading, Terms.TookField}
-use Rattle.dns_fields.specs.{Fields.Number, Fields.Octets, Fields.CharacterString, Fields.Rest, Fields.Field, Octets.At}
+use Rattle.dns_fields.specs.{declared.Kind.TheVariants.Number, declared.Kind.TheVariants.Octets, declared.Kind.TheVariants.CharacterString}
+use Rattle.dns_fields.specs.{declared.Kind.TheVariants.Rest, Fields.Field, Octets.At}
 
 -- the front and the rest of octets that stand
 pub at_front : {m : List ℕ} {p r : ℕ} (x y : List ℕ) → At m p (x ++ y) r → At m p x (p + length x)

@@ -3,7 +3,8 @@ use Rattle.std.specs.Prelude.{ℕ, ◌≡◌, ◌+◌, Bool, List, Result}
 use Rattle.std.specs.{Ordering.on, declared.cmp.Ordering.Ordering}
 use Rattle.std.specs.Cmp.{IsEquivalence, IsPartialEquivalence, on_equiv, partial_equiv_from_equiv}
 use Rattle.dns_types.specs.{declared.error.DecodeError.DecodeError, declared.error.ProtoError.ProtoError}
-use Rattle.dns_fields.specs.{declared.RDataEncoding.RDataEncoding, Equal.values_eq, Fields.Kind, Fields.Values, Fields.Stands, Order.values_cmp}
+use Rattle.dns_fields.specs.{declared.RDataEncoding.RDataEncoding, Equal.values_eq, declared.Kind.Kind, Fields.Values}
+use Rattle.dns_fields.specs.{Fields.Stands, Order.values_cmp}
 use Rattle.dns_fields.proofs.Equivalences.{values_equiv}
 use Rattle.dns_names_wire.specs.{State.Reading, State.Writing, Terms.EmitsAs, Terms.Refused}
 

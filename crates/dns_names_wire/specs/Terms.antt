@@ -4,7 +4,9 @@ use Rattle.dns_types.specs.{declared.error.DecodeError.DecodeError, declared.err
 use Rattle.dns_types.specs.declared.error.DecodeError.TheVariants as decode
 use Rattle.dns_types.specs.declared.error.ProtoError.TheVariants as proto
 use Rattle.dns_fields.specs.{declared.RDataEncoding.RDataEncoding, Octets.AreOctets}
-use Rattle.dns_fields.specs.Fields.{Kind, Number, Name, Value, Values, Field, Stands, WroteField, Wrote, is_emittable, all_emittable, EndsItself}
+use Rattle.dns_fields.specs.Fields.{Value, Values, Field, Stands, WroteField, Wrote, is_emittable, all_emittable}
+use Rattle.dns_fields.specs.Fields.{EndsItself}
+use Rattle.dns_fields.specs.declared.Kind.{Kind, TheVariants.Number, TheVariants.Name}
 use Rattle.dns_fields.specs.Fields.{canonical, field_octets}
 use Rattle.dns_names_wire.specs.State.{Reading, Writing}
 

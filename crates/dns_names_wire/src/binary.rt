@@ -3,7 +3,8 @@
 ghost use Rattle.std.specs.Prelude.{◌≡◌, ℕ, List, Result, IfErr, OnErr};
 ghost use Rattle.dns_types.specs.{RecordTypes.number_of, RecordTypes.record_type_of, declared.error.ProtoError.ProtoError as ProtoErrorValue};
 ghost use Rattle.dns_types.specs.declared.error.DecodeError.{DecodeError as DecodeErrorValue};
-ghost use Rattle.dns_fields.specs.Fields.{Field, Number};
+ghost use Rattle.dns_fields.specs.Fields.{Field};
+ghost use Rattle.dns_fields.specs.declared.Kind.{TheVariants.Number};
 ghost use Rattle.dns_names_wire.specs.{State.Reading, State.Writing, Terms.ReadsBy, Terms.IsTruncated, Terms.EmitsField, Terms.Extends, Terms.LacksOctets};
 
 use crate::decoder::BinDecoder;

@@ -2,7 +2,9 @@
 
 ghost use Rattle.std.specs.Prelude.{◌≡◌, true, ◌+◌, ◌*◌, ◌-◌, ◌/◌, ◌^◌, ◌<◌, ◌≤◌, ◌⊎◌, ℕ, ◌↔◌, IsTrue, length, drop, slice_get, IfOk, IfErr, OnOk, OnErr};
 ghost use Rattle.std.specs.Int.{cast_unsigned, w32};
-ghost use Rattle.dns_fields.specs.{Fields.Number, Fields.Octets, Fields.CharacterString, Fields.Name, Octets.AreOctets};
+ghost use Rattle.dns_fields.specs.{declared.Kind.TheVariants.Number, declared.Kind.TheVariants.Octets};
+ghost use Rattle.dns_fields.specs.{declared.Kind.TheVariants.CharacterString, declared.Kind.TheVariants.Name};
+ghost use Rattle.dns_fields.specs.{Octets.AreOctets};
 ghost use Rattle.dns_names_wire.specs.{Terms.TookField, Terms.LacksField, Terms.ReadsField, Terms.LacksOctets, Terms.LacksText, State.Reading};
 ghost use Rattle.dns_labels.specs.Labels.{AreNameOctets, name_of};
 

@@ -2,7 +2,9 @@
 
 ghost use Rattle.std.specs.Prelude.{◌≡◌, ◌≢◌, ◌+◌, ◌<◌, ◌≤◌, ◌^◌, ◌↔◌, ◌⊎◌, ℕ, Bool, IsTrue, IfErr, List, [], ◌∷◌, ◌++◌, length, take, drop, IfOk, OnOk, OnErr};
 ghost use Rattle.std.specs.Int.{cast_unsigned, bytes_high_first, w32};
-ghost use Rattle.dns_fields.specs.{Fields.Number, Fields.Rest, Fields.CharacterString, Fields.Name, Octets.AreOctets, Names.NameWrote};
+ghost use Rattle.dns_fields.specs.{declared.Kind.TheVariants.Number, declared.Kind.TheVariants.Rest};
+ghost use Rattle.dns_fields.specs.{declared.Kind.TheVariants.CharacterString, declared.Kind.TheVariants.Name};
+ghost use Rattle.dns_fields.specs.{Octets.AreOctets, Names.NameWrote};
 ghost use Rattle.dns_names_wire.specs.{Terms.EmitsField, Terms.AppendedField, Terms.StoppedField, Terms.Keeps, Terms.Because, State.Writing};
 ghost use Rattle.dns_labels.specs.{Labels.AreNameOctets, Labels.name_of, Messages.StaysInVector};
 

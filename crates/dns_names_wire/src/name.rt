@@ -1,7 +1,8 @@
 //! Domain names (RFC 1035, section 3.1).
 
 ghost use Rattle.std.specs.Prelude.{◌≡◌, ◌≤◌, ◌<◌, ◌↔◌, ◌⊎◌, ℕ, Bool, true, false, [], length, slice_get, IsTrue, IfOk, IfErr, IfSome, OnOk, OnErr};
-ghost use Rattle.dns_fields.specs.{Labels.IsName, Labels.lowname, Labels.wire, Names.IsNameIn, Octets.AreOctets, Fields.Name as NameKind, Labels.DomainName};
+ghost use Rattle.dns_fields.specs.{Labels.IsName, Labels.lowname, Labels.wire, Names.IsNameIn, Octets.AreOctets};
+ghost use Rattle.dns_fields.specs.{declared.Kind.TheVariants.Name as NameKind, Labels.DomainName};
 ghost use Rattle.dns_labels.specs.{Comparing.lowered_octets, Labels.AreNameOctets, Labels.name_of, Text.HasOctets};
 ghost use Rattle.dns_names_wire.specs.Terms.{ReadsField, ReadsBy, LacksField, EmitsField, Extends, IsNoName};
 ghost use Rattle.dns_names_wire.specs.NameValues.{root_name, label_count, has_asterisk};

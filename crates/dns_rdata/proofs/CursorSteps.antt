@@ -2,8 +2,7 @@
 use Rattle.std.proofs.Common.{◌≡◌, ◌↔◌, IsTrue, true≢false, Bool, true, false, if◌then◌else◌, Some, None, map, refl, sym, ◌∙◌}
 use Rattle.std.proofs.{Math.Bool.and-true, lemmas.List.append-nil}
 use Rattle.std.specs.List.{flat_map}
-use Rattle.dns_fields.specs.Tlvs.{string, parameters_emittable}
-use Rattle.dns_fields.specs.Fields.{field_octets, canonical}
+use Rattle.dns_fields.specs.{Tlvs.string, Tlvs.parameters_emittable, Fields.field_octets, Fields.canonical}
 use Rattle.dns_canonical.specs.Cursor.{course_of, begins}
 use Rattle.dns_canonical.proofs.Cursors.{emittable_short}
 use Rattle.dns_rdata_base.specs as base

@@ -1,20 +1,21 @@
 -- The laws of RDATA of every type.
-use Rattle.std.proofs.Common.{rules, ◌≡◌, ℕ, ◌+◌, ◌-◌, ◌<◌, ◌≤◌, Bool, true, List, length, refl, sym, ap, ◌∙◌, arith, subst, Result, Ok, Err}
+use Rattle.std.proofs.Common.{rules, ◌≡◌, ℕ, ◌+◌, ◌-◌, ◌<◌, ◌≤◌, Bool, true, List, [], ◌∷◌, length, refl, sym, ap, ◌∙◌, arith, subst, Result, Ok, Err}
 use Rattle.std.specs.{Bool.Decides, Result.IfOk, Result.OnOk}
 use Rattle.std.proofs.lemmas.List.{length-append}
 use Rattle.dns_fields.specs.{declared.RDataEncoding.RDataEncoding, Octets.AreOctets, Equal.values_eq, Laws.IsShape}
-use Rattle.dns_fields.specs.Fields.{Kind, Values, AllFit, all_emittable, Stands, Same, Wrote, canonical}
+use Rattle.dns_fields.specs.Fields.{Value, Values, AllFit, all_emittable, Stands, SameField, Same, Wrote, canonical}
+use Rattle.dns_fields.specs.declared.Kind.{Kind, TheVariants.Number, TheVariants.CharacterString, TheVariants.Rest, TheVariants.Parameters}
 use Rattle.dns_fields.proofs.{EqualLaws.values_decide, Emittable.all_fit_emittable, OctetLaws.canonical_octets_are}
 use Rattle.dns_fields.proofs.Laws.{stands_same, stands_fit, stands_lawful, stands_full, wrote_stands, wrote_behind, wrote_all_fit, canonical_same}
 use Rattle.dns_fields.proofs.Laws.{canonical_stands, canonical_injective}
 use Rattle.dns_types.specs.{declared.error.DecodeError.DecodeError, declared.error.ProtoError.ProtoError, declared.record_type.RecordType.RecordType}
 use Rattle.dns_types.specs.declared.record_type.RecordType.TheVariants as types
 use Rattle.dns_names_wire.specs.{State.Writing, Terms.Region, Terms.Appended, Terms.EmitsAs}
-use Rattle.dns_rdata_base.specs.NAPTR.{AreFlags}
-use Rattle.dns_rdata_service.specs.Parameters.{HaveTexts}
-use Rattle.dns_rdata_caa_csync.specs.{CAA.IsTag, CSYNC.AreKnownFlags}
+use Rattle.dns_rows.specs.{declared.row.Part.Part, declared.row.Rule.Rule, Table.TypeRow, Table.fields, Table.unread, Table.formatless, Table.table}
+use Rattle.dns_rows.specs.declared.row.Rule.TheVariants as asked
+use Rattle.dns_rows.specs.{Table.kinds_of, Rules.AreLetters, Rules.IsTag, Rules.AreKnownFlags, Rules.HaveTexts, Rules.also, Rules.MeetsRow}
 use Rattle.dns_rdata.specs.{declared.record_data.RData.RData, Equal.equal}
-use Rattle.dns_rdata.specs.Data.{shape, MeetsCondition, FieldsOf, fields_of, Fills, IsEmittable, octets_of, data_octets}
+use Rattle.dns_rdata.specs.Data.{parts_of, MeetsRule, shape, MeetsCondition, FieldsOf, fields_of, Fills, IsEmittable, octets_of, data_octets}
 use Rattle.dns_rdata.specs.Laws.{OneValue, EachRegion, HasEqual, TellsApart, ReadsCanonical, ReadsBack}
 use Rattle.dns_rdata.proofs.Values.{values_as, values_as-same, value_for, value_is, region_value, fields_for, equal_values}
 
@@ -23,16 +24,23 @@ shape_is : (t : RecordType) → IsShape (shape t)
 shape_is types.CERT = search rules
 shape_is t = search rules
 
--- what is asked of a value is asked of its equals
-condition_same : (t : RecordType) (a b : Values (shape t)) → Same (shape t) a b → MeetsCondition t a → MeetsCondition t b
-condition_same types.CERT a b s h = λ e. h (s.1.1.1.0.is ∙ e)
-condition_same types.NAPTR a b s h = subst AreFlags s.1.1.0.is h
-condition_same types.CAA a b s h = subst IsTag s.1.0.is h
-condition_same types.CSYNC a b s h = subst AreKnownFlags s.1.0.is h
-condition_same types.SVCB a b s h = subst HaveTexts s.1.1.0.is h
-condition_same types.HTTPS a b s h = subst HaveTexts s.1.1.0.is h
-condition_same types.ANY a b s h = h
-condition_same t a b s h = h
+-- what is asked of a field is asked of its equals
+also_same : (rule : Rule) (k : Kind) (a b : Value k) {P Q : Type 0} → SameField k a b → (P → Q) → also rule k a P → also rule k b Q
+also_same asked.Letters CharacterString a b s f h = (subst AreLetters s.is h.0, f h.1)
+also_same asked.Tag CharacterString a b s f h = (subst IsTag s.is h.0, f h.1)
+also_same asked.KnownFlags (Number w) a b s f h = (subst AreKnownFlags s.is h.0, f h.1)
+also_same asked.Some Rest a b s f h = (λ e. h.0 (s.is ∙ e), f h.1)
+also_same asked.Paths Parameters a b s f h = (subst HaveTexts s.is h.0, f h.1)
+also_same rule k a b s f h = f h
+
+row_same : (row : List Part) (a b : Values (kinds_of row)) → Same (kinds_of row) a b → MeetsRow row a → MeetsRow row b
+row_same [] a b s h = tt
+row_same (p ∷ row) a b s h = also_same p.rule p.kind a.0 b.0 s.0 (row_same row a.1 b.1 s.1) h
+
+rule_same : (r : TypeRow) (a b : Values (kinds_of (parts_of r))) → Same (kinds_of (parts_of r)) a b → MeetsRule r a → MeetsRule r b
+rule_same (fields parts) a b s h = row_same parts a b s h
+rule_same unread a b s h = h
+rule_same formatless a b s h = h
 
 pub one_value : OneValue
 one_value m p n t v w f g =
@@ -90,7 +98,7 @@ equal_region : (m : List ℕ) (p n : ℕ) (t : RecordType) (v : RData) (m' : Lis
     → n' < 65536 → p' + n' ≤ length m' → Stands m' p' (shape t) ws (p' + n') → Same (shape t) f.values ws → HasEqual m' p' n' t v
 equal_region m p n t v m' p' n' f ws octets short within stands same =
     let w : Region m' p' n' (shape t) (MeetsCondition t) ws =
-    record { octets = octets; short = short; within = within; stands = stands; holds = condition_same t f.values ws same f.region.holds } in
+    record { octets = octets; short = short; within = within; stands = stands; holds = rule_same (table t) f.values ws same f.region.holds } in
     let g : Fills m' p' n' t (value_for t ws) = record { values = ws; region = w; value = region_value m' p' n' t ws w } in
     record { value = value_for t ws; fills = g; same = (equal_same t v (value_for t ws) m p n m' p' n' f g).1 same }
 

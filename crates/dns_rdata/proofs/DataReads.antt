@@ -1,25 +1,25 @@
 -- Reading data of each type.
 use Rattle.std.proofs.Common.{[], ◌∷◌, ◌≡◌, ◌≢◌, ℕ, ◌+◌, ◌-◌, ◌<◌, ◌≤◌, ◌==◌, ◌⊎◌, inl, inr, Bool, true, false, cond, List, length, refl, arith}
-use Rattle.std.proofs.Common.{subst, ap, ◌∙◌, Result, Ok, Err}
+use Rattle.std.proofs.{Common.subst, Common.sym, Common.ap, Common.◌∙◌, Common.Result, Common.Ok, Common.Err, lemmas.Bool.Decides.eqb_tells}
 use Rattle.std.specs.Result.{IfOk, IfErr, OnOk}
-use Rattle.std.proofs.lemmas.Bool.Decides.{eqb_tells}
-use Rattle.dns_fields.specs.{Octets.AreOctets, Fields.Values, Fields.Kind, Fields.Number, Fields.Name, Fields.CharacterString}
+use Rattle.dns_fields.specs.{Octets.AreOctets, Fields.Values, declared.Kind.Kind, declared.Kind.TheVariants.Number, declared.Kind.TheVariants.Name}
+use Rattle.dns_fields.specs.{declared.Kind.TheVariants.CharacterString}
 use Rattle.dns_types.specs.{declared.error.DecodeError.DecodeError, declared.record_type.RecordType.RecordType, RecordTypes.number_of}
 use Rattle.dns_types.specs.declared.error.DecodeError.TheVariants as decode
 use Rattle.dns_types.specs.declared.record_type.RecordType.TheVariants as types
-use Rattle.dns_names_wire.specs.{Facts.Facts, State.Reading}
+use Rattle.dns_names_wire.specs.State.{Reading}
 use Rattle.dns_names_wire.specs.Terms.{StaysBehind, UnlessMemory, NoRegion, Took, TookRegion, RefusedRegion, ReadsIf, ReadsRegion}
 use Rattle.dns_names_wire.proofs.FieldReads.{stays, unless_all, unless_map}
-use Rattle.dns_rdata_base.specs.declared.null.NULL.{NULL}
+use Rattle.dns_rdata_base.specs.{declared.null.NULL.NULL, Counted.by_length}
 use Rattle.dns_rdata_options.proofs.OptionErrors.{opt_never}
 use Rattle.dns_rdata_service.proofs.SvcbValues.{svcb_never}
 use Rattle.dns_rdata_base.specs as base
 use Rattle.dns_rdata_caa_csync.specs as caa_csync
-use Rattle.dns_rdata_base.specs.Counted.{by_length}
 use Rattle.dns_rdata.specs.declared.record_data.RData.{RData}
-use Rattle.dns_rdata.specs.ReadErrors.{IsOwnError, IsOwnTaken, IsReadError, OwnError, OwnResult, OwnTaken, without}
-use Rattle.dns_rdata.specs.Data.{TypeRow, row, unread, formatless, row_of, kinds_of, MeetsConditionOf, IsFormatless, IsNever, FieldsOf, shape, MeetsCondition}
-use Rattle.dns_rdata.specs.Data.{IsUnknownType, IsValue, IsTaken, Fills, HasValue, NoValue, TookData, RefusedData, ReadsData, type_of, IsNeverRead}
+use Rattle.dns_rdata.specs.ReadErrors.{IsReadError, OwnError, OwnResult, OwnTaken, without, rejects_of, never_read, IsTaken, Reached}
+use Rattle.dns_rows.specs.Table.{TypeRow, fields as row, unread, formatless, table, kinds_of}
+use Rattle.dns_rdata.specs.Data.{parts_of, MeetsRule, IsFormatless, IsNever, FieldsOf, shape, MeetsCondition}
+use Rattle.dns_rdata.specs.Data.{IsUnknownType, IsValue, Fills, HasValue, NoValue, TookData, RefusedData, ReadsData, type_of, IsNeverRead}
 use Rattle.dns_rdata.specs.declared.record_data.RData.TheVariants as rdata
 
 -- what fills a region as fields fills it as a value
@@ -54,9 +54,10 @@ data_zero d n short inside octets = record {
 abbrev fields_as : (s : List Kind) → Values s → FieldsOf
 fields_as s vs = record { kinds = s; values = vs }
 
-pub record HasNoFormat (t : RecordType) : Type 0 where
+pub record HasNoFormat (t : RecordType) : Type 1 where
   pub formatless : IsUnknownType t
   pub read : IsNeverRead t → ⊥
+  pub rejects : rejects_of t ≡ base.NULL.null_facts.rejects
 
 -- the type is none of these
 abbrev pub IsNone : RecordType → List RecordType → Type 0
@@ -76,8 +77,8 @@ has_no_format t none = grind arith
 
 took_formatless : (r : TypeRow) {old new : Reading} {n : ℕ} (vs : Values base.NULL.null_shape) → IsFormatless r
     → TookRegion old n base.NULL.null_shape (λ _. Unit {0}) vs new
-    → (ws : Values (kinds_of r)) × TookRegion old n (kinds_of r) (MeetsConditionOf r) ws new × (fields_as base.NULL.null_shape vs ≡ fields_as (kinds_of r) ws)
-took_formatless (row kinds asked rejects taken) vs h w = absurd h
+    → (ws : Values (kinds_of (parts_of r))) × TookRegion old n (kinds_of (parts_of r)) (MeetsRule r) ws new × (fields_as base.NULL.null_shape vs ≡ fields_as (kinds_of (parts_of r)) ws)
+took_formatless (row parts) vs h w = absurd h
 took_formatless unread vs h w = absurd h
 took_formatless formatless vs h w = (vs, w, refl)
 
@@ -85,7 +86,7 @@ pub unknown_took : {old new : Reading} (t : RecordType) (n : ℕ) (x : NULL) →
     → TookRegion old n base.NULL.null_shape (λ _. Unit {0}) (base.NULL.null_fields x) new
     → TookData old t n (rdata.Unknown t x) new
 unknown_took t n x h w =
-    let r = took_formatless (row_of t) (base.NULL.null_fields x) h.formatless w in
+    let r = took_formatless (table t) (base.NULL.null_fields x) h.formatless w in
     data_took t n (rdata.Unknown t x) r.0 (record { type = refl; fields = r.2; can_be_read = h.formatless }) r.1
 
 -- ---- what reading returns, after the number of octets is compared with RDLENGTH
@@ -281,60 +282,54 @@ reads_own {n = n} {old = old} {new = new} t f fields r never region own taken va
 -- ---- a value is read up to where the decoder is
 
 -- where the fields say themselves where they end
-pub taken_fields : {X : Type 0} (f : Facts X) (n : ℕ) (old new : Reading) (r : Result X DecodeError)
-    → ReadsIf f.kinds (λ vs _. f.condition vs) f.fields r old new → IfOk r (λ x. f.after_read n x old new) → IfOk r (λ x. IsTaken f n old new)
-taken_fields f n old new (Ok x) reads after_read = record { value = x; took = reads.0; holds = reads.1; after_read = after_read }
-taken_fields f n old new (Err e) reads after_read = tt
+pub taken_fields : {X : Type 0} (t : RecordType) (fields : X → Values (shape t)) (n : ℕ) (old new : Reading) (r : Result X DecodeError)
+    → Reached (shape t) n old new → ReadsIf (shape t) (λ vs _. MeetsCondition t vs) fields r old new → IfOk r (λ x. OwnTaken t n old new)
+taken_fields t fields n old new (Ok x) ends reads = record { values = fields x; took = reads.0; holds = reads.1; reached = ends }
+taken_fields t fields n old new (Err e) ends reads = tt
 
 -- where they fill the length
-pub taken_filling : {X : Type 0} (f : Facts X) (n : ℕ) (old new : Reading) (r : Result X DecodeError)
-    → ((x : X) → f.after_read n x old new → new.index ≡ old.index + n) → ReadsRegion f.kinds f.condition f.fields n r old new
-    → IfOk r (λ x. f.after_read n x old new) → IfOk r (λ x. IsTaken f n old new)
-taken_filling f n old new (Ok x) all w after_read =
-    let h = w.here (all x after_read) in
-    record { value = x; took = record { message = w.behind.message; stands = rw (all x after_read) h.stands }; holds = h.holds; after_read = after_read }
-taken_filling f n old new (Err e) all w after_read = tt
+pub taken_filling : {X : Type 0} (t : RecordType) (fields : X → Values (shape t)) (n : ℕ) (old new : Reading) (r : Result X DecodeError) (P : X → Type 0)
+    → (new.index ≡ old.index + n → Reached (shape t) n old new) → ReadsRegion (shape t) (MeetsCondition t) fields n r old new
+    → IfOk r (λ x. P x × (new.index ≡ old.index + n)) → IfOk r (λ x. OwnTaken t n old new)
+taken_filling t fields n old new (Ok x) P ends w after_read =
+    let h = w.here after_read.1 in
+    record
+    { values = fields x; took = record { message = w.behind.message; stands = rw after_read.1 h.stands }; holds = h.holds; reached = ends after_read.1 }
+taken_filling t fields n old new (Err e) P ends w after_read = tt
 
 -- and where what its reader says of a value says so
-pub taken_made : {X : Type 0} (f : Facts X) (n : ℕ) (old new : Reading) (r : Result X DecodeError)
-    → ((x : X) → f.after_read n x old new → Took old f.kinds (f.fields x) new × f.condition (f.fields x))
-    → IfOk r (λ x. f.after_read n x old new) → IfOk r (λ x. IsTaken f n old new)
-taken_made f n old new (Ok x) all after_read = let h = all x after_read in record { value = x; took = h.0; holds = h.1; after_read = after_read }
-taken_made f n old new (Err e) all after_read = tt
+pub taken_made : {X : Type 0} (t : RecordType) (n : ℕ) (old new : Reading) (r : Result X DecodeError) (P : X → Type 0) → ((x : X) → P x → OwnTaken t n old new)
+    → IfOk r P → IfOk r (λ x. OwnTaken t n old new)
+taken_made t n old new (Ok x) P all after_read = all x after_read
+taken_made t n old new (Err e) P all after_read = tt
 
 -- ---- unknown types, read
 
 refused_formatless : (q : TypeRow) (old new : Reading) (n : ℕ) (e : DecodeError) → IsFormatless q
     → RefusedRegion e old n base.NULL.null_shape (λ _. Unit {0}) new
-    → RefusedRegion e old n (kinds_of q) (MeetsConditionOf q) new
-refused_formatless (row kinds asked rejects taken) old new n e h w = absurd h
+    → RefusedRegion e old n (kinds_of (parts_of q)) (MeetsRule q) new
+refused_formatless (row parts) old new n e h w = absurd h
 refused_formatless unread old new n e h w = absurd h
 refused_formatless formatless old new n e h w = w
 
 reads_formatless : (old new : Reading) (t : RecordType) (n : ℕ) (r : Result NULL DecodeError) → HasNoFormat t
     → ReadsRegion base.NULL.null_shape (λ _. Unit {0}) base.NULL.null_fields n r old new → ReadsData t n (mapped (λ x. rdata.Unknown t x) r) old new
 reads_formatless old new t n (Ok x) h w = unknown_took t n x h w
-reads_formatless old new t n (Err e) h w = data_refuses t n e (refused_formatless (row_of t) old new n e h.formatless w)
+reads_formatless old new t n (Err e) h w = data_refuses t n e (refused_formatless (table t) old new n e h.formatless w)
 
-own_formatless : (t : RecordType) (q : TypeRow) (old new : Reading) (n : ℕ) (r : Result NULL DecodeError) → IsFormatless q
-    → IfErr r (λ e. base.NULL.IsNullError n old e new) → IfErr r (IsOwnError t q n old new)
-own_formatless t (row kinds asked rejects taken) old new n r h w = absurd h
-own_formatless t unread old new n r h w = absurd h
-own_formatless t formatless old new n r h w = w
-
-taken_formatless : (q : TypeRow) (old new : Reading) (n : ℕ) (r : Result NULL DecodeError) → IsFormatless q
-    → IfOk r (λ x. IsTaken base.NULL.null_facts n old new) → IfOk r (λ x. IsOwnTaken q n old new)
-taken_formatless (row kinds asked rejects taken) old new n r h w = absurd h
-taken_formatless unread old new n r h w = absurd h
-taken_formatless formatless old new n r h w = w
+formatless_taken : (q : TypeRow) (old new : Reading) (n : ℕ) → IsFormatless q → OwnTaken types.NULL n old new → IsTaken q n old new
+formatless_taken (row parts) old new n h w = absurd h
+formatless_taken unread old new n h w = absurd h
+formatless_taken formatless old new n h w = record { values = w.values; took = w.took; holds = tt; reached = w.reached }
 
 pub unknown_own : {n : ℕ} {old new : Reading} (t : RecordType) (r : Result NULL DecodeError) → HasNoFormat t
     → ReadsRegion base.NULL.null_shape (λ _. Unit {0}) base.NULL.null_fields n r old new → IfErr r (λ e. base.NULL.IsNullError n old e new)
-    → IfOk r (λ x. IsTaken base.NULL.null_facts n old new) → ReadsOwn t n (mapped (λ x. rdata.Unknown t x) r) old new
+    → IfOk r (λ x. OwnTaken types.NULL n old new) → ReadsOwn t n (mapped (λ x. rdata.Unknown t x) r) old new
 unknown_own {n} {old} {new} t r h region own taken = record {
   reads = reads_formatless old new t n r h region;
-  own = own_mapped (λ x. rdata.Unknown t x) r _ (unless_each r _ (own_formatless t (row_of t) old new n r h.formatless own));
-  taken = taken_mapped (λ x. rdata.Unknown t x) r _ (taken_formatless (row_of t) old new n r h.formatless taken);
+  own = own_mapped (λ x. rdata.Unknown t x) r _
+      (unless_each r _ (subst (λ (x : ℕ → Reading → DecodeError → Reading → Type 0). IfErr r (λ e. x n old e new)) (sym h.rejects) own));
+  taken = taken_mapped (λ x. rdata.Unknown t x) r _ (taken_made t n old new r _ (λ x. formatless_taken (table t) old new n h.formatless) taken);
   never = λ e. absurd (h.read e);
 }
 
@@ -344,7 +339,7 @@ pub zero_own : {n : ℕ} {d : Reading} → n < 65536 → d.index ≤ length d.me
 zero_own {n} {d} short inside octets = record {
   reads = data_zero d n short inside octets;
   own = tt;
-  taken = refl;
+  taken = record { values = tt; took = record { message = refl; stands = refl }; holds = tt; reached = tt };
   never = λ h. absurd h;
 }
 
@@ -356,29 +351,24 @@ zero_counted {n = n} {d = d} short inside octets starts c = record {
   counted = c ∙ ap (λ k. by_length (Ok rdata.ZERO) (d.index - k) n) starts;
 }
 
-unread_none : (q : TypeRow) (m : List ℕ) (p n : ℕ) → IsNever q → NoRegion m p n (kinds_of q) (MeetsConditionOf q)
-unread_none (row kinds asked rejects taken) m p n h = absurd h
+unread_none : (q : TypeRow) (m : List ℕ) (p n : ℕ) → IsNever q → NoRegion m p n (kinds_of (parts_of q)) (MeetsRule q)
+unread_none (row parts) m p n h = absurd h
 unread_none unread m p n h = record { none = λ vs w. w.holds }
 unread_none formatless m p n h = absurd h
 
-own_unread : (t : RecordType) (q : TypeRow) (d : Reading) (n : ℕ) → IsNever q → IsOwnError t q n d d (decode.UnknownRecordTypeValue (number_of t))
-own_unread t (row kinds asked rejects taken) d n h = absurd h
-own_unread t unread d n h = (refl, refl)
-own_unread t formatless d n h = absurd h
-
-never_own : (t : RecordType) (n : ℕ) (d : Reading) → IsNeverRead t → ReadsOwn t n (Err (decode.UnknownRecordTypeValue (number_of t))) d d
-never_own t n d h = record {
-  reads = record { behind = stays d; none = unread_none (row_of t) d.message d.index n h };
-  own = own_unread t (row_of t) d n h;
+never_own : (t : RecordType) (n : ℕ) (d : Reading) → IsNeverRead t → rejects_of t ≡ never_read t → ReadsOwn t n (Err (decode.UnknownRecordTypeValue (number_of t))) d d
+never_own t n d h rejects = record {
+  reads = record { behind = stays d; none = unread_none (table t) d.message d.index n h };
+  own = subst (λ (x : ℕ → Reading → DecodeError → Reading → Type 0). x n d (decode.UnknownRecordTypeValue (number_of t)) d) (sym rejects) (refl, refl);
   taken = tt;
   never = λ _. (refl, refl);
 }
 
 pub unread_own : (t : RecordType) (n : ℕ) (d : Reading) → (t ≡ types.ANY) ⊎ ((t ≡ types.AXFR) ⊎ (t ≡ types.IXFR))
     → ReadsOwn t n (Err (decode.UnknownRecordTypeValue (number_of t))) d d
-unread_own t n d (inl e) = rw e (never_own types.ANY n d tt)
-unread_own t n d (inr (inl e)) = rw e (never_own types.AXFR n d tt)
-unread_own t n d (inr (inr e)) = rw e (never_own types.IXFR n d tt)
+unread_own t n d (inl e) = rw e (never_own types.ANY n d tt refl)
+unread_own t n d (inr (inl e)) = rw e (never_own types.AXFR n d tt refl)
+unread_own t n d (inr (inr e)) = rw e (never_own types.IXFR n d tt refl)
 
 pub unread_counted : (t : RecordType) (n : ℕ) (d : Reading) → (t ≡ types.ANY) ⊎ ((t ≡ types.AXFR) ⊎ (t ≡ types.IXFR))
     → ReadsCounted t n (Err (decode.UnknownRecordTypeValue (number_of t))) d d

@@ -1,9 +1,7 @@
 -- Tokens of each type.
-use Rattle.std.proofs.Common.{◌↔◌, ◌≡◌, ◌≢◌, ℕ, List, [], ◌∷◌, Option, Result, Ok, Err, IfErr, ◌⊎◌, inl, inr, refl, sym, subst, map, length, arith}
-use Rattle.std.proofs.Common.{◌∙◌}
+use Rattle.std.proofs.Common.{◌↔◌, ◌≡◌, ◌≢◌, ℕ, List, [], ◌∷◌, Option, Result, Ok, Err, IfErr, ◌⊎◌, inl, inr, refl, sym, subst, map, length, arith, ◌∙◌}
 use Rattle.std.specs.{Cow.cow_str_bytes, declared.vec.IntoIter.IntoIter, declared.borrow.CowStr.CowStr, declared.alloc.Global.Global, Result.IsErrAnd}
-use Rattle.std.specs.{Result.IfOk, Result.result_map_both}
-use Rattle.std.specs.Vec.Iter.{into_iter_steps, into_iter_items, into_iter_len, into_iter_deque}
+use Rattle.std.specs.{Result.IfOk, Result.result_map_both, Vec.Iter.into_iter_steps, Vec.Iter.into_iter_items, Vec.Iter.into_iter_len, Vec.Iter.into_iter_deque}
 use Rattle.dns_types.specs.{declared.record_type.RecordType.RecordType, declared.error.ParseError.ParseError}
 use Rattle.dns_types.specs.declared.record_type.RecordType.TheVariants as types
 use Rattle.dns_types.specs.declared.error.ParseError.TheVariants as parse
@@ -11,8 +9,7 @@ use Rattle.dns_text.specs.TextWords.{TextWords, NoTextWords}
 use Rattle.dns_tokens.specs.{Taking.HoldsBehind, Taking.HoldsOfTokens, Forms.TokenRow, Forms.token, Printed.cut}
 use Rattle.dns_tokens.specs.Reads.{UnlessParseMemory, Decides, TookTokens, RefusedTokens, ReadsTokenRow}
 use Rattle.dns_fields.specs.{Labels.DomainName, Fields.Values}
-use Rattle.dns_rdata_service.specs.{SVCB.svcb_shape, SVCB.svcb_fields, declared.svcb.SVCB.SVCB}
-use Rattle.dns_rdata_service.specs.TokenRows.{AreTokensOf, svcb_tokens as service_tokens}
+use Rattle.dns_rdata_service.specs.{SVCB.svcb_shape, SVCB.svcb_fields, declared.svcb.SVCB.SVCB, TokenRows.AreTokensOf, TokenRows.svcb_tokens as service_tokens}
 use Rattle.dns_tokens.proofs.{Printed.straight_back, Steps.holds_map, Steps.holds_all, Steps.unless_map}
 use Rattle.dns_rdata_base.specs.{NameRecords.name_shape, NameRecords.name_fields, NameRecords.mx_facts, NameRecords.srv_facts, A.a_fields, AAAA.aaaa_fields}
 use Rattle.dns_rdata_base.specs.SOA.{soa_fields}

@@ -2,7 +2,7 @@
 use Rattle.std.proofs.Common.{◌≡◌, ◌≢◌, ◌&&◌, Bool, true, Option, Some, None, IfSome, List, refl, sym, ap, ◌∙◌}
 use Rattle.std.specs.{Cmp.Lexicographic.slice_cmp, Ordering.nat_cmp, declared.cmp.Ordering.Ordering}
 use Rattle.std.specs.declared.cmp.Ordering.TheVariants.{Less, Equal, Greater}
-use Rattle.dns_fields.specs.Fields.{Kind, Values, all_emittable, canonical}
+use Rattle.dns_fields.specs.{Fields.Values, Fields.all_emittable, Fields.canonical, declared.Kind.Kind}
 use Rattle.dns_canonical.specs.Fronts.{canonical_cmp}
 use Rattle.dns_canonical.proofs.Comparing.{then_kept}
 use Rattle.dns_rdata_base.specs.Ordered.{IsOrder, IfSomeOrder}

@@ -2,24 +2,25 @@
 use Rattle.std.proofs.Common.{◌≡◌, ◌↔◌, ℕ, ◌+◌, Bool, true, false, List, [], ◌∷◌, refl, sym, ap, ◌∙◌, arith}
 use Rattle.std.proofs.{lemmas.Bool.Decides.nat_tests, Math.Bool.and-true}
 use Rattle.std.specs.{Bool.Decides, Net.Addr.segments_of, Net.Addr.octets_of}
-use Rattle.dns_fields.specs.Fields.{Kind, Number, Octets, Name, CharacterString, CharacterStrings, Rest, Options, Parameters, Bitmap, Value, Values, AllFull, Same}
-use Rattle.dns_fields.specs.Equal.{values_eq}
+use Rattle.dns_fields.specs.{Fields.Value, Fields.Values, Fields.AllFull, Fields.Same, Equal.values_eq}
+use Rattle.dns_fields.specs.declared.Kind.{Kind, TheVariants.Number, TheVariants.Octets, TheVariants.Name, TheVariants.CharacterString}
+use Rattle.dns_fields.specs.declared.Kind.{TheVariants.CharacterStrings, TheVariants.Rest, TheVariants.Options, TheVariants.Parameters, TheVariants.Bitmap}
 use Rattle.dns_fields.proofs.{EqualLaws.values_decide, OctetLaws.AreOctets-at, Laws.stands_fit}
 use Rattle.dns_types.specs.declared.record_type.RecordType.{RecordType}
 use Rattle.dns_types.specs.declared.record_type.RecordType.TheVariants as types
 use Rattle.dns_names_wire.specs.Terms.{Region}
 use Rattle.dns_rdata_base.proofs.SoaValues.{soa_from, soa_from-fields, soa_fields-from, soa_from-seconds}
 use Rattle.dns_rdata_base.proofs.Addresses.{octets_of-segments, segments_of-octets_of}
-use Rattle.dns_rdata_certs.proofs.Values.{cert_from, cert_from-fields, cert_fields-from, cert_from-read, cert_keys-same, smimea_from}
-use Rattle.dns_rdata_certs.proofs.Values.{smimea_from-fields, smimea_fields-from, smimea_from-read, smimea_keys-same, sshfp_from, sshfp_from-fields}
+use Rattle.dns_rdata_certs.proofs.Values.{cert_from, cert_from-fields, cert_fields-from, cert_from-read, cert_keys-same, sshfp_from, sshfp_from-fields}
 use Rattle.dns_rdata_certs.proofs.Values.{sshfp_fields-from, sshfp_from-read, sshfp_keys-same, tlsa_from, tlsa_from-fields, tlsa_fields-from}
 use Rattle.dns_rdata_certs.proofs.Values.{tlsa_from-read, tlsa_keys-same}
-use Rattle.dns_rdata_service.proofs.SvcbValues.{https_from, https_from-fields, https_fields-from, https_from-read, https_equal, svcb_from}
-use Rattle.dns_rdata_service.proofs.SvcbValues.{svcb_from-fields, svcb_fields-from, svcb_from-read, svcb_equal}
+use Rattle.dns_rdata_service.proofs.SvcbValues.{svcb_from, svcb_from-fields, svcb_fields-from, svcb_from-read, svcb_equal}
 use Rattle.dns_rdata_caa_csync.proofs.CaaValues.{caa_from, caa_from-fields, caa_fields-from, caa_from-read, caa_keys-same}
 use Rattle.dns_rdata_caa_csync.proofs.CsyncValues.{csync_from, csync_from-fields, csync_fields-from, csync_from-read, csync_keys-same}
 use Rattle.dns_rdata_options.proofs.Values.{opt_from-fields, opt_fields-from, opt_from-read, opt_equal}
 use Rattle.dns_rdata_base.specs.declared.null.NULL.{NULL}
+use Rattle.dns_rdata_certs.specs.declared.tlsa.TLSA.{TLSA}
+use Rattle.dns_rdata_service.specs.declared.svcb.SVCB.{SVCB}
 use Rattle.dns_rdata_base.specs as base
 use Rattle.dns_rdata_certs.specs as certs
 use Rattle.dns_rdata_options.specs as options
@@ -74,7 +75,7 @@ value_for types.CERT vs = rdata.CERT (cert_from vs)
 value_for types.CNAME vs = rdata.CNAME (record { 0 = vs.0 })
 value_for types.CSYNC vs = rdata.CSYNC (csync_from vs)
 value_for types.HINFO vs = rdata.HINFO (record { cpu = vs.0; os = vs.1.0 })
-value_for types.HTTPS vs = rdata.HTTPS (https_from vs)
+value_for types.HTTPS vs = rdata.HTTPS (record { 0 = svcb_from vs })
 value_for types.MX vs = rdata.MX (record { preference = vs.0; exchange = vs.1.0 })
 value_for types.NAPTR vs = rdata.NAPTR (record
     { order = vs.0; preference = vs.1.0; flags = vs.1.1.0; services = vs.1.1.1.0; regexp = vs.1.1.1.1.0; replacement = vs.1.1.1.1.1.0 })
@@ -83,7 +84,7 @@ value_for types.NS vs = rdata.NS (record { 0 = vs.0 })
 value_for types.OPENPGPKEY vs = rdata.OPENPGPKEY (record { public_key = vs.0 })
 value_for types.OPT vs = rdata.OPT (options.OPT.opt_from vs)
 value_for types.PTR vs = rdata.PTR (record { 0 = vs.0 })
-value_for types.SMIMEA vs = rdata.SMIMEA (smimea_from vs)
+value_for types.SMIMEA vs = rdata.SMIMEA (record { 0 = tlsa_from vs })
 value_for types.SOA vs = rdata.SOA (soa_from vs)
 value_for types.SRV vs = rdata.SRV (record { priority = vs.0; weight = vs.1.0; port = vs.1.1.0; target = vs.1.1.1.0 })
 value_for types.SSHFP vs = rdata.SSHFP (sshfp_from vs)
@@ -112,8 +113,8 @@ read_value (rdata.CERT x) h = ap rdata.CERT (cert_from-fields x h)
 read_value (rdata.CSYNC x) h = ap rdata.CSYNC (csync_from-fields x h)
 read_value (rdata.OPT x) h = ap rdata.OPT (opt_from-fields x h)
 read_value (rdata.SVCB x) h = ap rdata.SVCB (svcb_from-fields x h)
-read_value (rdata.HTTPS x) h = ap rdata.HTTPS (https_from-fields x h)
-read_value (rdata.SMIMEA x) h = ap rdata.SMIMEA (smimea_from-fields x h)
+read_value (rdata.HTTPS x) h = ap (λ (y : SVCB). rdata.HTTPS (record { 0 = y })) (svcb_from-fields x.0 h)
+read_value (rdata.SMIMEA x) h = ap (λ (y : TLSA). rdata.SMIMEA (record { 0 = y })) (tlsa_from-fields x.0 h)
 read_value (rdata.SOA x) h = ap rdata.SOA (soa_from-fields x h)
 read_value (rdata.SSHFP x) h = ap rdata.SSHFP (sshfp_from-fields x h)
 read_value (rdata.TLSA x) h = ap rdata.TLSA (tlsa_from-fields x h)
@@ -158,9 +159,9 @@ region_value m p n types.OPT vs w = record {
 region_value m p n types.SVCB vs w = record
     { type = refl; fields = of_kinds service.SVCB.svcb_shape (svcb_fields-from m p n (MeetsCondition types.SVCB) vs w); can_be_read = svcb_from-read vs }
 region_value m p n types.HTTPS vs w = record
-    { type = refl; fields = of_kinds service.HTTPS.https_shape (https_fields-from m p n (MeetsCondition types.HTTPS) vs w); can_be_read = https_from-read vs }
+    { type = refl; fields = of_kinds service.SVCB.svcb_shape (svcb_fields-from m p n (MeetsCondition types.HTTPS) vs w); can_be_read = svcb_from-read vs }
 region_value m p n types.SMIMEA vs w =
-    record { type = refl; fields = of_kinds certs.SMIMEA.smimea_shape (smimea_fields-from vs); can_be_read = smimea_from-read vs }
+    record { type = refl; fields = of_kinds certs.TLSA.tlsa_shape (tlsa_fields-from vs); can_be_read = tlsa_from-read vs }
 region_value m p n types.SOA vs w =
     let f = stands_fit m p base.SOA.soa_shape vs (p + n) w.stands in
     record { type = refl; fields = of_kinds base.SOA.soa_shape (soa_fields-from vs f); can_be_read = soa_from-seconds vs f }
@@ -208,11 +209,11 @@ equal_values types.CSYNC vs ws h a b = and-true _
     (csync_keys-same (csync_from vs) (csync_from ws) (csync_from-read vs) (csync_from-read ws))
 equal_values types.OPT vs ws h a b = and-true _ ∙ opt_equal (options.OPT.opt_from vs) (options.OPT.opt_from ws) a b
 equal_values types.SVCB vs ws h a b = and-true _ ∙ svcb_equal (svcb_from vs) (svcb_from ws) (svcb_from-read vs) (svcb_from-read ws)
-equal_values types.HTTPS vs ws h a b = and-true _ ∙ https_equal (https_from vs) (https_from ws) (https_from-read vs) (https_from-read ws)
+equal_values types.HTTPS vs ws h a b = and-true _ ∙ svcb_equal (svcb_from vs) (svcb_from ws) (svcb_from-read vs) (svcb_from-read ws)
 equal_values types.SMIMEA vs ws h a b = and-true _
-    ∙ equal_keys certs.SMIMEA.smimea_key_shape certs.SMIMEA.smimea_shape (certs.SMIMEA.smimea_keys (smimea_from vs)) (certs.SMIMEA.smimea_keys (smimea_from ws)) (certs.SMIMEA.smimea_fields (smimea_from vs))
-    (certs.SMIMEA.smimea_fields (smimea_from ws)) (tt, (tt, (tt, (tt, (tt, (tt, (tt, tt))))))) (tt, (tt, (tt, (tt, (tt, (tt, (tt, tt))))))) (tt, (tt, (tt, (tt, tt))))
-    (tt, (tt, (tt, (tt, tt)))) (smimea_keys-same (smimea_from vs) (smimea_from ws) (smimea_from-read vs) (smimea_from-read ws))
+    ∙ equal_keys certs.TLSA.tlsa_key_shape certs.TLSA.tlsa_shape (certs.TLSA.tlsa_keys (tlsa_from vs)) (certs.TLSA.tlsa_keys (tlsa_from ws)) (certs.TLSA.tlsa_fields (tlsa_from vs)) (certs.TLSA.tlsa_fields (tlsa_from ws))
+    (tt, (tt, (tt, (tt, (tt, (tt, (tt, tt))))))) (tt, (tt, (tt, (tt, (tt, (tt, (tt, tt))))))) (tt, (tt, (tt, (tt, tt)))) (tt, (tt, (tt, (tt, tt))))
+    (tlsa_keys-same (tlsa_from vs) (tlsa_from ws) (tlsa_from-read vs) (tlsa_from-read ws))
 equal_values types.SSHFP vs ws h a b = and-true _
     ∙ equal_keys certs.SSHFP.sshfp_key_shape certs.SSHFP.sshfp_shape (certs.SSHFP.sshfp_keys (sshfp_from vs)) (certs.SSHFP.sshfp_keys (sshfp_from ws)) (certs.SSHFP.sshfp_fields (sshfp_from vs))
     (certs.SSHFP.sshfp_fields (sshfp_from ws)) (tt, (tt, (tt, (tt, (tt, tt))))) (tt, (tt, (tt, (tt, (tt, tt))))) (tt, (tt, (tt, tt))) (tt, (tt, (tt, tt)))

@@ -1,10 +1,10 @@
 -- Fields that are written with uncompressed names.
 use Rattle.std.proofs.Common.{◌≡◌, ◌≢◌, ◌∙◌, ℕ, List, [], ◌∷◌, ◌++◌, sym, ap, subst, append_assoc, Result, Ok, Err, OnOk}
 use Rattle.std.proofs.lemmas.List.{append-nil}
-use Rattle.dns_fields.specs.declared.RDataEncoding.{RDataEncoding}
-use Rattle.dns_fields.specs.declared.RDataEncoding.TheVariants.{StandardRecord, Other}
-use Rattle.dns_fields.specs.Fields.{Kind, Number, Octets, Name, CharacterString, CharacterStrings, Rest, Options, Parameters, Bitmap, Value, Values, Wrote, IsWrittenAs}
-use Rattle.dns_fields.specs.Fields.{field_octets}
+use Rattle.dns_fields.specs.{declared.RDataEncoding.RDataEncoding, declared.RDataEncoding.TheVariants.StandardRecord, declared.RDataEncoding.TheVariants.Other}
+use Rattle.dns_fields.specs.Fields.{Value, Values, Wrote, IsWrittenAs, field_octets}
+use Rattle.dns_fields.specs.declared.Kind.{Kind, TheVariants.Number, TheVariants.Octets, TheVariants.Name, TheVariants.CharacterString}
+use Rattle.dns_fields.specs.declared.Kind.{TheVariants.CharacterStrings, TheVariants.Rest, TheVariants.Options, TheVariants.Parameters, TheVariants.Bitmap}
 use Rattle.dns_types.specs.declared.error.ProtoError.{ProtoError}
 use Rattle.dns_names_wire.specs.{State.Writing, Terms.EmitsAs}
 use Rattle.dns_names_wire.proofs.FieldWrites.{emitted_as}

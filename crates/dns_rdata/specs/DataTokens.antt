@@ -4,7 +4,7 @@ use Rattle.std.specs.Net.Addr.{IsIpv4Addr, IsIpv6Addr}
 use Rattle.dns_types.specs.{declared.record_type.RecordType.RecordType, declared.error.ParseError.ParseError}
 use Rattle.dns_types.specs.declared.record_type.RecordType.TheVariants as types
 use Rattle.dns_types.specs.declared.error.ParseError.TheVariants as parse
-use Rattle.dns_fields.specs.{Labels.DomainName, Fields.Kind, Fields.Values}
+use Rattle.dns_fields.specs.{Labels.DomainName, declared.Kind.Kind, Fields.Values}
 use Rattle.dns_text.specs.TextWords.{TextWords, NoTextWords}
 use Rattle.dns_tokens.specs.{Taking.HoldsOfTokens, Reads.UnlessParseMemory, Printed.cut, Printed.IsPrintedName, Straight.straight_tokens, Straight.ArePrinted}
 use Rattle.dns_tokens.specs.Forms.{TokenRow, token, number, name, ignored}
@@ -53,7 +53,7 @@ reading_of origin types.NAPTR = by (base.NAPTR.naptr_tokens origin)
 reading_of origin types.NS = by (straight_tokens origin base.NameRecords.name_shape)
 reading_of origin types.OPENPGPKEY = by base.OPENPGPKEY.openpgpkey_tokens
 reading_of origin types.PTR = by (straight_tokens origin base.NameRecords.name_shape)
-reading_of origin types.SMIMEA = by certs.TokenRows.smimea_tokens
+reading_of origin types.SMIMEA = by certs.TokenRows.tlsa_tokens
 reading_of origin types.SOA = by (base.SOA.soa_tokens origin)
 reading_of origin types.SRV = by (straight_tokens origin base.NameRecords.srv_facts.kinds)
 reading_of origin types.SSHFP = by certs.TokenRows.sshfp_tokens

@@ -1,5 +1,5 @@
 -- What values of RDATA feed a hasher: equal values feed the same.
-use Rattle.std.specs.Prelude.{◌≡◌, Bool, true, ◌&&◌, ◌++◌}
+use Rattle.std.specs.Prelude.{◌≡◌, Bool, true, ◌&&◌, ◌++◌, []}
 use Rattle.std.specs.{Cmp.first_so, Hash.HashWrites}
 use Rattle.std.proofs.Common.{ap, arith, ◌∙◌, refl, true≢false, sym}
 use Rattle.std.proofs.Math.Bool.{and_assoc, and-true}
@@ -10,13 +10,38 @@ use Rattle.dns_rdata_certs.specs.contracts as certs
 use Rattle.dns_rdata_options.specs.contracts as options
 use Rattle.dns_rdata_service.specs.contracts as service
 use Rattle.dns_rdata_caa_csync.specs.contracts as caa_csync
-use Rattle.dns_rdata.specs.{declared.record_data.RData.RData, Data.held, Data.fed_in, Data.type_of, Keys.variant_keys}
+use Rattle.dns_rdata.specs.{declared.record_data.RData.RData, Data.type_of, Keys.variant_keys}
 use Rattle.dns_rdata.specs.Equal.{equal, record_type_eq, types_equal}
 use Rattle.dns_rdata.specs.declared.record_data.RData.TheVariants as rdata
 
 -- what the record in the value feeds
 abbrev pub record_fed : RData → HashWrites
-record_fed v = fed_in (held v)
+record_fed (rdata.A x) = base.a.AHash.TheImpl.ghosts.hash_input x
+record_fed (rdata.AAAA x) = base.aaaa.AAAAHash.TheImpl.ghosts.hash_input x
+record_fed (rdata.ANAME x) = base.name.ANAMEHash.TheImpl.ghosts.hash_input x
+record_fed (rdata.CAA x) = caa_csync.caa.CAAHash.TheImpl.ghosts.hash_input x
+record_fed (rdata.CERT x) = certs.cert.CERTHash.TheImpl.ghosts.hash_input x
+record_fed (rdata.CNAME x) = base.name.CNAMEHash.TheImpl.ghosts.hash_input x
+record_fed (rdata.CSYNC x) = caa_csync.csync.CSYNCHash.TheImpl.ghosts.hash_input x
+record_fed (rdata.HINFO x) = base.hinfo.HINFOHash.TheImpl.ghosts.hash_input x
+record_fed (rdata.HTTPS x) = service.https.HTTPSHash.TheImpl.ghosts.hash_input x
+record_fed (rdata.MX x) = base.mx.MXHash.TheImpl.ghosts.hash_input x
+record_fed (rdata.NAPTR x) = base.naptr.NAPTRHash.TheImpl.ghosts.hash_input x
+record_fed (rdata.NULL x) = base.null.NULLHash.TheImpl.ghosts.hash_input x
+record_fed (rdata.NS x) = base.name.NSHash.TheImpl.ghosts.hash_input x
+record_fed (rdata.OPENPGPKEY x) = base.openpgpkey.OPENPGPKEYHash.TheImpl.ghosts.hash_input x
+record_fed (rdata.OPT x) = options.opt.OPTHash.TheImpl.ghosts.hash_input x
+record_fed (rdata.PTR x) = base.name.PTRHash.TheImpl.ghosts.hash_input x
+record_fed (rdata.SMIMEA x) = certs.smimea.SMIMEAHash.TheImpl.ghosts.hash_input x
+record_fed (rdata.SOA x) = base.soa.SOAHash.TheImpl.ghosts.hash_input x
+record_fed (rdata.SRV x) = base.srv.SRVHash.TheImpl.ghosts.hash_input x
+record_fed (rdata.SSHFP x) = certs.sshfp.SSHFPHash.TheImpl.ghosts.hash_input x
+record_fed (rdata.SVCB x) = service.svcb.SVCBHash.TheImpl.ghosts.hash_input x
+record_fed (rdata.TLSA x) = certs.tlsa.TLSAHash.TheImpl.ghosts.hash_input x
+record_fed (rdata.TXT x) = base.txt.TXTHash.TheImpl.ghosts.hash_input x
+record_fed (rdata.Unknown code x) = base.null.NULLHash.TheImpl.ghosts.hash_input x
+record_fed (rdata.Update0 t) = []
+record_fed rdata.ZERO = []
 
 -- the type, and then what the record in the value feeds
 abbrev pub data_fed : RData → HashWrites

@@ -8,8 +8,10 @@ use Rattle.dns_fields.proofs.Orders.{values_total}
 use Rattle.dns_types.specs.declared.record_type.RecordType.{RecordType}
 use Rattle.dns_types.specs.contracts.record_type.RecordTypeOrd.TheImpl as type_ord
 use Rattle.dns_types.specs.contracts.record_type.RecordTypeOrd.TheImpl.Laws as type_laws
+use Rattle.dns_names_wire.specs.Facts.{Facts}
 use Rattle.dns_rdata_options.specs.{Order.opt_cmp, OrderLaws.opt_total}
-use Rattle.dns_rdata.specs.{declared.record_data.RData.RData, Data.held, Data.rank_in, Data.type_of, Data.data_octets, Data.Fills}
+use Rattle.dns_rdata.specs.{declared.record_data.RData.RData, Data.type_of, Data.data_octets, Data.Fills, Data.FieldsOf}
+use Rattle.dns_rdata.specs.declared.record_data.RData.TheVariants as rdata
 use Rattle.dns_rdata.specs.Keys.{VariantKey, fields, options, variant_keys}
 
 abbrev pub record_type_cmp : RecordType → RecordType → Ordering
@@ -26,7 +28,32 @@ keys_cmp (key ∷ rest) = then_cmp (variant_key_cmp key) (keys_cmp rest)
 
 -- the rank of the variant
 abbrev pub rank : RData → ℕ
-rank v = rank_in (held v)
+rank (rdata.A x) = 0
+rank (rdata.AAAA x) = 1
+rank (rdata.ANAME x) = 2
+rank (rdata.CAA x) = 3
+rank (rdata.CERT x) = 4
+rank (rdata.CNAME x) = 5
+rank (rdata.CSYNC x) = 6
+rank (rdata.HINFO x) = 7
+rank (rdata.HTTPS x) = 8
+rank (rdata.MX x) = 9
+rank (rdata.NAPTR x) = 10
+rank (rdata.NULL x) = 11
+rank (rdata.NS x) = 12
+rank (rdata.OPENPGPKEY x) = 13
+rank (rdata.OPT x) = 14
+rank (rdata.PTR x) = 15
+rank (rdata.SMIMEA x) = 16
+rank (rdata.SOA x) = 17
+rank (rdata.SRV x) = 18
+rank (rdata.SSHFP x) = 19
+rank (rdata.SVCB x) = 20
+rank (rdata.TLSA x) = 21
+rank (rdata.TXT x) = 22
+rank (rdata.Unknown code x) = 23
+rank (rdata.Update0 t) = 24
+rank rdata.ZERO = 25
 
 -- by variant as they are declared, and of one variant by the fields
 abbrev pub variants_cmp : RData → RData → Ordering
@@ -54,6 +81,10 @@ abbrev pub OrdersRead : RData → RData → Ordering → Type 0
 OrdersRead v w answer = (t : RecordType) (m : List ℕ) (p n : ℕ) (m' : List ℕ) (p' n' : ℕ) → Fills m p n t v
     → Fills m' p' n' t w
     → answer ≡ slice_cmp nat_cmp (data_octets v) (data_octets w)
+
+-- the fields of a record
+abbrev pub fields_by : {T : Type 0} → Facts T → T → FieldsOf
+fields_by f x = record { kinds = f.kinds; values = f.fields x }
 
 -- they are of two variants
 abbrev pub Differ : RData → RData → Type 0

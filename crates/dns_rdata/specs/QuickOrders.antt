@@ -1,6 +1,5 @@
 -- The order of two values, found by their fields.
-use Rattle.std.specs.Prelude.{◌≡◌, Option, IfSome}
-use Rattle.std.specs.declared.cmp.Ordering.{Ordering}
+use Rattle.std.specs.{Prelude.◌≡◌, Prelude.Option, Prelude.IfSome, declared.cmp.Ordering.Ordering}
 use Rattle.dns_rdata.specs.{declared.record_data.RData.RData, Order.rdata_cmp}
 
 -- an order that is found is that of the two values

@@ -1,28 +1,79 @@
 -- Why RDATA is rejected.
-use Rattle.std.specs.Prelude.{◌≡◌, ◌≢◌, ℕ, ◌+◌, ◌-◌, ◌⊎◌, Result, Ok, Err}
+use Rattle.std.specs.Prelude.{◌≡◌, ◌≢◌, ℕ, ◌+◌, ◌-◌, ◌<◌, ◌≤◌, ◌⊎◌, List, [], ◌∷◌, Result, Ok, Err}
 use Rattle.dns_types.specs.{declared.error.DecodeError.DecodeError, declared.record_type.RecordType.RecordType, RecordTypes.number_of}
 use Rattle.dns_types.specs.declared.error.DecodeError.TheVariants as decode
-use Rattle.dns_names_wire.specs.{State.Reading, Terms.UnlessMemory}
-use Rattle.dns_rdata_base.specs.NULL.{IsNullError, null_facts}
-use Rattle.dns_rdata.specs.Data.{TypeRow, row, unread, formatless, row_of, IsNeverRead, IsTaken}
+use Rattle.dns_types.specs.declared.record_type.RecordType.TheVariants as types
+use Rattle.dns_fields.specs.{Fields.Values, declared.Kind.Kind, declared.Kind.TheVariants.CharacterStrings}
+use Rattle.dns_fields.specs.declared.Kind.TheVariants.{Rest, Options, Parameters, Bitmap}
+use Rattle.dns_rows.specs.Table.{TypeRow, table, kinds_of}
+use Rattle.dns_names_wire.specs.{State.Reading, Terms.Took, Terms.UnlessMemory}
+use Rattle.dns_rdata_base.specs as base
+use Rattle.dns_rdata_certs.specs as certs
+use Rattle.dns_rdata_options.specs as options
+use Rattle.dns_rdata_service.specs as service
+use Rattle.dns_rdata_caa_csync.specs as caa_csync
+use Rattle.dns_rdata.specs.Data.{parts_of, MeetsRule, IsNeverRead}
 
--- the errors of the record's own reader for n octets of RDATA, with their cause
-abbrev pub IsOwnError : RecordType → TypeRow → ℕ → Reading → Reading → DecodeError → Type 0
-IsOwnError t (row kinds asked rejects taken) n old new e = rejects n old e new
-IsOwnError t unread n old new e = (e ≡ decode.UnknownRecordTypeValue (number_of t)) × (new ≡ old)
-IsOwnError t formatless n old new e = IsNullError n old e new
+-- the error of a type that is never read
+abbrev pub never_read : RecordType → ℕ → Reading → DecodeError → Reading → Type 0
+never_read t n old e new = (e ≡ decode.UnknownRecordTypeValue (number_of t)) × (new ≡ old)
+
+-- the errors of each record's own reader for n octets of RDATA, with their cause, and where the decoder is then
+abbrev pub rejects_of : RecordType → ℕ → Reading → DecodeError → Reading → Type 0
+rejects_of types.A = base.A.a_facts.rejects
+rejects_of types.AAAA = base.AAAA.aaaa_facts.rejects
+rejects_of types.ANAME = base.NameRecords.aname_facts.rejects
+rejects_of types.CAA = caa_csync.CAA.caa_facts.rejects
+rejects_of types.CERT = certs.CERT.cert_facts.rejects
+rejects_of types.CNAME = base.NameRecords.cname_facts.rejects
+rejects_of types.CSYNC = caa_csync.CSYNC.csync_facts.rejects
+rejects_of types.HINFO = base.HINFO.hinfo_facts.rejects
+rejects_of types.HTTPS = service.HTTPS.https_facts.rejects
+rejects_of types.MX = base.NameRecords.mx_facts.rejects
+rejects_of types.NAPTR = base.NAPTR.naptr_facts.rejects
+rejects_of types.NULL = base.NULL.null_facts.rejects
+rejects_of types.NS = base.NameRecords.ns_facts.rejects
+rejects_of types.OPENPGPKEY = base.OPENPGPKEY.openpgpkey_facts.rejects
+rejects_of types.OPT = options.OPT.opt_facts.rejects
+rejects_of types.PTR = base.NameRecords.ptr_facts.rejects
+rejects_of types.SMIMEA = certs.SMIMEA.smimea_facts.rejects
+rejects_of types.SOA = base.SOA.soa_facts.rejects
+rejects_of types.SRV = base.NameRecords.srv_facts.rejects
+rejects_of types.SSHFP = certs.SSHFP.sshfp_facts.rejects
+rejects_of types.SVCB = service.SVCB.svcb_facts.rejects
+rejects_of types.TLSA = certs.TLSA.tlsa_facts.rejects
+rejects_of types.TXT = base.TXT.txt_facts.rejects
+rejects_of types.ZERO = λ n old e new. ⊥
+rejects_of types.ANY = never_read types.ANY
+rejects_of types.AXFR = never_read types.AXFR
+rejects_of types.IXFR = never_read types.IXFR
+rejects_of t = base.NULL.null_facts.rejects
 
 abbrev pub OwnError : RecordType → ℕ → Reading → Reading → DecodeError → Type 0
-OwnError t n old new e = IsOwnError t (row_of t) n old new e
+OwnError t n old new e = rejects_of t n old e new
 
--- the record's own reader reads a value of n octets of RDATA, up to where the decoder is
-abbrev pub IsOwnTaken : TypeRow → ℕ → Reading → Reading → Type 0
-IsOwnTaken (row kinds asked rejects taken) n old new = taken n old new
-IsOwnTaken unread n old new = ⊥
-IsOwnTaken formatless n old new = IsTaken null_facts n old new
+-- Where the record's own reader ends that reads a value of n octets of RDATA: after its fields, if they say themselves
+-- where they end; strings reach the end of the RDATA or pass it, parameters leave at most three octets, and any other
+-- last field ends with the RDATA.
+abbrev pub Reached : List Kind → ℕ → Reading → Reading → Type 0
+Reached (CharacterStrings ∷ []) n old new = old.index + n ≤ new.index
+Reached (Parameters ∷ []) n old new = (new.index ≤ old.index + n) × (old.index + n < new.index + 4)
+Reached (Rest ∷ []) n old new = new.index ≡ old.index + n
+Reached (Options ∷ []) n old new = new.index ≡ old.index + n
+Reached (Bitmap ∷ []) n old new = new.index ≡ old.index + n
+Reached (k ∷ (l ∷ kinds)) n old new = Reached (l ∷ kinds) n old new
+Reached kinds n old new = Unit {0}
+
+-- The record is read from the old index of the decoder to the new one, whatever n, the number of octets of RDATA, is:
+-- its fields are encoded there, each as its rule asks.
+pub record IsTaken (r : TypeRow) (n : ℕ) (old new : Reading) : Type 0 where
+  pub values : Values (kinds_of (parts_of r))
+  pub took : Took old (kinds_of (parts_of r)) values new
+  pub holds : MeetsRule r values
+  pub reached : Reached (kinds_of (parts_of r)) n old new
 
 abbrev pub OwnTaken : RecordType → ℕ → Reading → Reading → Type 0
-OwnTaken t n old new = IsOwnTaken (row_of t) n old new
+OwnTaken t n old new = IsTaken (table t) n old new
 
 -- What the record's own reader returns, before the number of octets is compared with RDLENGTH: a value or an error. If
 -- memory ran out, nothing is said.

@@ -6,7 +6,7 @@ use Rattle.std.specs.Cmp.{first_so, both_tied, tied_itself, Equal-is}
 use Rattle.std.specs.Cmp.Lexicographic.{slice_cmp, nat_list_cmp_total}
 use Rattle.std.specs.declared.cmp.Ordering.TheVariants.{Equal}
 use Rattle.std.proofs.lemmas.List.Sorted.{IsPermutation-map}
-use Rattle.dns_fields.specs.{Fields.Kind, Fields.Values, Fields.Same, Equal.values_eq, Order.values_cmp}
+use Rattle.dns_fields.specs.{declared.Kind.Kind, Fields.Values, Fields.Same, Equal.values_eq, Order.values_cmp}
 use Rattle.dns_fields.proofs.{Orders.values_ties, SameFields.emittable_same, SameFields.equal_same, Laws.canonical_same}
 use Rattle.dns_types.specs.contracts.record_type.RecordTypeOrd.TheImpl.Laws as type_laws
 use Rattle.dns_rdata_options.specs.{Order.opt_eq, Order.opt_cmp, OrderLaws.opt_ties}
@@ -108,8 +108,8 @@ same_octets (rdata.OPT x) (rdata.OPT y) h =
 same_octets (rdata.PTR x) (rdata.PTR y) h =
     octets_equal base.NameRecords.name_shape (base.NameRecords.ptr_fields x) (base.NameRecords.ptr_fields y) h
 same_octets (rdata.SMIMEA x) (rdata.SMIMEA y) h =
-    let s = same_keys certs.SMIMEA.smimea_key_shape (certs.SMIMEA.smimea_keys x) (certs.SMIMEA.smimea_keys y) h in
-    octets_same certs.SMIMEA.smimea_shape (certs.SMIMEA.smimea_fields x) (certs.SMIMEA.smimea_fields y)
+    let s = same_keys certs.TLSA.tlsa_key_shape (certs.TLSA.tlsa_keys x.0) (certs.TLSA.tlsa_keys y.0) h in
+    octets_same certs.TLSA.tlsa_shape (certs.TLSA.tlsa_fields x.0) (certs.TLSA.tlsa_fields y.0)
     (s.0, (s.1.1.0, (s.1.1.1.1.0, (s.1.1.1.1.1.1.0, tt))))
 same_octets (rdata.SOA x) (rdata.SOA y) h =
     octets_equal base.SOA.soa_shape (base.SOA.soa_fields x) (base.SOA.soa_fields y) h

@@ -1,7 +1,8 @@
 -- The uncompressed octets of RDATA: names uncompressed with case preserved, options in their order.
 use Rattle.std.specs.Prelude.{ℕ, List, [], ◌∷◌, ◌++◌}
 use Rattle.dns_fields.specs.{Labels.DomainName, Labels.wire, Tlvs.tlvs}
-use Rattle.dns_fields.specs.Fields.{Kind, Value, Values, Name, Options, field_octets, option_tlvs}
+use Rattle.dns_fields.specs.Fields.{Value, Values, field_octets, option_tlvs}
+use Rattle.dns_fields.specs.declared.Kind.{Kind, TheVariants.Name, TheVariants.Options}
 use Rattle.dns_rdata.specs.{declared.record_data.RData.RData, Data.fields_of}
 
 -- a name's octets, uncompressed with case preserved (RFC 1035, 3.1)

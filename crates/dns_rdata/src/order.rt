@@ -2,7 +2,7 @@
 
 ghost use Rattle.std.specs.Prelude.{◌≡◌, ◌&&◌, true, refl};
 ghost use Rattle.std.specs.{Cmp.Lexicographic.slice_cmp, Ordering.nat_cmp};
-ghost use Rattle.dns_rdata.specs.{Data.data_octets, Data.fields_by, Data.fields_of, Equal.equal, Order.rank, Order.rdata_cmp, Order.variants_cmp};
+ghost use Rattle.dns_rdata.specs.{Data.data_octets, Order.fields_by, Data.fields_of, Equal.equal, Order.rank, Order.rdata_cmp, Order.variants_cmp};
 ghost use Rattle.dns_rdata.specs.{Order.Differ, Order.OrdersRead, Order.rdata_total, QuickOrders.TellsOrder, Ties.rdata_ties};
 
 use crate::each::with_records;

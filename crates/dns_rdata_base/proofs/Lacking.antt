@@ -3,7 +3,8 @@ use Rattle.std.proofs.Common.{◌≡◌, ◌⊎◌, inl, inr, List, ◌∷◌, R
 use Rattle.std.specs.Result.{IfErr, IsErrAnd}
 use Rattle.dns_types.specs.declared.error.DecodeError.{DecodeError}
 use Rattle.dns_types.specs.declared.error.DecodeError.TheVariants as decode
-use Rattle.dns_fields.specs.Fields.{Kind, Name, Value}
+use Rattle.dns_fields.specs.Fields.{Value}
+use Rattle.dns_fields.specs.declared.Kind.{Kind, TheVariants.Name}
 use Rattle.dns_names_wire.specs.{State.Reading, Terms.TookField, Terms.LacksField}
 use Rattle.dns_rdata_base.specs.FieldErrors.{LacksHere, IsLack}
 

@@ -4,7 +4,8 @@ use Rattle.std.proofs.lemmas.{Cmp.nat_list_eq_equiv, List.append_cancel_left, Li
 use Rattle.std.specs.{Cmp.IsEquivalence, Cmp.Lexicographic.pointwise, List.flat_map, FinMap.nat_cmp-IsAntisymmetric, FinMap.slice_cmp-IsAntisymmetric, Ordering.is_eq, Ordering.ordering_then, declared.cmp.Ordering.Ordering}
 use Rattle.std.specs.declared.cmp.Ordering.TheVariants.{Less, Equal, Greater}
 use Rattle.dns_fields.specs.{Tlvs.string}
-use Rattle.dns_fields.specs.Fields.{Kind, CharacterString, CharacterStrings, Rest, Value, Values, all_emittable, canonical, field_octets}
+use Rattle.dns_fields.specs.Fields.{Value, Values, all_emittable, canonical, field_octets}
+use Rattle.dns_fields.specs.declared.Kind.{Kind, TheVariants.CharacterString, TheVariants.CharacterStrings, TheVariants.Rest}
 use Rattle.dns_canonical.specs.Fronts.{canonical_cmp, field_cmp, fields_cmp, AllEndAlike}
 use Rattle.dns_canonical.proofs.{Comparing.cmp_shared, Comparing.both_equal, Fronts.fields_decide}
 use Rattle.dns_rdata_base.specs.contracts.hinfo.HINFOPartialEq.TheImpl as hinfo_eq

@@ -4,7 +4,8 @@ use Rattle.std.proofs.{Common.subst, Common.nat_le, Common.false, lemmas.Grind.f
 use Rattle.std.proofs.Common.{◌≡◌, ℕ, suc, ◌+◌, ◌≤◌, ◌<◌, ◌⊎◌, inl, inr, List, [], ◌∷◌, ◌++◌, length, take, drop, get_or, drop-cons, refl, sym, ap, ◌∙◌, arith}
 use Rattle.std.specs.List.{flat_map, AllByRecursion, list_all}
 use Rattle.dns_types.specs.declared.error.{DecodeError.DecodeError, ProtoError.ProtoError}
-use Rattle.dns_fields.specs.{Fields.CharacterString, Fields.CharacterStrings, Fields.Field, Fields.field_octets, Tlvs.string, Octets.At}
+use Rattle.dns_fields.specs.{declared.Kind.TheVariants.CharacterString, declared.Kind.TheVariants.CharacterStrings, Fields.Field, Fields.field_octets}
+use Rattle.dns_fields.specs.{Tlvs.string, Octets.At}
 use Rattle.dns_fields.proofs.FieldLaws.{field_inside, field_end}
 use Rattle.dns_names_wire.specs.Terms.{TookField, LacksField, RefusedField, RefusedRegion, AppendedField, StoppedField, NoRoomField, UnfitField}
 use Rattle.dns_names_wire.specs.State.{Reading, Writing}

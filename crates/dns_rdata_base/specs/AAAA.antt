@@ -3,16 +3,19 @@ use Rattle.std.specs.Prelude.{◌≡◌, ◌+◌, ◌-◌, ◌*◌, ◌/◌, ℕ
 use Rattle.std.specs.{Net.Addr.ipv6_octets, Net.Addr.ipv6_segments, Net.Text.ipv6_text}
 use Rattle.dns_types.specs.declared.error.DecodeError.{DecodeError}
 use Rattle.dns_types.specs.declared.error.DecodeError.TheVariants as decode
-use Rattle.dns_fields.specs.Fields.{Kind, Octets, Values}
+use Rattle.dns_fields.specs.Fields.{Values}
+use Rattle.dns_fields.specs.declared.Kind.{Kind, TheVariants.Octets}
+use Rattle.dns_rows.specs.Table.{kinds_of}
+use Rattle.dns_rows.specs.declared.row.TheConstants as rows
 use Rattle.dns_names_wire.specs.{State.Reading, Terms.LacksOctets, Facts.Facts, Facts.ending}
 use Rattle.dns_tokens.specs.Forms.{TokenRow, token, ignored, ipv6}
 use Rattle.dns_rdata_base.specs.declared.aaaa.AAAA.{AAAA}
 
 -- the sixteen octets of the address, the highest first
 abbrev pub aaaa_shape : List Kind
-aaaa_shape = Octets 16 ∷ []
+aaaa_shape = kinds_of rows.AAAA
 
-abbrev pub aaaa_fields : AAAA → Values aaaa_shape
+abbrev pub aaaa_fields : AAAA → Values (kinds_of rows.AAAA)
 aaaa_fields x = (ipv6_octets x.0, tt)
 
 -- groups joined by colons (RFC 5952, 4)

@@ -2,7 +2,8 @@
 use Rattle.std.specs.Prelude.{◌≡◌, ◌⊎◌, List, [], ◌∷◌}
 use Rattle.dns_types.specs.declared.error.DecodeError.{DecodeError}
 use Rattle.dns_types.specs.declared.error.DecodeError.TheVariants as decode
-use Rattle.dns_fields.specs.Fields.{Kind, Number, Name, CharacterString, Value, Values}
+use Rattle.dns_fields.specs.Fields.{Value, Values}
+use Rattle.dns_fields.specs.declared.Kind.{Kind, TheVariants.Number, TheVariants.Name, TheVariants.CharacterString}
 use Rattle.dns_names_wire.specs.{State.Reading, Terms.TookField, Terms.LacksOctets, Terms.LacksText, Terms.LacksField, Facts.Facts, Facts.ending}
 
 -- no number, name or character string is there: of the last alone its length octet is read

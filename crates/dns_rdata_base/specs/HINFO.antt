@@ -1,6 +1,9 @@
 -- HINFO: a machine and its system (RFC 1035, 3.3.2).
 use Rattle.std.specs.Prelude.{◌≡◌, ◌⊎◌, ℕ, List, [], ◌∷◌, ◌++◌, codes}
-use Rattle.dns_fields.specs.Fields.{Kind, CharacterString, Values}
+use Rattle.dns_fields.specs.Fields.{Values}
+use Rattle.dns_fields.specs.declared.Kind.{Kind, TheVariants.CharacterString}
+use Rattle.dns_rows.specs.Table.{kinds_of}
+use Rattle.dns_rows.specs.declared.row.TheConstants as rows
 use Rattle.dns_types.specs.declared.error.DecodeError.{DecodeError}
 use Rattle.dns_types.specs.declared.error.DecodeError.TheVariants as decode
 use Rattle.dns_names_wire.specs.{State.Reading, Terms.TookField, Terms.LacksText, Facts.Facts, Facts.ending}
@@ -9,9 +12,9 @@ use Rattle.dns_rdata_base.specs.{Lossy.lossy, declared.hinfo.HINFO.HINFO}
 
 -- cpu, os
 abbrev pub hinfo_shape : List Kind
-hinfo_shape = CharacterString ∷ CharacterString ∷ []
+hinfo_shape = kinds_of rows.HINFO
 
-abbrev pub hinfo_fields : HINFO → Values hinfo_shape
+abbrev pub hinfo_fields : HINFO → Values (kinds_of rows.HINFO)
 hinfo_fields x = (x.cpu, (x.os, tt))
 
 -- the two strings, a blank between

@@ -3,7 +3,10 @@ use Rattle.std.specs.Prelude.{◌≡◌, ◌⊎◌, ℕ, IsTrue, List, [], ◌�
 use Rattle.std.specs.{Char.is_ascii_alphanumeric, List.list_all}
 use Rattle.dns_types.specs.declared.error.DecodeError.{DecodeError}
 use Rattle.dns_types.specs.declared.error.DecodeError.TheVariants as decode
-use Rattle.dns_fields.specs.{Labels.DomainName, Fields.Kind, Fields.Number, Fields.CharacterString, Fields.Name, Fields.Values}
+use Rattle.dns_fields.specs.{Labels.DomainName, declared.Kind.Kind, declared.Kind.TheVariants.Number}
+use Rattle.dns_fields.specs.{declared.Kind.TheVariants.CharacterString, declared.Kind.TheVariants.Name, Fields.Values}
+use Rattle.dns_rows.specs.{Table.kinds_of, Rules.AreLetters, Rules.MeetsRow}
+use Rattle.dns_rows.specs.declared.row.TheConstants as rows
 use Rattle.dns_labels.specs.Text.{name_text}
 use Rattle.dns_names_wire.specs.{State.Reading, Terms.Took, Facts.Facts, Facts.ending}
 use Rattle.dns_tokens.specs.Forms.{Form, TokenRow, token, ignored, number, kept, name}
@@ -25,18 +28,14 @@ naptr_rest x = (x.flags, (x.services, (x.regexp, (x.replacement, tt))))
 
 -- order, preference, flags, services, regexp, replacement
 abbrev pub naptr_shape : List Kind
-naptr_shape = Number 2 ∷ Number 2 ∷ CharacterString ∷ CharacterString ∷ CharacterString ∷ Name ∷ []
+naptr_shape = kinds_of rows.NAPTR
 
-abbrev pub naptr_fields : NAPTR → Values naptr_shape
+abbrev pub naptr_fields : NAPTR → Values (kinds_of rows.NAPTR)
 naptr_fields x = (x.order, (x.preference, (x.flags, (x.services, (x.regexp, (x.replacement, tt))))))
-
--- digits and letters of ASCII
-abbrev pub AreFlags : List ℕ → Type 0
-AreFlags flags = IsTrue (list_all is_ascii_alphanumeric flags)
 
 -- the flags are digits and letters
 abbrev pub MeetsNaptrCondition : Values naptr_shape → Type 0
-MeetsNaptrCondition vs = AreFlags vs.1.1.0
+MeetsNaptrCondition vs = MeetsRow rows.NAPTR vs
 
 -- the flags, after order and preference, have another octet
 pub record BadFlags (old : Reading) (e : DecodeError) (new : Reading) : Type 0 where
@@ -45,7 +44,7 @@ pub record BadFlags (old : Reading) (e : DecodeError) (new : Reading) : Type 0 w
   pub preference : ℕ
   pub flags : List ℕ
   pub took : Took old (Number 2 ∷ Number 2 ∷ CharacterString ∷ []) (order, (preference, (flags, tt))) new
-  pub bad : AreFlags flags → ⊥
+  pub bad : AreLetters flags → ⊥
 
 abbrev pub IsNaptrError : Reading → DecodeError → Reading → Type 0
 IsNaptrError old e new = IsLack naptr_shape old e new ⊎ BadFlags old e new
@@ -61,7 +60,7 @@ naptr_text x = decimal x.order ++ codes " " ++ decimal x.preference
 
 -- the token's octets, which are digits and letters
 abbrev pub flags_token : Form CharacterString
-flags_token = record { is = λ octets token. (octets ≡ token) × AreFlags octets }
+flags_token = record { is = λ octets token. (octets ≡ token) × AreLetters octets }
 
 -- order, preference, flags, services, regexp, replacement
 abbrev pub naptr_tokens : Option DomainName → TokenRow naptr_shape

@@ -1,14 +1,17 @@
 -- Records that a name ends: CNAME, NS, PTR, MX (RFC 1035, 3.3.1, 3.3.11, 3.3.12 and 3.3.9), ANAME and SRV (RFC 2782).
 use Rattle.std.specs.Prelude.{List, [], ◌∷◌}
-use Rattle.dns_fields.specs.{Fields.Kind, Fields.Number, Fields.Name, Fields.Values, Labels.DomainName}
+use Rattle.dns_fields.specs.{declared.Kind.Kind, declared.Kind.TheVariants.Number, declared.Kind.TheVariants.Name}
+use Rattle.dns_fields.specs.{Fields.Values, Labels.DomainName}
+use Rattle.dns_rows.specs.Table.{kinds_of}
+use Rattle.dns_rows.specs.declared.row.TheConstants as rows
 use Rattle.dns_names_wire.specs.Facts.{Facts}
 use Rattle.dns_rdata_base.specs.{FieldErrors.straight, declared.name.CNAME.CNAME, declared.name.NS.NS, declared.name.PTR.PTR, declared.name.ANAME.ANAME}
 use Rattle.dns_rdata_base.specs.{declared.mx.MX.MX, declared.srv.SRV.SRV}
 
 abbrev pub name_shape : List Kind
-name_shape = Name ∷ []
+name_shape = kinds_of rows.NAME
 
-abbrev pub name_fields : DomainName → Values name_shape
+abbrev pub name_fields : DomainName → Values (kinds_of rows.NAME)
 name_fields n = (n, tt)
 
 abbrev pub cname_fields : CNAME → Values name_shape
@@ -36,13 +39,18 @@ abbrev pub aname_facts : Facts ANAME
 aname_facts = straight name_shape aname_fields
 
 -- preference, exchange
+abbrev pub mx_fields : MX → Values (kinds_of rows.MX)
+mx_fields x = (x.preference, (x.exchange, tt))
+
 abbrev pub mx_facts : Facts MX
-mx_facts = straight (Number 2 ∷ Name ∷ []) (λ x. (x.preference, (x.exchange, tt)))
+mx_facts = straight (kinds_of rows.MX) mx_fields
 
 -- priority, weight, port, target
+abbrev pub srv_fields : SRV → Values (kinds_of rows.SRV)
+srv_fields x = (x.priority, (x.weight, (x.port, (x.target, tt))))
+
 abbrev pub srv_facts : Facts SRV
-srv_facts =
-    straight (Number 2 ∷ Number 2 ∷ Number 2 ∷ Name ∷ []) (λ x. (x.priority, (x.weight, (x.port, (x.target, tt)))))
+srv_facts = straight (kinds_of rows.SRV) srv_fields
 
 -- priority, weight, port
 abbrev pub srv_numbers_shape : List Kind

@@ -3,7 +3,8 @@
 use Rattle.std.specs.Prelude.{◌≡◌, ℕ, ◌==◌, ◌++◌, Bool, List, Option, find, unwrap_or, nat_eq}
 use Rattle.std.specs.Hash as fed
 use Rattle.std.specs.{Ordering.as_partial_cmp, Ordering.on, Ordering.nat_cmp, Ordering.then_cmp, Ordering.eq_of_both, declared.cmp.Ordering.Ordering}
-use Rattle.dns_fields.specs.Fields.{Number, Field}
+use Rattle.dns_fields.specs.Fields.{Field}
+use Rattle.dns_fields.specs.declared.Kind.{TheVariants.Number}
 
 -- the named variant with this number, or what other numbers give
 abbrev pub numbered_of : {T : Type 0} → (T → ℕ) → List T → (ℕ → T) → ℕ → T

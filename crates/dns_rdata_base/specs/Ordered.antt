@@ -1,7 +1,7 @@
 -- The order of two records, found by their fields.
 use Rattle.std.specs.Prelude.{◌≡◌, ◌≢◌, true, Bool, Option, Some, None, List}
 use Rattle.std.specs.{Ordering.on, declared.cmp.Ordering.Ordering, declared.cmp.Ordering.TheVariants.Equal}
-use Rattle.dns_fields.specs.{Fields.Kind, Fields.Values, Fields.all_emittable, Order.values_cmp}
+use Rattle.dns_fields.specs.{declared.Kind.Kind, Fields.Values, Fields.all_emittable, Order.values_cmp}
 use Rattle.dns_names_wire.specs.Facts.{Facts}
 use Rattle.dns_canonical.specs.Fronts.{canonical_cmp}
 
@@ -20,3 +20,14 @@ IfSomeOrder s a b same (Some o) = IsOrder s a b same o
 -- values ordered by what they are compared by
 abbrev pub by_keys : {T : Type 0} (kinds : List Kind) → (T → Values kinds) → Facts T → Facts T
 by_keys kinds keys f = record f { order = on keys (values_cmp kinds) }
+
+-- values that hold one of another type, as that one
+abbrev pub via : {T U : Type 0} → (U → T) → Facts T → Facts U
+via held f = record {
+  kinds = f.kinds;
+  condition = f.condition;
+  fields = λ x. f.fields (held x);
+  rejects = f.rejects;
+  after_read = λ n x old new. f.after_read n (held x) old new;
+  order = on held f.order;
+}

@@ -1,6 +1,9 @@
 -- SOA: the start of a zone of authority (RFC 1035, 3.3.13).
 use Rattle.std.specs.Prelude.{ℕ, ◌≤◌, ℤ, pos, negsuc, FitsSigned, List, [], ◌∷◌, ◌++◌, codes, decimal, Option}
-use Rattle.dns_fields.specs.{Labels.DomainName, Fields.Kind, Fields.Number, Fields.Name, Fields.Values}
+use Rattle.dns_fields.specs.{Labels.DomainName, declared.Kind.Kind, declared.Kind.TheVariants.Number}
+use Rattle.dns_fields.specs.{declared.Kind.TheVariants.Name, Fields.Values}
+use Rattle.dns_rows.specs.Table.{kinds_of}
+use Rattle.dns_rows.specs.declared.row.TheConstants as rows
 use Rattle.dns_labels.specs.Text.{name_text}
 use Rattle.std.specs.{Fmt.signed_decimal, Int.cast_unsigned, Int.w32}
 use Rattle.dns_names_wire.specs.Facts.{Facts}
@@ -20,9 +23,9 @@ soa_numbers_of x = soa_numbers (x.serial, x.refresh, x.retry, x.expire, x.minimu
 
 -- mname, rname, and the numbers
 abbrev pub soa_shape : List Kind
-soa_shape = Name ∷ Name ∷ soa_numbers_shape
+soa_shape = kinds_of rows.SOA
 
-abbrev pub soa_fields : SOA → Values soa_shape
+abbrev pub soa_fields : SOA → Values (kinds_of rows.SOA)
 soa_fields x = (x.mname, (x.rname, soa_numbers_of x))
 
 -- refresh, retry and expire are numbers of 32 bits

@@ -1,7 +1,10 @@
 -- TXT: character strings (RFC 1035, 3.3.14).
 use Rattle.std.specs.Prelude.{◌≡◌, ◌⊎◌, ◌+◌, ◌<◌, ◌≤◌, ℕ, List, [], ◌∷◌}
 use Rattle.std.specs.{List.flat_map, Ordering.on}
-use Rattle.dns_fields.specs.{Fields.Kind, Fields.CharacterStrings, Fields.Values, Order.values_cmp}
+use Rattle.dns_fields.specs.{declared.Kind.Kind, declared.Kind.TheVariants.CharacterStrings, Fields.Values}
+use Rattle.dns_fields.specs.{Order.values_cmp}
+use Rattle.dns_rows.specs.Table.{kinds_of}
+use Rattle.dns_rows.specs.declared.row.TheConstants as rows
 use Rattle.dns_types.specs.declared.error.DecodeError.{DecodeError}
 use Rattle.dns_types.specs.declared.error.DecodeError.TheVariants as decode
 use Rattle.dns_names_wire.specs.{State.Reading, Terms.TookField, Terms.LacksText, Facts.Facts}
@@ -10,9 +13,9 @@ use Rattle.dns_rdata_base.specs.{Lossy.lossy, declared.txt.TXT.TXT}
 
 -- none or more, to the end
 abbrev pub txt_shape : List Kind
-txt_shape = CharacterStrings ∷ []
+txt_shape = kinds_of rows.TXT
 
-abbrev pub txt_fields : TXT → Values txt_shape
+abbrev pub txt_fields : TXT → Values (kinds_of rows.TXT)
 txt_fields x = (x.txt_data, tt)
 
 -- the strings, nothing between

@@ -1,6 +1,7 @@
 -- Addresses take at least one octet: the law that their impls give, which is cited from specs alone.
 use Rattle.std.proofs.Common.{ℕ, suc, ◌<◌, List, [], ◌∷◌, arith}
-use Rattle.dns_fields.specs.Fields.{Octets, Stands, Values}
+use Rattle.dns_fields.specs.Fields.{Stands, Values}
+use Rattle.dns_fields.specs.declared.Kind.{TheVariants.Octets}
 
 pub octets_take : {T : Type 0} (n : ℕ) (fields : T → Values (Octets (suc n) ∷ [])) (m : List ℕ) (p : ℕ) (x : T) (q : ℕ)
     → Stands m p (Octets (suc n) ∷ []) (fields x) q → p < q

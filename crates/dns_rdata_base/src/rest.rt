@@ -1,7 +1,7 @@
 //! RDATA of any octets: its step, and its order.
 
 ghost use Rattle.std.specs.Prelude.{◌≡◌, ◌∷◌, ℕ, []};
-ghost use Rattle.dns_fields.specs.Fields.{Rest};
+ghost use Rattle.dns_fields.specs.declared.Kind.{TheVariants.Rest};
 ghost use Rattle.dns_canonical.specs.{Fronts.canonical_cmp, Steps.GivesStep, Steps.at_once, Steps.field_steps};
 ghost use Rattle.dns_rdata_base.specs.Ordered.{IfSomeOrder};
 

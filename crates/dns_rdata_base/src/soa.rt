@@ -7,7 +7,8 @@ ghost use Rattle.dns_names_wire.specs.{Facts.same, Facts.same_equiv, Facts.same_
 ghost use Rattle.dns_rdata_base.specs.SOA.{soa_shape, soa_fields, soa_facts, soa_numbers_shape, soa_numbers, soa_numbers_of, soa_text, soa_tokens, HasSeconds};
 ghost use Rattle.dns_rdata_base.specs.{FieldErrors.IsLack, Steps.soa_begins};
 ghost use Rattle.dns_tokens.specs.Reads.{ReadsTokenRow};
-ghost use Rattle.dns_fields.specs.Fields.{Number, canonical, field_octets};
+ghost use Rattle.dns_fields.specs.Fields.{canonical, field_octets};
+ghost use Rattle.dns_fields.specs.declared.Kind.{TheVariants.Number};
 ghost use Rattle.dns_canonical.specs.{Fronts.AllEndAlike, Fronts.fields_cmp, Steps.GivesStep, Steps.field_steps};
 ghost use Rattle.dns_fields.specs.declared.RDataEncoding.TheVariants as modes;
 

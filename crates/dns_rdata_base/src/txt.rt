@@ -2,7 +2,8 @@
 
 ghost use Rattle.std.specs.Prelude.{◌≡◌, ◌≤◌, ℕ, List, [], map, length as list_length, IfOk, Some};
 ghost use Rattle.std.specs.{Cmp.Lexicographic.slice_cmp, String.string_bytes, Iterator.IsFinite, Ordering.nat_cmp, List.flat_map};
-ghost use Rattle.dns_fields.specs.{Fields.CharacterStrings, Fields.Field, Fields.all_emittable, Tlvs.string};
+ghost use Rattle.dns_fields.specs.{declared.Kind.TheVariants.CharacterStrings, Fields.Field, Fields.all_emittable};
+ghost use Rattle.dns_fields.specs.{Tlvs.string};
 ghost use Rattle.dns_names_wire.specs.Terms.{Emits};
 ghost use Rattle.dns_canonical.specs.{Steps.AllShort, Steps.GivesStep, Fronts.canonical_cmp};
 ghost use Rattle.dns_rdata_base.specs.{TXT.txt_shape, TXT.txt_fields, TXT.txt_facts, TXT.txt_text, TXT.txt_tokens, Steps.texts_left};

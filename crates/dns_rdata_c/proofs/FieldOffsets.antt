@@ -1,12 +1,12 @@
 -- The octets of data with uncompressed names, where they are in a message.
 use Rattle.std.proofs.Common.{◌≡◌, ◌∙◌, ℕ, suc, ◌+◌, ◌-◌, ◌≤◌, Bool, true, false, ◌&&◌, List, [], ◌∷◌, ◌++◌, length, take, drop, refl, sym, ap, subst}
-use Rattle.std.proofs.Common.{arith, append_assoc, length-append, length-take-le}
+use Rattle.std.proofs.{Common.arith, Common.append_assoc, Common.length-append, Common.length-take-le, Math.Seq.take-append-add}
 use Rattle.std.proofs.lemmas.List.{append-nil, take_at, drop-drop, length-drop, take-append-drop}
-use Rattle.std.proofs.Math.Seq.{take-append-add}
 use Rattle.std.specs.{Cmp.first_so, Cmp.second_so, Int.bytes_high_first}
 use Rattle.dns_fields.specs.{Octets.At, Labels.DomainName, Labels.AreLabels, Labels.wire, Names.IsNameIn, Names.LabelsStand}
-use Rattle.dns_fields.specs.Fields.{Kind, Number, Octets, Name, CharacterString, CharacterStrings, Rest, Options, Parameters, Bitmap, Value, Values, Field, Stands}
-use Rattle.dns_fields.specs.Fields.{field_octets, ParametersAt}
+use Rattle.dns_fields.specs.Fields.{Value, Values, Field, Stands, field_octets, ParametersAt}
+use Rattle.dns_fields.specs.declared.Kind.{Kind, TheVariants.Number, TheVariants.Octets, TheVariants.Name, TheVariants.CharacterString}
+use Rattle.dns_fields.specs.declared.Kind.{TheVariants.CharacterStrings, TheVariants.Rest, TheVariants.Options, TheVariants.Parameters, TheVariants.Bitmap}
 use Rattle.dns_fields.specs.Names.LabelsStand.{whole, pointed}
 use Rattle.dns_fields.proofs.{Numbers.length-bytes, Runs.wire-append, Stays.end_within, Stays.labels_stand}
 use Rattle.dns_rdata_c.specs.Tlvs.{HoldAsLong}

@@ -2,7 +2,8 @@
 use Rattle.std.proofs.Common.{◌≡◌, ◌∙◌, ℕ, ◌+◌, ◌-◌, ◌≤◌, true, List, [], ◌∷◌, ◌++◌, length, take, drop, refl, sym, ap, subst, arith, append_assoc}
 use Rattle.std.proofs.Common.{length-append}
 use Rattle.std.proofs.lemmas.List.{drop-drop, drop-take, length-drop, take-append-drop, take-append-le, drop-append-le}
-use Rattle.dns_fields.specs.{Fields.Kind, Fields.Number, Fields.Name, Fields.Parameters, Fields.Value, Fields.Values, Fields.Field, Labels.DomainName}
+use Rattle.dns_fields.specs.{declared.Kind.Kind, declared.Kind.TheVariants.Number, declared.Kind.TheVariants.Name, declared.Kind.TheVariants.Parameters}
+use Rattle.dns_fields.specs.{Fields.Value, Fields.Values, Fields.Field, Labels.DomainName}
 use Rattle.dns_fields.proofs.{Numbers.length-bytes, Stays.end_within}
 use Rattle.dns_rdata.specs.WholeOctets.{name_octets, all_whole}
 use Rattle.dns_rdata_c.specs.{NameEnds.IsNameLength, Tlvs.HoldAsLong, NameSpans.AreFields}

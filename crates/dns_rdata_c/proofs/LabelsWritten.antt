@@ -1,8 +1,7 @@
 -- A name's octets that are written into a buffer.
 use Rattle.std.proofs.Common.{◌≡◌, ◌∙◌, ℕ, ◌+◌, ◌-◌, ◌<◌, ◌≤◌, List, [], ◌∷◌, ◌++◌, length, take, drop, set, refl, sym, ap, subst, arith}
-use Rattle.std.proofs.Common.{append_assoc, length-append, length-take-le}
+use Rattle.std.proofs.{Common.append_assoc, Common.length-append, Common.length-take-le, lemmas.Grind.take-set_at}
 use Rattle.std.proofs.lemmas.List.{take_at, drop_at, take-append-drop, drop-drop, length-drop, length-set, drop-set-lt, append-nil}
-use Rattle.std.proofs.lemmas.Grind.{take-set_at}
 use Rattle.dns_fields.specs.Labels.{DomainName, wire}
 use Rattle.dns_rdata.specs.WholeOctets.{name_octets}
 

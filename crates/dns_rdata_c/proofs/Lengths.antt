@@ -1,8 +1,7 @@
 -- Tlvs whose lengths are looked at.
 use Rattle.std.proofs.Common.{◌≡◌, ◌∙◌, ℕ, ◌+◌, ◌<◌, ◌≤◌, ◌^◌, List, [], ◌∷◌, ◌++◌, length, take, drop, refl, sym, ap, subst, arith, append_assoc}
-use Rattle.std.proofs.Common.{length-append}
+use Rattle.std.proofs.{Common.length-append, lemmas.List.append-nil, lemmas.List.drop_at, lemmas.List.take_at}
 use Rattle.std.specs.Int.{bytes_high_first}
-use Rattle.std.proofs.lemmas.List.{append-nil, drop_at, take_at}
 use Rattle.dns_fields.specs.Tlvs.{Numbered, tlv, tlvs, IsTlv, AreTlvs}
 use Rattle.dns_fields.proofs.{Numbers.length-bytes, Numbers.same_number, Tlvs.tlv_before, Tlvs.length-tlv, Tlvs.no_tlv}
 use Rattle.dns_rdata_c.specs.Tlvs.{HasNoTlv, IsTlvLength, AreAsLong, HoldAsLong}

@@ -1,7 +1,8 @@
 -- Where the names of record data begin.
 use Rattle.std.proofs.Common.{◌≡◌, ℕ, ◌+◌, ◌≤◌, ◌⊎◌, inl, inr, List, length, refl, sym, subst, arith, Option, Some, None, MatchOption}
 use Rattle.std.specs.Borrow.{Bor}
-use Rattle.dns_fields.specs.{Labels.DomainName, Names.IsNameIn, Fields.Number, Fields.CharacterString, Fields.Name, Fields.Field, Fields.Stands}
+use Rattle.dns_fields.specs.{Labels.DomainName, Names.IsNameIn, declared.Kind.TheVariants.Number, declared.Kind.TheVariants.CharacterString}
+use Rattle.dns_fields.specs.{declared.Kind.TheVariants.Name, Fields.Field, Fields.Stands}
 use Rattle.dns_fields.proofs.{Laws.one_end, Numbers.length-bytes, Stays.end_within}
 use Rattle.dns_rdata_base.specs.{declared.naptr.NAPTR.NAPTR, declared.soa.SOA.SOA}
 use Rattle.dns_rdata.specs.{declared.record_data.RData.RData, Data.FieldsOf, Data.fields_of}

@@ -3,8 +3,9 @@ use Rattle.std.proofs.Common.{◌≡◌, ℕ, zero, suc, ◌+◌, ◌<◌, ◌�
 use Rattle.std.proofs.Common.{ap, subst, arith, if◌then◌else◌, append_assoc, length-append, length-take-le}
 use Rattle.std.proofs.{lemmas.List.length-map, lemmas.List.length-drop, lemmas.Bool.Decides.nat_tests}
 use Rattle.std.specs.{Cmp.first_so, Cmp.second_so, Char.to_ascii_lowercase}
-use Rattle.dns_fields.specs.Fields.{Kind, Number, Octets, Name, CharacterString, CharacterStrings, Rest, Options, Parameters, Bitmap, Value, Values, field_octets}
-use Rattle.dns_fields.specs.Fields.{canonical}
+use Rattle.dns_fields.specs.Fields.{Value, Values, field_octets, canonical}
+use Rattle.dns_fields.specs.declared.Kind.{Kind, TheVariants.Number, TheVariants.Octets, TheVariants.Name, TheVariants.CharacterString}
+use Rattle.dns_fields.specs.declared.Kind.{TheVariants.CharacterStrings, TheVariants.Rest, TheVariants.Options, TheVariants.Parameters, TheVariants.Bitmap}
 use Rattle.dns_fields.specs.Labels.{DomainName, IsLabel, AreLabels, IsName, wire, low_labels, lowname}
 use Rattle.dns_fields.proofs.{NameLaws.low_wire, Numbers.length-bytes}
 use Rattle.dns_rdata.specs.{declared.record_data.RData.RData, Data.fields_of, Data.data_octets, Data.IsEmittable}

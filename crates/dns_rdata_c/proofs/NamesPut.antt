@@ -1,6 +1,5 @@
 -- Names that are put at the front of a buffer.
-use Rattle.std.proofs.Common.{◌≡◌, ◌∙◌, ℕ, ◌+◌, ◌≤◌, List, [], ◌∷◌, ◌++◌, length, take, drop, ap, subst, arith, append_assoc}
-use Rattle.std.proofs.Common.{length-append}
+use Rattle.std.proofs.Common.{◌≡◌, ◌∙◌, ℕ, ◌+◌, ◌≤◌, List, [], ◌∷◌, ◌++◌, length, take, drop, ap, subst, arith, append_assoc, length-append}
 use Rattle.dns_fields.specs.Labels.{DomainName, wire, lowname}
 use Rattle.dns_fields.proofs.NameLaws.{lowname_length}
 use Rattle.dns_rdata.specs.WholeOctets.{name_octets}

@@ -5,8 +5,7 @@ use Rattle.std.proofs.lemmas.List.{drop-drop, drop-take, drop_at, length-drop, t
 use Rattle.dns_fields.specs.Tlvs.{Numbered, tlv, tlvs, IsTlv, AreTlvs}
 use Rattle.dns_fields.proofs.Tlvs.{first_tlv, no_tlv, length-tlv}
 use Rattle.dns_types.specs.declared.record_type.RecordType.{RecordType}
-use Rattle.dns_rdata_c.specs.declared.parts_cursor.PartsCursor.{PartsCursor}
-use Rattle.dns_rdata_c.specs.Tlvs.{HasNoTlv, IsTlvAt, LacksTlvAt}
+use Rattle.dns_rdata_c.specs.{declared.parts_cursor.PartsCursor.PartsCursor, Tlvs.HasNoTlv, Tlvs.IsTlvAt, Tlvs.LacksTlvAt}
 use Rattle.dns_rdata_c.specs.Parts.{HasPart, IsBefore, LacksPart}
 use Rattle.dns_rdata_c.proofs.{TlvWalks.tlvs-append, Walking.split}
 

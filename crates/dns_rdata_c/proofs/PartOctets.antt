@@ -2,7 +2,8 @@
 use Rattle.std.proofs.Common.{◌≡◌, ◌∙◌, ℕ, List, [], ◌∷◌, ◌++◌, length, take, drop, ◌-◌, refl, sym, ap, subst, arith, length-append}
 use Rattle.std.specs.Int.{bytes_high_first}
 use Rattle.std.proofs.{lemmas.Bool.Decides.nat_tests, lemmas.List.append-nil}
-use Rattle.dns_fields.specs.{Octets.At, Fields.Parameters, Fields.field_octets, Fields.parameter_tlvs, Fields.ParametersAt, Tlvs.ParameterForm.PortNumber}
+use Rattle.dns_fields.specs.{Octets.At, declared.Kind.TheVariants.Parameters, Fields.field_octets, Fields.parameter_tlvs, Fields.ParametersAt}
+use Rattle.dns_fields.specs.{Tlvs.ParameterForm.PortNumber}
 use Rattle.dns_fields.specs.Tlvs.{Numbered, tlv, tlvs, AllHeld, as_tlv, ParameterValue, parameter_octets, ParameterHeld, form_for}
 use Rattle.dns_fields.specs.Tlvs.ParameterValue.{Mandatory, Alpn, NoDefaultAlpn, Port, Ipv4Hint, Ipv6Hint, Opaque}
 use Rattle.dns_fields.proofs.Numbers.{length-bytes}

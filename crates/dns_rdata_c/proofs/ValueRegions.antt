@@ -1,10 +1,9 @@
 -- Values whose octets are copied from the message.
 use Rattle.std.proofs.Common.{◌≡◌, ◌⊎◌, inl, inr, ◌∙◌, ℕ, ◌-◌, ◌≤◌, true, List, [], ◌∷◌, ◌++◌, length, drop, refl, sym, ap, subst, arith}
-use Rattle.dns_fields.specs.{Fields.Number, Labels.DomainName}
+use Rattle.dns_fields.specs.{declared.Kind.TheVariants.Number, Labels.DomainName}
 use Rattle.dns_rdata_base.specs.{declared.soa.SOA.SOA, SOA.soa_shape, SOA.soa_fields, SOA.soa_numbers_shape, SOA.soa_numbers_of}
 use Rattle.dns_rdata.specs.{declared.record_data.RData.RData, Data.fields_of, WholeOctets.name_octets, WholeOctets.all_whole, WholeOctets.whole_data}
-use Rattle.dns_rdata_c.specs.Buffers.{IsPut, IsTooMany, Puts}
-use Rattle.dns_rdata_c.specs.NameSpans.{AreFields, AreOf, StandsWhole, EndsByName}
+use Rattle.dns_rdata_c.specs.{Buffers.IsPut, Buffers.IsTooMany, Buffers.Puts, NameSpans.AreFields, NameSpans.AreOf, NameSpans.StandsWhole, NameSpans.EndsByName}
 use Rattle.dns_rdata_c.proofs.FieldOffsets.{are_simple, EndsBy, number_long}
 use Rattle.dns_rdata_c.proofs.FieldRegions.{simple_same, ending_room, ending_front, ending_whole, numbers_behind}
 

@@ -4,11 +4,10 @@ use Rattle.dns_fields.specs.{Fields.Values, Fields.Stands, Labels.DomainName, Oc
 use Rattle.dns_fields.proofs.OctetLaws.{AreOctets-front, AreOctets-same}
 use Rattle.dns_types.specs.{declared.error.ParseError.ParseError, declared.record_type.RecordType.RecordType}
 use Rattle.dns_types.specs.declared.error.ParseError.TheVariants as parse
-use Rattle.dns_rdata.specs.{declared.record_data.RData.RData, WholeOctets.all_whole, WholeOctets.whole_data}
+use Rattle.dns_rdata.specs.{declared.record_data.RData.RData, WholeOctets.all_whole, WholeOctets.whole_data, DataTokens.GivesNoneAt, DataTokens.HasNoTokens}
 use Rattle.dns_rdata.specs.Data.{FieldsOf, shape, Fills, IsValue}
 use Rattle.dns_tokens.specs.Reads.{UnlessParseMemory}
 use Rattle.dns_text.specs.TextWords.{NoTextWords}
-use Rattle.dns_rdata.specs.DataTokens.{GivesNoneAt, HasNoTokens}
 use Rattle.dns_rdata_zone.specs.{ZoneGives.AreDataOf, ZoneGives.GivesValue, ZoneGives.GivesNone, ZoneFaults.ZoneFault}
 use Rattle.dns_rdata_zone.proofs.{Again.own_fields, Filled.fills_give, ZoneOnce.one_given}
 use Rattle.dns_rdata_c.specs.{Buffers.IsPut, Calls.HasZoneData, Calls.IsNoText, Calls.IsNoZoneText, Calls.OfZoneText, Calls.PutsWire, Status.parse_status}

@@ -1,7 +1,7 @@
 -- RDATA as it is in a message, and with names uncompressed or lowercased.
 use Rattle.std.specs.Prelude.{◌≡◌, ℕ, ◌+◌, ◌≤◌, List, ◌++◌, take, drop, map, length}
 use Rattle.std.specs.Char.{to_ascii_lowercase}
-use Rattle.dns_fields.specs.{Fields.Kind, Fields.Values, Fields.Stands, Labels.DomainName}
+use Rattle.dns_fields.specs.{declared.Kind.Kind, Fields.Values, Fields.Stands, Labels.DomainName}
 use Rattle.dns_rdata.specs.{declared.record_data.RData.RData, Data.fields_of, Data.data_octets, WholeOctets.name_octets, WholeOctets.whole_data}
 
 -- the octets, n of them lowercased from the index s on

@@ -1,6 +1,7 @@
 -- The names in record data, and where they begin in the message.
 use Rattle.std.specs.Prelude.{◌≡◌, ℕ, zero, suc, List, [], ◌∷◌}
-use Rattle.dns_fields.specs.{Fields.Kind, Fields.Name, Fields.Values, Fields.Field, Labels.DomainName}
+use Rattle.dns_fields.specs.{declared.Kind.Kind, declared.Kind.TheVariants.Name, Fields.Values, Fields.Field}
+use Rattle.dns_fields.specs.{Labels.DomainName}
 use Rattle.dns_types.specs.declared.record_type.RecordType.{RecordType}
 use Rattle.dns_rdata.specs.{declared.record_data.RData.RData, Data.Fills, Data.fields_of}
 

@@ -1,7 +1,6 @@
 //! The names of the types of records.
 
-ghost use Rattle.std.specs.Prelude.{◌≡◌, ◌≢◌, ◌⊎◌};
-ghost use Rattle.std.specs.Str.{IsUtf8};
+ghost use Rattle.std.specs.{Prelude.◌≡◌, Prelude.◌≢◌, Prelude.◌⊎◌, Str.IsUtf8};
 ghost use Rattle.dns_types.specs.RecordTypes.{record_type_of, number_of, type_text, IsTypeText};
 ghost use Rattle.dns_rdata_c.specs.Buffers.{IsTextPut, IsTextTooLong};
 

@@ -1,7 +1,6 @@
 //! The value of a text that is read with an origin.
 
-ghost use Rattle.std.specs.Prelude.{◌≡◌, ◌≤◌, ◌⊎◌, IfOk, IfErr};
-ghost use Rattle.std.specs.Option.{option_copied};
+ghost use Rattle.std.specs.{Prelude.◌≡◌, Prelude.◌≤◌, Prelude.◌⊎◌, Prelude.IfOk, Prelude.IfErr, Option.option_copied};
 ghost use Rattle.dns_rdata.specs.{Data.IsEmittable, DataTokens.IsDataTextAt};
 ghost use Rattle.dns_rdata_zone.specs.ZoneGives.{GivesValue};
 ghost use Rattle.dns_rdata_c.specs.Calls.{IsOrigin, IsNoOrigin, IsNoText, IsNoZoneText};

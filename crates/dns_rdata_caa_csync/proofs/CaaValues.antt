@@ -6,11 +6,12 @@ use Rattle.std.proofs.{lemmas.Grind.common_steps, lemmas.Bool.Decides.nat_tests,
 use Rattle.dns_types.specs.declared.error.{ProtoError.ProtoError, DecodeError.DecodeError}
 use Rattle.dns_names_wire.specs.State.{Writing, Reading}
 use Rattle.dns_names_wire.specs.Terms.{Emits, IsMessage, TookField, Took, Refused, StaysBehind, LacksOctets}
-use Rattle.dns_fields.specs.Fields.{Values, AllFit, Same, Number, Octets, CharacterString, Rest, Field}
+use Rattle.dns_fields.specs.{Fields.Values, Fields.AllFit, Fields.Same, Fields.Field, Octets.At}
+use Rattle.dns_fields.specs.declared.Kind.{TheVariants.Number, TheVariants.Octets, TheVariants.CharacterString, TheVariants.Rest}
 use Rattle.dns_rdata_caa_csync.specs.{CAA.caa_shape, CAA.caa_fields, CAA.caa_flags, CAA.caa_key_shape, CAA.caa_keys, CAA.critical_number, CAA.IsReadCaa}
-use Rattle.dns_rdata_caa_csync.specs.{CAA.AreTagOctets, CAA.IsTag, CAA.IsTagError, CAA.IsCaaError, declared.caa.CAA.CAA}
+use Rattle.dns_rows.specs.Rules.{AreLetters, IsTag}
+use Rattle.dns_rdata_caa_csync.specs.{CAA.IsTagError, CAA.IsCaaError, declared.caa.CAA.CAA}
 use Rattle.std.proofs.lemmas.List.{length-append, get_or-take, get_or-append_right, Folds.list_all_at}
-use Rattle.dns_fields.specs.Octets.{At}
 use Rattle.dns_names_wire.proofs.FieldReads.{unless_all, took_stays, took_then, took_last, took_number}
 use Rattle.dns_names_wire.proofs.Strings.{text_taken, at_rest}
 use Rattle.dns_fields.proofs.{NameOffsets.At-same_head, FieldLaws.field_inside}
@@ -25,7 +26,7 @@ flags_back f lt = grind (arith, common_steps, nat_tests)
 
 -- no tag stands behind its length where an octet is bad
 bad_octet : {m : List ℕ} {p q r : ℕ} (s front : List ℕ) (octet : ℕ) → At m p s q → At m p (front ++ octet ∷ []) r → length front < length s
-    → is_ascii_alphanumeric octet ≡ false → AreTagOctets s → ⊥
+    → is_ascii_alphanumeric octet ≡ false → AreLetters s → ⊥
 bad_octet {m} {p} s front octet a b within bad letters =
     let k : ℕ = length front in
     let first : get_or s k 0 ≡ get_or (drop p m) k 0 = ap (λ (l : List ℕ). get_or l k 0) (sym a.same)
@@ -50,7 +51,7 @@ string_behind {d} {b} {t} {s} {q} f g =
     (sym len, subst (λ (m : List ℕ). At m b.index s q) (sym f.message) (subst (λ (p : ℕ). At d.message p s q) index_is here))
 
 abbrev Filled : (start n : ℕ) → Values (CharacterString ∷ Rest ∷ []) → ℕ → Type 0
-Filled start n vs q = (q ≡ start + n) × IsTag vs.0
+Filled start n vs q = (q ≡ start + n) × (IsTag vs.0 × Unit {0})
 
 tag_none : (start n t : ℕ) (d b new : Reading) (e : DecodeError) → start + 1 ≡ d.index → TookField d (Number 1) t b → IsTagError n t b e new
     → (vs : Values (CharacterString ∷ Rest ∷ [])) (q p : ℕ) → Field d.message d.index CharacterString vs.0 p → p ≤ q → Filled start n vs q → ⊥
@@ -59,11 +60,11 @@ tag_none start n t d b new e index_is f (inl r) vs q p g on c =
     omega (arith, x.0, x.1.ends, c.0, r.passed, (octet_at f.field).ends)
 tag_none start n t d b new e index_is f (inr (inl r)) vs q p g on c =
     let x = string_behind f g in
-    grind (arith, r.length, x.0, c.1.some, c.1.short)
+    grind (arith, r.length, x.0, c.1.0.some, c.1.0.short)
 tag_none start n t d b new e index_is f (inr (inr (inl r))) vs q p g on c =
     let x = string_behind f g in
     let within : length r.front < length vs.0 = omega (arith, r.within, x.0) in
-    bad_octet vs.0 r.front r.octet x.1 r.took.field.is.1 within r.bad c.1.letters
+    bad_octet vs.0 r.front r.octet x.1 r.took.field.is.1 within r.bad c.1.0.letters
 tag_none start n t d b new e index_is f (inr (inr (inr r))) vs q p g on c =
     let x = string_behind f g in
     omega (arith, x.0, x.1.ends, x.1.within, r.lacks)
@@ -71,7 +72,7 @@ tag_none start n t d b new e index_is f (inr (inr (inr r))) vs q p g on c =
 -- no tag and value stand where the tag is refused
 pub tag_refused : (start n t : ℕ) (d b new : Reading) (e : DecodeError) → start + 1 ≡ d.index → TookField d (Number 1) t b → StaysBehind b new
     → IsTagError n t b e new
-    → Refused e d (CharacterString ∷ Rest ∷ []) (λ vs q. (q ≡ start + n) × IsTag vs.0) new
+    → Refused e d (CharacterString ∷ Rest ∷ []) (λ vs q. (q ≡ start + n) × (IsTag vs.0 × Unit {0})) new
 tag_refused start n t d b new e index_is f behind r = record {
   behind = took_stays f behind;
   none = unless_all e (record {
@@ -101,14 +102,14 @@ refused_value {old} {a} {b} {new} {e} n f t tag x y z g why = inr (inr (record {
 -- the fields of a record that was read
 pub caa_taken : {old a b c new : Reading} (n f t : ℕ) (tag value : List ℕ) → f < 256 → TookField old (Number 1) f a → TookField a (Number 1) t b
     → TookField b (Octets t) tag c → TookField c (Octets (n - t - 2)) value new → IsTag tag × (t + 2 ≤ n)
-    → Took old (Number 1 ∷ CharacterString ∷ Rest ∷ []) (f % 128 % 128 + cond (nat_le 128 f) 128 0, (tag, (value, tt))) new
-    × ((new.index ≡ old.index + n) × IsTag tag)
+    → Took old caa_shape (f % 128 % 128 + cond (nat_le 128 f) 128 0, (tag, (value, tt))) new
+    × ((new.index ≡ old.index + n) × (IsTag tag × Unit {0}))
 caa_taken {old} {a} {b} {c} {new} n f t tag value lt x y z w g =
     let first : TookField old (Number 1) (f % 128 % 128 + cond (nat_le 128 f) 128 0) a =
     subst (λ (k : ℕ). TookField old (Number 1) k a) (flags_back f lt) x in
     let last : TookField c Rest value new = record { message = w.message; field = record { is = w.field.is.1 } } in (
       took_then first (took_then (text_taken refl y z) (took_then last (took_last _))),
-      (omega (arith, g.1, moved x y z, w.field.is.0, w.field.is.1.ends), g.0),
+      (omega (arith, g.1, moved x y z, w.field.is.0, w.field.is.1.ends), (g.0, tt)),
     )
 
 -- ---- by the fields: a record that was read is told by them, and fields that fit make one

@@ -2,10 +2,11 @@
 use Rattle.std.proofs.Common.{◌≡◌, ◌≢◌, ◌↔◌, ◌<◌, ℕ, ◌+◌, ◌*◌, ◌/◌, ◌%◌, ◌==◌, Bool, true, false, bit_and, refl, ap, ◌∙◌, arith, ◌-◌, inr, subst}
 use Rattle.std.proofs.lemmas.{Nat.Bits.and_pow, Nat.Bits.and_high_mask, Bool.Decides.nat_tests}
 use Rattle.std.specs.{declared.cmp.Ordering.TheVariants.Equal, declared.cmp.Ordering.Ordering, Ordering.ordering_then}
-use Rattle.dns_fields.specs.Fields.{Values, Same, Number, Bitmap}
+use Rattle.dns_fields.specs.{Fields.Values, Fields.Same, declared.Kind.TheVariants.Number, declared.Kind.TheVariants.Bitmap}
 use Rattle.dns_canonical.specs.Fronts.{canonical_cmp, field_cmp}
 use Rattle.dns_canonical.proofs.{Fronts.fields_decide, Comparing.then_kept}
-use Rattle.dns_rdata_caa_csync.specs.{RecordTypeSet.set_shape, RecordTypeSet.IsBitmapError, CSYNC.IsCsyncError, CSYNC.AreKnownFlags, declared.csync.CSYNC.CSYNC}
+use Rattle.dns_rdata_caa_csync.specs.{RecordTypeSet.set_shape, RecordTypeSet.IsBitmapError, CSYNC.IsCsyncError, declared.csync.CSYNC.CSYNC}
+use Rattle.dns_rows.specs.Rules.{AreKnownFlags}
 use Rattle.dns_rdata_caa_csync.specs.CSYNC.{csync_shape, csync_flags, csync_fields, csync_key_shape, csync_keys, bit, IsReadCsync, MeetsCsyncCondition}
 use Rattle.dns_types.specs.declared.error.DecodeError.{DecodeError}
 use Rattle.dns_names_wire.specs.{Terms.TookField, Terms.Refused, State.Reading}

@@ -2,7 +2,7 @@
 use Rattle.std.proofs.Common.{◌≡◌, ℕ, List, [], ◌∷◌, ◌++◌, Option, Some, None, sym, subst, map}
 use Rattle.std.specs.{Iterator.Yields, List.AllZip}
 use Rattle.dns_types.specs.{RecordTypes.number_of, RecordTypes.IsTypeText, declared.record_type.RecordType.RecordType, declared.error.ParseError.ParseError}
-use Rattle.dns_fields.specs.Fields.{Bitmap, Values}
+use Rattle.dns_fields.specs.{Fields.Values, declared.Kind.TheVariants.Bitmap}
 use Rattle.dns_tokens.specs.Reads.{TookTokens, RefusedTokens}
 use Rattle.dns_tokens.proofs.{Steps.holds_token, Steps.holds_all, Steps.holds_drained, Steps.unless_all, Yielded.holds_yielded}
 use Rattle.dns_rdata_caa_csync.specs.{RecordTypeSet.IsSetOf, TokenRows.type_tokens}

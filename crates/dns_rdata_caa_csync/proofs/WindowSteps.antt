@@ -2,7 +2,8 @@
 use Rattle.std.proofs.{lemmas.List.append-nil, lemmas.List.drop_all, lemmas.List.drop-drop, lemmas.List.nil_from_length, Common.append_assoc, Common.sym}
 use Rattle.std.proofs.Common.{◌≡◌, ℕ, ◌+◌, ◌%◌, ◌<◌, ◌≤◌, List, [], ◌∷◌, ◌++◌, length, take, drop, length-take-le, length-append, refl, ap, ◌∙◌, arith}
 use Rattle.std.specs.List.{flat_map}
-use Rattle.dns_fields.specs.{Bitmaps.block, Bitmaps.minimal, Bitmaps.Block, Bitmaps.IsTypeSet, Fields.Number, Fields.field_octets, Fields.Bitmap, Fields.Rest}
+use Rattle.dns_fields.specs.{Bitmaps.block, Bitmaps.minimal, Bitmaps.Block, Bitmaps.IsTypeSet, declared.Kind.TheVariants.Number, Fields.field_octets}
+use Rattle.dns_fields.specs.{declared.Kind.TheVariants.Bitmap, declared.Kind.TheVariants.Rest}
 use Rattle.dns_canonical.specs.Steps.{StepAt, Ended, PassedWindow}
 use Rattle.dns_rdata_caa_csync.specs.{Steps.csync_left, Steps.csync_windows, declared.csync.CSYNC.CSYNC}
 use Rattle.dns_rdata_caa_csync.proofs.WindowOctets.{minimal_none}

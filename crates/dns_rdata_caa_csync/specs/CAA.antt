@@ -1,39 +1,30 @@
 -- CAA: a property of a domain's issuers of certificates (RFC 8659, 4.1).
 use Rattle.std.specs.Prelude.{◌≡◌, ◌⊎◌, ℕ, ◌+◌, ◌%◌, ◌<◌, ◌≤◌, Bool, true, false, if◌then◌else◌, List, [], ◌∷◌, ◌++◌, codes, decimal, length, drop}
-use Rattle.std.specs.Prelude.{map}
-use Rattle.std.specs.{List.list_all, Char.is_ascii_alphanumeric, Char.to_ascii_lowercase, Str.IsUtf8}
+use Rattle.std.specs.{Prelude.map, List.list_all, Char.is_ascii_alphanumeric, Char.to_ascii_lowercase, Str.IsUtf8}
 use Rattle.dns_types.specs.{declared.error.DecodeError.DecodeError, declared.error.ProtoError.ProtoError}
 use Rattle.dns_types.specs.declared.error.DecodeError.TheVariants as decode
 use Rattle.dns_types.specs.declared.error.ProtoError.TheVariants as proto
-use Rattle.dns_fields.specs.Fields.{Kind, Number, Octets, CharacterString, Rest, Values}
+use Rattle.dns_fields.specs.{Fields.Values, declared.Kind.TheVariants.Rest}
+use Rattle.dns_fields.specs.declared.Kind.{Kind, TheVariants.Number, TheVariants.Octets, TheVariants.CharacterString}
+use Rattle.dns_rows.specs.{Table.kinds_of, Rules.AreLetters, Rules.IsTag, Rules.MeetsRow}
+use Rattle.dns_rows.specs.declared.row.TheConstants as rows
 use Rattle.dns_names_wire.specs.{State.Reading, Terms.Took, Terms.TookField, Terms.LacksOctets, Terms.IsMessage, Facts.Facts, Facts.filling}
-use Rattle.dns_rdata_base.specs.{Ordered.by_keys}
-use Rattle.dns_rdata_base.specs.Lossy.{lossy}
+use Rattle.dns_rdata_base.specs.{Ordered.by_keys, Lossy.lossy}
 use Rattle.dns_rdata_caa_csync.specs.{Issuer.IsIssuerError, declared.caa.CAA.CAA}
 
 -- flags, tag, value
 abbrev pub caa_shape : List Kind
-caa_shape = Number 1 ∷ CharacterString ∷ Rest ∷ []
+caa_shape = kinds_of rows.CAA
 
 -- the low seven bits of the reserved flags, and 128 where critical
 abbrev pub caa_flags : CAA → ℕ
 caa_flags x = x.reserved_flags % 128 + (if x.issuer_critical then 128 else 0)
 
-abbrev pub caa_fields : CAA → Values caa_shape
+abbrev pub caa_fields : CAA → Values (kinds_of rows.CAA)
 caa_fields x = (caa_flags x, (x.tag, (x.value, tt)))
 
--- each octet is a letter or a digit of ASCII
-abbrev pub AreTagOctets : List ℕ → Type 0
-AreTagOctets octets = list_all is_ascii_alphanumeric octets ≡ true
-
--- 1 to 15 letters and digits
-pub record IsTag (tag : List ℕ) : Type 0 where
-  pub some : 1 ≤ length tag
-  pub short : length tag ≤ 15
-  pub letters : AreTagOctets tag
-
 abbrev pub MeetsCaaCondition : Values caa_shape → Type 0
-MeetsCaaCondition vs = IsTag vs.1.0
+MeetsCaaCondition vs = MeetsRow rows.CAA vs
 
 -- what is compared: both parts of the flags
 abbrev pub caa_key_shape : List Kind
@@ -105,7 +96,7 @@ pub record BadTagOctet (n t : ℕ) (d : Reading) (e : DecodeError) (new : Readin
   pub front : List ℕ
   pub octet : ℕ
   pub within : length front < t
-  pub letters : AreTagOctets front
+  pub letters : AreLetters front
   pub bad : is_ascii_alphanumeric octet ≡ false
   pub took : TookField d (Octets (length front + 1)) (front ++ octet ∷ []) new
 
@@ -116,7 +107,7 @@ pub record TruncatedTag (n t : ℕ) (d : Reading) (e : DecodeError) (new : Readi
   pub some : 1 ≤ t
   pub short : t ≤ 15
   pub lacks : LacksOctets d t
-  pub letters : AreTagOctets (drop d.index d.message)
+  pub letters : AreLetters (drop d.index d.message)
   pub index : new.index ≡ length d.message
 
 -- a tag of t octets

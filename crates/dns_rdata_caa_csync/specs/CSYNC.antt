@@ -2,7 +2,10 @@
 use Rattle.std.specs.{Prelude.◌++◌, Prelude.bit_and, Prelude.codes, Prelude.decimal, List.flat_map}
 use Rattle.std.specs.Prelude.{◌≡◌, ◌≢◌, ◌⊎◌, ℕ, ◌+◌, ◌-◌, ◌*◌, ◌/◌, ◌%◌, ◌<◌, ◌≤◌, Bool, if◌then◌else◌, List, [], ◌∷◌}
 use Rattle.dns_types.specs.{RecordTypes.record_type_of, RecordTypes.type_text, declared.error.DecodeError.DecodeError}
-use Rattle.dns_fields.specs.Fields.{Kind, Number, Bitmap, Values}
+use Rattle.dns_fields.specs.Fields.{Values}
+use Rattle.dns_fields.specs.declared.Kind.{Kind, TheVariants.Number, TheVariants.Bitmap}
+use Rattle.dns_rows.specs.{Table.kinds_of, Rules.AreKnownFlags, Rules.MeetsRow}
+use Rattle.dns_rows.specs.declared.row.TheConstants as rows
 use Rattle.dns_names_wire.specs.{Facts.Facts, Facts.filling, State.Reading, Terms.Took}
 use Rattle.dns_rdata_base.specs.{FieldErrors.FirstLack, Ordered.by_keys}
 use Rattle.dns_rdata_caa_csync.specs.{RecordTypeSet.IsBitmapError, declared.csync.CSYNC.CSYNC}
@@ -10,7 +13,7 @@ use Rattle.dns_types.specs.declared.error.DecodeError.TheVariants as decode
 
 -- serial, flags, types
 abbrev pub csync_shape : List Kind
-csync_shape = Number 4 ∷ Number 2 ∷ Bitmap ∷ []
+csync_shape = kinds_of rows.CSYNC
 
 abbrev pub bit : Bool → ℕ
 bit b = if b then 1 else 0
@@ -26,15 +29,11 @@ csync_numbers_shape = Number 4 ∷ Number 2 ∷ []
 abbrev pub csync_numbers : CSYNC → Values csync_numbers_shape
 csync_numbers x = (x.soa_serial, (csync_flags x, tt))
 
-abbrev pub csync_fields : CSYNC → Values csync_shape
+abbrev pub csync_fields : CSYNC → Values (kinds_of rows.CSYNC)
 csync_fields x = (x.soa_serial, (csync_flags x, (x.type_bit_maps, tt)))
 
--- flags without any of the bits 2 to 7
-abbrev pub AreKnownFlags : ℕ → Type 0
-AreKnownFlags flags = bit_and flags 252 ≡ 0
-
 abbrev pub MeetsCsyncCondition : Values csync_shape → Type 0
-MeetsCsyncCondition vs = AreKnownFlags vs.1.0
+MeetsCsyncCondition vs = MeetsRow rows.CSYNC vs
 
 -- what is compared: serial, immediate, soaminimum, reserved flags, types
 abbrev pub csync_key_shape : List Kind

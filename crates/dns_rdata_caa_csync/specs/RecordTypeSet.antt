@@ -3,7 +3,7 @@ use Rattle.std.specs.Prelude.{◌≡◌, ℕ, ◌+◌, ◌-◌, ◌/◌, ◌%◌
 use Rattle.std.specs.Prelude.{slice_index, slice_index_or}
 use Rattle.std.specs.{List.flat_map, List.All, List.AllByRecursion, List.list_any, Int.bit_at}
 use Rattle.dns_fields.specs.Bitmaps.{Block, block, IsBlock, has_type, contains, IsTypeSet, BitmapAt}
-use Rattle.dns_fields.specs.Fields.{Kind, Bitmap, Values}
+use Rattle.dns_fields.specs.{Fields.Values, declared.Kind.Kind, declared.Kind.TheVariants.Bitmap}
 use Rattle.dns_types.specs.declared.error.DecodeError.{DecodeError}
 use Rattle.dns_types.specs.declared.error.DecodeError.TheVariants as decode
 use Rattle.dns_names_wire.specs.{State.Reading, Terms.LacksOctets}

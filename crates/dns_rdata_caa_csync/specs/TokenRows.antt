@@ -1,7 +1,7 @@
 -- The tokens of each record.
 use Rattle.std.specs.{Prelude.◌≡◌, Prelude.ℕ, Prelude.◌%◌, Prelude.List, Prelude.[], Prelude.◌∷◌, Prelude.map, List.AllZip}
 use Rattle.dns_types.specs.{RecordTypes.number_of, RecordTypes.IsTypeText, declared.record_type.RecordType.RecordType}
-use Rattle.dns_fields.specs.Fields.{Number, Bitmap}
+use Rattle.dns_fields.specs.declared.Kind.{TheVariants.Number, TheVariants.Bitmap}
 use Rattle.dns_tokens.specs.Forms.{Form, TokenRow, token, ignored, number, kept, kept_rest, IsNumberToken}
 use Rattle.dns_rdata_caa_csync.specs.{CAA.caa_shape, CSYNC.csync_shape, RecordTypeSet.IsSetOf}
 

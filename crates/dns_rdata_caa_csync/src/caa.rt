@@ -5,10 +5,11 @@ ghost use Rattle.std.specs.Char.{is_ascii_alphanumeric};
 ghost use Rattle.dns_names_wire.specs.Terms.{ReadsTo, TookField, StaysBehind, Emits, Extends, IsMessage};
 ghost use Rattle.dns_names_wire.specs.Facts.{same, same_equiv, same_partial};
 ghost use Rattle.dns_rdata_caa_csync.specs.{CAA.caa_text, CAA.IsReadCaa, CAA.IsTagError, CAA.IsCaaError, TokenRows.caa_tokens, Steps.caa_begins};
-ghost use Rattle.dns_rdata_caa_csync.specs.CAA.{caa_shape, caa_flags, caa_fields, caa_facts, MeetsCaaCondition, caa_key_shape, caa_keys, AreTagOctets, IsTag};
+ghost use Rattle.dns_rdata_caa_csync.specs.CAA.{caa_shape, caa_flags, caa_fields, caa_facts, MeetsCaaCondition, caa_key_shape, caa_keys};
+ghost use Rattle.dns_rows.specs.Rules.{AreLetters, IsTag};
 ghost use Rattle.dns_canonical.specs.Steps.{AllShort, GivesStep, field_steps};
 ghost use Rattle.dns_tokens.specs.Reads.{ReadsTokenRow};
-ghost use Rattle.dns_fields.specs.Fields.{Octets as OctetsKind, all_emittable};
+ghost use Rattle.dns_fields.specs.{Fields.all_emittable, declared.Kind.TheVariants.Octets as OctetsKind};
 
 mod issuer;
 mod values;
@@ -160,7 +161,7 @@ fn read_tag<'a>(
 // How many of the first octets are letters and digits of ASCII.
 fn count_letters(octets: &[u8]) -> usize
     ensures within { result ≤ list_length octets.now }
-    ensures letters { AreTagOctets (take result octets.now) }
+    ensures letters { AreLetters (take result octets.now) }
     ensures stops { result < list_length octets.now → is_ascii_alphanumeric (get_or octets.now result 0) ≡ false }
 {
     let mut count = 0;

@@ -5,7 +5,7 @@ ghost use Rattle.std.specs.Iterator.{Drains, IsFinite, YieldsFirst, item_count};
 ghost use Rattle.std.specs.Hash as fed;
 ghost use Rattle.std.proofs.Common.{rules};
 ghost use Rattle.dns_types.specs.{RecordTypes.number_of, RecordTypes.record_type_of, declared.record_type.RecordType.RecordType as RecordTypeValue};
-ghost use Rattle.dns_fields.specs.{Bitmaps.IsTypeSet, Bitmaps.contains, Fields.Bitmap};
+ghost use Rattle.dns_fields.specs.{Bitmaps.IsTypeSet, Bitmaps.contains, declared.Kind.TheVariants.Bitmap};
 ghost use Rattle.dns_names_wire.specs.Terms.{ReadsTo, EmitsField};
 ghost use Rattle.dns_rdata_caa_csync.specs.RecordTypeSet.{IsSetOf, set_shape, set_fields, IsBitmapError};
 

@@ -1,7 +1,7 @@
 -- Records with the same fields in front are ordered by the octets behind them, others by what comes first.
 use Rattle.std.proofs.Common.{◌≡◌, Bool, List, [], ◌∷◌, ◌∙◌, true, refl}
 use Rattle.std.specs.declared.cmp.Ordering.{TheVariants.Equal, Ordering}
-use Rattle.dns_fields.specs.Fields.{Kind, Number, Rest, Values, all_emittable}
+use Rattle.dns_fields.specs.{Fields.Values, Fields.all_emittable, declared.Kind.Kind, declared.Kind.TheVariants.Number, declared.Kind.TheVariants.Rest}
 use Rattle.dns_canonical.specs.Fronts.{AllEndAlike, fields_cmp}
 use Rattle.dns_canonical.proofs.Fronts.{ordered}
 use Rattle.dns_rdata_base.specs.Ordered.{IsOrder}

@@ -1,6 +1,6 @@
 -- The number of what a number gives is that number; values of one number that a number gives are one value.
 use Rattle.std.proofs.{Common.◌≡◌, Common.◌↔◌, Common.ℕ, Common.sym, Common.ap, Common.◌∙◌, Common.arith, lemmas.Bool.Decides.nat_tests}
-use Rattle.dns_fields.specs.Fields.{Number, SameField}
+use Rattle.dns_fields.specs.{Fields.SameField, declared.Kind.TheVariants.Number}
 use Rattle.dns_rdata_certs.specs.Enums.{cert_type_number, cert_type_of, cert_usage_number, cert_usage_of, selector_number, selector_of}
 use Rattle.dns_rdata_certs.specs.Enums.{matching_number, matching_of, cert_algorithm_number, cert_algorithm_of, sshfp_algorithm_number}
 use Rattle.dns_rdata_certs.specs.Enums.{sshfp_algorithm_of, fingerprint_type_number, fingerprint_type_of}

@@ -5,7 +5,7 @@ use Rattle.std.proofs.lemmas.{Bool.Decides.nat_tests, Bool.cases_lt, List.append
 use Rattle.hex.specs.Hex.{encode_lower, encode_with, lower_digits, decode_of, hex_digit_value}
 use Rattle.hex.proofs.HexLemmas.{decode_of-encode_lower, IsDigits-lower_digits}
 use Rattle.dns_types.specs.declared.error.ParseError.{ParseError}
-use Rattle.dns_fields.specs.{Octets.AreOctets, Fields.Rest, Fields.Values}
+use Rattle.dns_fields.specs.{Octets.AreOctets, declared.Kind.TheVariants.Rest, Fields.Values}
 use Rattle.dns_tokens.specs.{Reads.AreJoined, Reads.Decides, Reads.ReadsTokenRow, Printed.TextReadsBack}
 use Rattle.dns_tokens.proofs.Steps.{joined_taken, unless_map}
 use Rattle.dns_tokens.proofs.Printed.{IsSolid, GivesBack, GiveBack, token_row_back, back_token, back_nothing, number_back}

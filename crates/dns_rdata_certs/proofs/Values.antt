@@ -6,7 +6,7 @@ use Rattle.dns_types.specs.declared.error.DecodeError.{DecodeError}
 use Rattle.dns_names_wire.specs.{Terms.ReadsRegion, State.Reading}
 use Rattle.dns_fields.specs.Fields.{Values, Same}
 use Rattle.dns_rdata_certs.specs.CERT.{cert_shape, cert_fields, cert_key_shape, cert_keys, IsReadCert, MeetsCertCondition, cert_facts, ReadsWholeCert}
-use Rattle.dns_rdata_certs.specs.{SMIMEA.smimea_shape, SMIMEA.smimea_fields, SMIMEA.smimea_key_shape, SMIMEA.smimea_keys, SMIMEA.IsReadSmimea, TLSA.tlsa_shape}
+use Rattle.dns_rdata_certs.specs.TLSA.{tlsa_shape}
 use Rattle.dns_rdata_certs.specs.{SSHFP.sshfp_shape, SSHFP.sshfp_fields, SSHFP.sshfp_key_shape, SSHFP.sshfp_keys, SSHFP.IsReadSshfp, declared.sshfp.SSHFP.SSHFP}
 use Rattle.dns_rdata_certs.specs.{Enums.fingerprint_type_number, Enums.fingerprint_type_variant, Enums.fingerprint_type_of, declared.smimea.SMIMEA.SMIMEA}
 use Rattle.dns_rdata_certs.specs.{declared.cert.CERT.CERT, TLSA.tlsa_fields, TLSA.tlsa_key_shape, TLSA.tlsa_keys, TLSA.IsReadTlsa, declared.tlsa.TLSA.TLSA}
@@ -39,24 +39,6 @@ pub tlsa_keys-same : (a b : TLSA) → IsReadTlsa a → IsReadTlsa b
 tlsa_keys-same a b x y = keyed_same cert_usage_number cert_usage_variant cert_usage_of x.usage y.usage
     (keyed_same selector_number selector_variant selector_of x.selector y.selector
     (keyed_same matching_number matching_variant matching_of x.matching y.matching (λ s. s, λ s. s)))
-
--- ---- SMIMEA
-
-abbrev pub smimea_from : Values smimea_shape → SMIMEA
-smimea_from vs = record { 0 = tlsa_from vs }
-
-pub smimea_from-fields : (x : SMIMEA) → IsReadSmimea x → x ≡ smimea_from (smimea_fields x)
-smimea_from-fields x r = ap (λ (c : TLSA). record { 0 = c }) (tlsa_from-fields x.0 r)
-
-pub smimea_fields-from : (vs : Values smimea_shape) → smimea_fields (smimea_from vs) ≡ vs
-smimea_fields-from vs = tlsa_fields-from vs
-
-pub smimea_from-read : (vs : Values smimea_shape) → IsReadSmimea (smimea_from vs)
-smimea_from-read vs = tlsa_from-read vs
-
-pub smimea_keys-same : (a b : SMIMEA) → IsReadSmimea a → IsReadSmimea b
-    → Same smimea_key_shape (smimea_keys a) (smimea_keys b) ↔ Same smimea_shape (smimea_fields a) (smimea_fields b)
-smimea_keys-same a b x y = tlsa_keys-same a.0 b.0 x y
 
 -- ---- SSHFP
 

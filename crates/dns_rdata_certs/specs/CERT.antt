@@ -3,7 +3,10 @@ use Rattle.std.specs.Prelude.{◌≡◌, ◌≢◌, ◌⊎◌, ℕ, ◌+◌, ◌
 use Rattle.base64.specs.{Engines.standard, GeneralPurpose.encode_of}
 use Rattle.dns_types.specs.declared.error.DecodeError.{DecodeError}
 use Rattle.dns_types.specs.declared.error.DecodeError.TheVariants as decode
-use Rattle.dns_fields.specs.Fields.{Kind, Number, Rest, Values}
+use Rattle.dns_fields.specs.Fields.{Values}
+use Rattle.dns_fields.specs.declared.Kind.{Kind, TheVariants.Number, TheVariants.Rest}
+use Rattle.dns_rows.specs.{Table.kinds_of, Rules.MeetsRow}
+use Rattle.dns_rows.specs.declared.row.TheConstants as rows
 use Rattle.dns_names_wire.specs.{State.Reading, Terms.LacksOctets, Terms.UnlessMemory, Terms.Region, Terms.NoRegion, Facts.Facts, Facts.filling}
 use Rattle.dns_rdata_base.specs.{Numbered.keyed, Ordered.by_keys}
 use Rattle.dns_rdata_certs.specs.Enums.{cert_type_number, cert_type_variant, cert_type_of, cert_type_text, cert_algorithm_number}
@@ -12,14 +15,14 @@ use Rattle.dns_rdata_certs.specs.declared.cert.CERT.{CERT}
 
 -- type, key tag, algorithm, certificate
 abbrev pub cert_shape : List Kind
-cert_shape = Number 2 ∷ Number 2 ∷ Number 1 ∷ Rest ∷ []
+cert_shape = kinds_of rows.CERT
 
-abbrev pub cert_fields : CERT → Values cert_shape
+abbrev pub cert_fields : CERT → Values (kinds_of rows.CERT)
 cert_fields x = (cert_type_number x.cert_type, (x.key_tag, (cert_algorithm_number x.algorithm, (x.cert_data, tt))))
 
 -- the certificate has octets
 abbrev pub MeetsCertCondition : Values cert_shape → Type 0
-MeetsCertCondition vs = vs.1.1.1.0 ≢ []
+MeetsCertCondition vs = MeetsRow rows.CERT vs
 
 -- what is compared: of each enum the number and then the variant
 abbrev pub cert_key_shape : List Kind

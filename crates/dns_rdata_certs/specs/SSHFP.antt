@@ -2,7 +2,10 @@
 use Rattle.std.specs.Prelude.{◌≡◌, ℕ, List, [], ◌∷◌, ◌++◌, codes, decimal}
 use Rattle.hex.specs.Hex.{encode_lower}
 use Rattle.dns_types.specs.declared.error.DecodeError.{DecodeError}
-use Rattle.dns_fields.specs.Fields.{Kind, Number, Rest, Values}
+use Rattle.dns_fields.specs.Fields.{Values}
+use Rattle.dns_fields.specs.declared.Kind.{Kind, TheVariants.Number, TheVariants.Rest}
+use Rattle.dns_rows.specs.Table.{kinds_of}
+use Rattle.dns_rows.specs.declared.row.TheConstants as rows
 use Rattle.dns_names_wire.specs.{State.Reading, Facts.Facts, Facts.filling}
 use Rattle.dns_rdata_base.specs.{Numbered.keyed, Ordered.by_keys}
 use Rattle.dns_rdata_certs.specs.{Rests.IsRestError, declared.sshfp.SSHFP.SSHFP}
@@ -11,9 +14,9 @@ use Rattle.dns_rdata_certs.specs.Enums.{fingerprint_type_variant, fingerprint_ty
 
 -- algorithm, fingerprint type, fingerprint
 abbrev pub sshfp_shape : List Kind
-sshfp_shape = Number 1 ∷ Number 1 ∷ Rest ∷ []
+sshfp_shape = kinds_of rows.SSHFP
 
-abbrev pub sshfp_fields : SSHFP → Values sshfp_shape
+abbrev pub sshfp_fields : SSHFP → Values (kinds_of rows.SSHFP)
 sshfp_fields x = (sshfp_algorithm_number x.algorithm, (fingerprint_type_number x.fingerprint_type, (x.fingerprint, tt)))
 
 -- what is compared: of each enum the number and then the variant

@@ -2,7 +2,10 @@
 use Rattle.std.specs.Prelude.{◌≡◌, ℕ, List, [], ◌∷◌, ◌++◌, codes, decimal}
 use Rattle.hex.specs.Hex.{encode_lower}
 use Rattle.dns_types.specs.declared.error.DecodeError.{DecodeError}
-use Rattle.dns_fields.specs.Fields.{Kind, Number, Rest, Values}
+use Rattle.dns_fields.specs.Fields.{Values}
+use Rattle.dns_fields.specs.declared.Kind.{Kind, TheVariants.Number, TheVariants.Rest}
+use Rattle.dns_rows.specs.Table.{kinds_of}
+use Rattle.dns_rows.specs.declared.row.TheConstants as rows
 use Rattle.dns_names_wire.specs.{State.Reading, Facts.Facts, Facts.filling}
 use Rattle.dns_rdata_base.specs.{Numbered.keyed, Ordered.by_keys}
 use Rattle.dns_rdata_certs.specs.Enums.{selector_number, selector_variant, selector_of, matching_number, matching_variant, matching_of}
@@ -11,9 +14,9 @@ use Rattle.dns_rdata_certs.specs.{Rests.IsRestError, declared.tlsa.TLSA.TLSA}
 
 -- usage, selector, matching type, data
 abbrev pub tlsa_shape : List Kind
-tlsa_shape = Number 1 ∷ Number 1 ∷ Number 1 ∷ Rest ∷ []
+tlsa_shape = kinds_of rows.TLSA
 
-abbrev pub tlsa_fields : TLSA → Values tlsa_shape
+abbrev pub tlsa_fields : TLSA → Values (kinds_of rows.TLSA)
 tlsa_fields x =
     (cert_usage_number x.cert_usage, (selector_number x.selector, (matching_number x.matching, (x.cert_data, tt))))
 

@@ -1,9 +1,9 @@
 -- The tokens of each record, and which values print in tokens that give them back.
 use Rattle.std.specs.{Prelude.◌≡◌, Prelude.◌≢◌, Prelude.ℕ, Prelude.◌^◌, Prelude.◌<◌, Prelude.List, Prelude.[], Prelude.◌∷◌, Prelude.Ok, List.flat_map}
-use Rattle.dns_fields.specs.{Octets.AreOctets, Fields.Rest}
+use Rattle.dns_fields.specs.{Octets.AreOctets, declared.Kind.TheVariants.Rest}
 use Rattle.dns_tokens.specs.Forms.{Form, TokenRow, token, ignored, nothing, number, base64}
 use Rattle.dns_rdata_certs.specs.Enums.{cert_usage_number, matching_number, selector_number, sshfp_algorithm_number, fingerprint_type_number}
-use Rattle.dns_rdata_certs.specs.{CERT.cert_shape, HEX.octets_of_hex, SMIMEA.smimea_shape, SSHFP.sshfp_shape, SSHFP.IsReadSshfp}
+use Rattle.dns_rdata_certs.specs.{CERT.cert_shape, HEX.octets_of_hex, SSHFP.sshfp_shape, SSHFP.IsReadSshfp}
 use Rattle.dns_rdata_certs.specs.{TLSA.tlsa_shape, TLSA.IsReadTlsa, declared.sshfp.SSHFP.SSHFP, declared.tlsa.TLSA.TLSA}
 
 -- hexadecimal digits; the token has a character
@@ -26,13 +26,9 @@ cert_tokens = token (number 2) (token (number 2) (token (number 1) (token base64
 abbrev pub sshfp_tokens : TokenRow sshfp_shape
 sshfp_tokens = token (number 1) (token (number 1) (token hex_digits nothing))
 
--- usage, selector, matching type, data
+-- usage, selector, matching type, data; SMIMEA has the same (RFC 8162, 2)
 abbrev pub tlsa_tokens : TokenRow tlsa_shape
 tlsa_tokens = token (number 1) (token (number 1) (token (number 1) joined_hex))
-
--- SMIMEA has the tokens of TLSA (RFC 8162, 2)
-abbrev pub smimea_tokens : TokenRow smimea_shape
-smimea_tokens = tlsa_tokens
 
 -- ---- values whose printed tokens give them back
 

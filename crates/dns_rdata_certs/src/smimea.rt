@@ -2,8 +2,7 @@
 
 ghost use Rattle.std.specs.{Prelude.◌≡◌, Prelude.IfOk, Prelude.Some, Iterator.IsFinite};
 ghost use Rattle.dns_names_wire.specs.{Terms.Emits};
-ghost use Rattle.dns_rdata_certs.specs.SMIMEA.{smimea_shape, smimea_fields, smimea_facts, smimea_key_shape, smimea_keys, smimea_text, IsReadSmimea};
-ghost use Rattle.dns_rdata_certs.specs.TokenRows.{smimea_tokens};
+ghost use Rattle.dns_rdata_certs.specs.{SMIMEA.smimea_facts, TLSA.tlsa_shape, TLSA.tlsa_fields, TLSA.tlsa_text, TLSA.IsReadTlsa, TokenRows.tlsa_tokens};
 ghost use Rattle.dns_tokens.specs.Reads.{ReadsTokenRow};
 
 use crate::tlsa::{CertUsage, Matching, Selector, TLSA};
@@ -48,8 +47,8 @@ impl SMIMEA {
     ) -> Result<SMIMEA, ParseError>
         requires can { I.can_next tokens }
         requires ends { IsFinite (I.remaining tokens) }
-        ensures reads { ReadsTokenRow I.next_gives S.text smimea_tokens smimea_fields result tokens }
-        ensures enums { IfOk result IsReadSmimea }
+        ensures reads { ReadsTokenRow I.next_gives S.text tlsa_tokens (λ x. tlsa_fields x.0) result tokens }
+        ensures enums { IfOk result (λ x. IsReadTlsa x.0) }
     {
         match TLSA::from_tokens(alloc, tokens) {
             Ok(certificate) => Ok(SMIMEA(certificate)),
@@ -77,7 +76,7 @@ impl RecordDataDecodable for SMIMEA {
 }
 
 impl BinEncodable for SMIMEA {
-    ghost emits = { λ x r old new. Emits smimea_shape (smimea_fields x) r old new };
+    ghost emits = { λ x r old new. Emits tlsa_shape (tlsa_fields x.0) r old new };
 
     /// Appends the fields of TLSA.
     #[inline]
@@ -116,7 +115,7 @@ impl OrderedRecord for SMIMEA {
 }
 
 impl fmt::Display for SMIMEA {
-    ghost output = { λ x. Some (smimea_text x) };
+    ghost output = { λ x. Some (tlsa_text x.0) };
 
     /// Prints as TLSA: `3 1 1 abcd`.
     fn fmt<W: fmt::Write>(&self, f: &mut fmt::Formatter<W>) -> fmt::Result {

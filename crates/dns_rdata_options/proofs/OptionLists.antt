@@ -6,7 +6,8 @@ use Rattle.std.proofs.Common.{◌≡◌, ℕ, ◌+◌, ◌≤◌, ◌<◌, ◌^�
 use Rattle.std.specs.Int.{bytes_high_first, from_be_bytes, w16}
 use Rattle.dns_types.specs.declared.error.DecodeError.{DecodeError}
 use Rattle.dns_fields.specs.Tlvs.{Numbered, tlv, tlvs, IsTlv, AreTlvs, AllHeld, OptionValue, OptionHeld, IsTruncated}
-use Rattle.dns_fields.specs.{Fields.Number, Fields.Octets, Fields.Field, Fields.Options, Fields.CompleteOptions, Fields.TruncatedOptions, Octets.At}
+use Rattle.dns_fields.specs.{declared.Kind.TheVariants.Number, declared.Kind.TheVariants.Octets, Fields.Field, declared.Kind.TheVariants.Options}
+use Rattle.dns_fields.specs.{Fields.CompleteOptions, Fields.TruncatedOptions, Octets.At}
 use Rattle.dns_fields.proofs.{Tlvs.first_tlv, Tlvs.truncated_tlv, Tlvs.length-tlv, Tlvs.tlv_before, Numbers.length-bytes, FieldLaws.field_same}
 use Rattle.dns_names_wire.specs.{Terms.TookField, Terms.StaysBehind, Terms.UnlessMemory, Terms.Took, Terms.Refused, State.Reading}
 use Rattle.dns_names_wire.proofs.{FieldReads.unless_all, FieldReads.took_number, FieldReads.unless_map, Strings.at_front, Strings.at_rest, Strings.at_then}

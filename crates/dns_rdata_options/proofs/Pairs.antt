@@ -6,8 +6,8 @@ use Rattle.std.proofs.lemmas.List.{map-append, append-nil, length-append, drop_m
 use Rattle.std.specs.Cmp.{first_so, second_so}
 use Rattle.dns_types.specs.declared.error.ProtoError.{ProtoError}
 use Rattle.dns_fields.specs.Tlvs.{Numbered, tlv, tlvs, as_tlv, OptionValue, Subnet, OpaqueOption, option_octets, OptionFits, IsEmittableOption}
-use Rattle.dns_fields.specs.Tlvs.{option_emittable, options_emittable}
-use Rattle.dns_fields.specs.Fields.{Options, field_octets, option_tlvs, Rest}
+use Rattle.dns_fields.specs.{Tlvs.option_emittable, Tlvs.options_emittable, Fields.field_octets, Fields.option_tlvs}
+use Rattle.dns_fields.specs.declared.Kind.{TheVariants.Options, TheVariants.Rest}
 use Rattle.dns_fields.proofs.Sorted.{octets_cmp, flat_map_all, length_sorted}
 use Rattle.dns_names_wire.specs.{State.Writing, Terms.AppendedField, Terms.StoppedField, Terms.NoRoomField, Terms.UnfitField, Terms.AppendedOctets, Terms.StoppedOctets}
 use Rattle.dns_names_wire.proofs.FieldWrites.{keeps_then, because_map, extends_then}

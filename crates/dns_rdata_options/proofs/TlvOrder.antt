@@ -3,7 +3,7 @@ use Rattle.std.proofs.Common.{Some, ◌≡◌, ℕ, ◌<◌, ◌^◌, nat_le, tr
 use Rattle.std.proofs.lemmas.List.{append-nil}
 use Rattle.std.specs.{Ordering.is_eq, Ordering.eq_by_cmp, Ordering.nat_cmp, Ordering.ordering_then, List.flat_map, List.AllByRecursion, Int.bytes_high_first}
 use Rattle.std.specs.{FinMap.nat_cmp-IsAntisymmetric, Cmp.first_so, Cmp.second_so, Cmp.Lexicographic.slice_cmp}
-use Rattle.dns_fields.specs.{Fields.Options, Fields.field_octets, Fields.option_tlvs, Tlvs.tlv, Tlvs.option_octets, Sorting.sorted}
+use Rattle.dns_fields.specs.{declared.Kind.TheVariants.Options, Fields.field_octets, Fields.option_tlvs, Tlvs.tlv, Tlvs.option_octets, Sorting.sorted}
 use Rattle.dns_fields.proofs.{Multisets.count_sorted, Multisets.sorted_risen, Multisets.same_counts, Sorted.sorted_all, Sorted.map_sorted, Sorted.flat_map_all}
 use Rattle.dns_fields.proofs.{Tlvs.parts, Tlvs.number_first, Tlvs.tlv_before, Numbers.length-bytes}
 use Rattle.dns_canonical.specs.Fronts.{canonical_cmp}

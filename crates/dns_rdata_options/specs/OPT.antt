@@ -2,9 +2,12 @@
 use Rattle.std.specs.Prelude.{◌≡◌, ◌⊎◌, ℕ, ◌+◌, ◌-◌, ◌≤◌, ◌<◌, ◌==◌, Bool, not, List, [], ◌∷◌, length, map, filter, if◌then◌else◌}
 use Rattle.dns_types.specs.declared.error.DecodeError.{DecodeError}
 use Rattle.dns_types.specs.declared.error.DecodeError.TheVariants as decode
-use Rattle.dns_fields.specs.{Octets.At, Fields.Kind, Fields.Number, Fields.Options, Fields.Values, Fields.CompleteOptions}
+use Rattle.dns_fields.specs.{Octets.At, declared.Kind.Kind, declared.Kind.TheVariants.Number}
+use Rattle.dns_fields.specs.{declared.Kind.TheVariants.Options, Fields.Values, Fields.CompleteOptions}
 use Rattle.dns_fields.specs.Tlvs.{Numbered, tlv, IsTlv, OptionValue, OpaqueOption}
 use Rattle.dns_fields.specs.Tlvs as tlvs
+use Rattle.dns_rows.specs.Table.{kinds_of}
+use Rattle.dns_rows.specs.declared.row.TheConstants as rows
 use Rattle.dns_names_wire.specs.{State.Reading, Terms.TookField, Terms.Took, Terms.LacksOctets, Facts.Facts, Facts.filling}
 use Rattle.dns_rdata_base.specs.Numbered.{numbered_eq}
 use Rattle.dns_rdata_options.specs.{ClientSubnet.subnet_of, declared.opt.code.EdnsCode.EdnsCode, declared.opt.option.EdnsOption.EdnsOption}
@@ -18,13 +21,13 @@ Pair = EdnsCode × EdnsOption
 
 -- options alone
 abbrev pub opt_shape : List Kind
-opt_shape = Options ∷ []
+opt_shape = kinds_of rows.OPT
 
 -- a pair on the wire: the code's number, and what the option holds
 abbrev pub pair_value : Pair → Numbered OptionValue
 pair_value p = (edns_code_number p.0, option_value p.1)
 
-abbrev pub opt_fields : List Pair → Values opt_shape
+abbrev pub opt_fields : List Pair → Values (kinds_of rows.OPT)
 opt_fields x = (map pair_value x, tt)
 
 -- ---- values that were read
@@ -37,7 +40,7 @@ option_of n (OpaqueOption s) = if n == 3 then NSID s else Unknown n s
 abbrev pub pair_of : Numbered OptionValue → Pair
 pair_of x = (edns_code_of x.0, option_of x.0 x.1)
 
-abbrev pub opt_from : Values opt_shape → List Pair
+abbrev pub opt_from : Values (kinds_of rows.OPT) → List Pair
 opt_from vs = map pair_of vs.0
 
 -- each pair is the one that its number and its value give

@@ -6,8 +6,8 @@ use Rattle.std.proofs.{lemmas.List.Folds.flat_map-map, lemmas.Grind.put_two, Mat
 use Rattle.std.specs.{Fmt.◌++?◌, Fmt.HasWritten, Fmt.IsPlainFormatter, Fmt.DisplaysOnOk, List.flat_map, List.list_all, List.AllByRecursion}
 use Rattle.std.specs.{declared.fmt.Formatter.Formatter, declared.fmt.Error.Error, Int.bytes_high_first}
 use Rattle.dns_fields.specs.Tlvs.{string, ParameterValue, Mandatory, Alpn, is_some, IsEmittable, parameter_octets, parameter_emittable, Numbered}
-use Rattle.dns_fields.specs.Fields.{Number, CharacterString, Rest, field_octets, Parameters, parameter_tlvs}
-use Rattle.dns_fields.specs.Tlvs.{tlv, ParameterFits, tlvs, as_tlv, Rising, rising}
+use Rattle.dns_fields.specs.{Fields.field_octets, Fields.parameter_tlvs, Tlvs.tlv, Tlvs.ParameterFits, Tlvs.tlvs, Tlvs.as_tlv, Tlvs.Rising, Tlvs.rising}
+use Rattle.dns_fields.specs.declared.Kind.{TheVariants.Number, TheVariants.CharacterString, TheVariants.Rest, TheVariants.Parameters}
 use Rattle.dns_types.specs.declared.error.ProtoError.{ProtoError}
 use Rattle.dns_names_wire.specs.State.{Writing}
 use Rattle.dns_names_wire.specs.Terms.{Extends, EmitsField, AppendedField, StoppedField, Because, AppendedOctets, StoppedOctets, EmitsOctets}

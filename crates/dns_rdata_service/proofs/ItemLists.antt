@@ -7,7 +7,7 @@ use Rattle.dns_rdata_service.specs.ParameterTokens.{ItemOf, ListOf, IsParameterT
 use Rattle.dns_rdata_service.specs.{TokenRows.these_parameters, TokenRows.parameter_tokens, Parameters.Parameter, Parameters.parameter_of}
 use Rattle.dns_types.specs.declared.error.ParseError.{ParseError}
 use Rattle.dns_text.proofs.ListSteps.{item_one}
-use Rattle.dns_fields.specs.Fields.{Parameters, Values}
+use Rattle.dns_fields.specs.{Fields.Values, declared.Kind.TheVariants.Parameters}
 use Rattle.dns_tokens.specs.Reads.{UnlessParseMemory, TookTokens, RefusedTokens}
 use Rattle.dns_tokens.proofs.{Steps.holds_token, Steps.holds_all, Steps.holds_drained, Yielded.holds_yielded}
 use Rattle.dns_types.specs.declared.error.ParseError.TheVariants as parse

@@ -3,20 +3,19 @@ use Rattle.std.proofs.Common.{◌≡◌, inl, inr, ℕ, ◌+◌, ◌<◌, ◌≤
 use Rattle.std.proofs.{lemmas.List.length-append, lemmas.List.length-drop, lemmas.List.map_push, Common.◌≢◌, Common.Ok, Common.Err}
 use Rattle.std.specs.Int.{bytes_high_first}
 use Rattle.dns_types.specs.declared.error.DecodeError.{DecodeError}
-use Rattle.dns_fields.specs.Fields.{Number, Octets, Rest, Parameters, Field, Values, Name}
-use Rattle.dns_fields.specs.{Tlvs.Numbered, Tlvs.ParameterValue, Tlvs.ParameterHeld, Tlvs.tlv, Tlvs.rising, Octets.At}
+use Rattle.dns_fields.specs.{Fields.Field, Fields.Values, Tlvs.Numbered, Tlvs.ParameterValue, Tlvs.ParameterHeld, Tlvs.tlv, Tlvs.rising, Octets.At}
+use Rattle.dns_fields.specs.declared.Kind.{TheVariants.Number, TheVariants.Octets, TheVariants.Rest, TheVariants.Parameters, TheVariants.Name}
 use Rattle.dns_fields.specs.Labels.{DomainName}
-use Rattle.dns_fields.proofs.{Tlvs.tlv_before, Tlvs.heads_same, Tlvs.first_tlv, FieldLaws.field_inside}
-use Rattle.dns_fields.proofs.Numbers.{length-bytes}
+use Rattle.dns_fields.proofs.{Tlvs.tlv_before, Tlvs.heads_same, Tlvs.first_tlv, FieldLaws.field_inside, Numbers.length-bytes}
 use Rattle.dns_names_wire.specs.Terms.{TookField, StaysBehind, UnlessMemory, Refused, Lacks, TookRegion, RefusedRegion}
 use Rattle.dns_names_wire.specs.State.{Reading}
 use Rattle.dns_names_wire.proofs.FieldReads.{unless_map, unless_all, stays, took_stays, stands_inside, took_last, took_then, lacks_then, refused_then, refused_past}
 use Rattle.dns_names_wire.proofs.{RegionReads.Given, RegionReads.filled_region, Strings.at_then}
 use Rattle.dns_rdata_base.specs.FieldErrors.{FirstLack}
-use Rattle.dns_rdata_service.specs.Parameters.{Parameter, parameter_of, parameter_from, AreRead, HaveTexts, FillTo, IsAbove, TruncatedValue, RefusedValue}
-use Rattle.dns_rdata_service.specs.{Parameters.IsParameterError, Parameters.IsParametersError, SvcParamValue.value_of, SvcParamValue.HasText}
+use Rattle.dns_rdata_service.specs.Parameters.{Parameter, parameter_of, parameter_from, AreRead, FillTo, IsAbove, TruncatedValue, RefusedValue}
+use Rattle.dns_rdata_service.specs.{Parameters.IsParameterError, Parameters.IsParametersError, SvcParamValue.value_of, Hints.StandEach}
+use Rattle.dns_rows.specs.Rules.{HasText, HaveTexts}
 use Rattle.dns_rdata_service.specs.{SVCB.svcb_shape, SVCB.svcb_fields, SVCB.MeetsSvcbCondition, declared.svcb.SVCB.SVCB, SvcParamKey.key_number}
-use Rattle.dns_rdata_service.specs.Hints.{StandEach}
 use Rattle.dns_rdata_service.proofs.ParameterLists.{Risen, risen_push, risen_not, risen_rises, fails_test, OneOf, one_long, one_once, one_of}
 use Rattle.dns_rdata_service.proofs.ParameterLists.{parameters_each, each_parameters, each_inside, each_rest}
 use Rattle.dns_rdata_service.proofs.ValueReads.{NoKeyValue, key_none, EachOn, each_more}
@@ -163,7 +162,7 @@ next_of {old} {d} {ps} {last} {end} {v} on lt f =
 no_fill : {old : Reading} {end : ℕ} → ((v : List (Numbered ParameterValue)) → Field old.message old.index Parameters v end → HaveTexts v → ⊥)
     → Lacks old (Parameters ∷ []) (FillTo end)
 no_fill {old} {end} none = record
-    { none = λ vs q s c. none vs.0 (subst (λ (p : ℕ). Field old.message old.index Parameters vs.0 p) (s.2 ∙ c.0) s.1) c.1 }
+    { none = λ vs q s c. none vs.0 (subst (λ (p : ℕ). Field old.message old.index Parameters vs.0 p) (s.2 ∙ c.0) s.1) c.1.0 }
 
 -- a parameter is rejected
 pub on_refused : {e : DecodeError} {old d b : Reading} {ps : List Parameter} {last : Option ℕ} {end : ℕ} → d.index + 4 ≤ end
@@ -247,7 +246,7 @@ svcb_took {d} {a} {b} {e} {priority} {target} {v} n end given f g all took texts
     record {
       behind = took_stays f (took_stays g (took_stays took (stays e)));
       here = λ same. (filled_region svcb_shape MeetsSvcbCondition (λ (vs : Values svcb_shape). vs) (Ok (priority, (target, (v, tt)))) d e n tt given
-          (whole, (same, texts))).here same;
+          (whole, (same, (texts, tt)))).here same;
       elsewhere = λ ne.
           let lacks : Lacks d svcb_shape (EndsAt end) = lacks_then tt f (lacks_then tt g (none (λ same. ne (same ∙ sym all)))) in
           record { none = λ vs w. lacks.none vs (d.index + n) w.stands (all, w.holds) };

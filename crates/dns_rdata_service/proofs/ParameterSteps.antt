@@ -5,12 +5,11 @@ use Rattle.std.proofs.lemmas.List.{append-nil, drop_more, drop_all, get_or-map, 
 use Rattle.std.proofs.{lemmas.Option.slice_get-get_or, lemmas.Option.slice_get_past, lemmas.List.Sums.AllPass-from_list_all, lemmas.Simd.map-map}
 use Rattle.std.proofs.{lemmas.Bool.Decides.nat_tests, Math.Nat.mul_comm}
 use Rattle.dns_fields.proofs.Sorted.{flat_map_all}
-use Rattle.std.specs.{List.flat_map, List.list_all, List.AllByRecursion, Result.OkIff, Result.result_ok, Cmp.first_so, Cmp.second_so}
-use Rattle.std.specs.Int.{bytes_high_first}
+use Rattle.std.specs.{List.flat_map, List.list_all, List.AllByRecursion, Result.OkIff, Result.result_ok, Cmp.first_so, Cmp.second_so, Int.bytes_high_first}
 use Rattle.dns_rdata_service.proofs.{ValueReads.length_groups, Splits.length_numbers}
 use Rattle.dns_fields.specs.Tlvs.{string, tlv, tlvs, as_tlv, ParameterValue, Mandatory, Alpn, NoDefaultAlpn, Port, Ipv4Hint, Ipv6Hint, Opaque}
-use Rattle.dns_fields.specs.{Tlvs.parameter_octets, Tlvs.parameter_emittable, Tlvs.rising, Labels.lowname}
-use Rattle.dns_fields.specs.Fields.{Name, field_octets, parameter_tlvs}
+use Rattle.dns_fields.specs.{Tlvs.parameter_octets, Tlvs.parameter_emittable, Tlvs.rising, Labels.lowname, Fields.field_octets, Fields.parameter_tlvs}
+use Rattle.dns_fields.specs.declared.Kind.{TheVariants.Name}
 use Rattle.dns_canonical.specs.{Steps.GivesStep, Steps.StepAt, declared.step.Step.Step}
 use Rattle.dns_rdata_service.specs.Steps.{parameter_head, value_front, value_items, parameters_from, items_of, parameters_left, svcb_left}
 use Rattle.dns_rdata_service.specs.{Steps.AreEmittable, Steps.IsSizeOf, Steps.NextParameter, Steps.GivesParameter, declared.svcb.key.SvcParamKey.SvcParamKey}

@@ -1,9 +1,8 @@
 -- Octets that were taken are the front of those that were left.
 use Rattle.std.proofs.Common.{◌≡◌, ℕ, ◌*◌, ◌%◌, List, [], ◌∷◌, ◌++◌, length, drop, refl, sym, ap, ◌∙◌, arith, append_assoc, Result, Err}
-use Rattle.std.proofs.lemmas.Result.{err_from_is_err_and}
+use Rattle.std.proofs.{lemmas.Result.err_from_is_err_and, lemmas.List.length-append, lemmas.List.drop-drop, lemmas.List.take-append-drop, Math.Nat.mod-eq_of_lt}
 use Rattle.std.specs.{Result.IsErrAnd, List.flat_map, List.AllByRecursion, Int.bytes_high_first}
-use Rattle.std.proofs.{lemmas.List.length-append, lemmas.List.drop-drop, lemmas.List.take-append-drop, Math.Nat.mod-eq_of_lt}
-use Rattle.dns_fields.specs.{Octets.At, Fields.Number, Fields.Field, Tlvs.string}
+use Rattle.dns_fields.specs.{Octets.At, declared.Kind.TheVariants.Number, Fields.Field, Tlvs.string}
 use Rattle.dns_fields.proofs.{Numbers.length-bytes, Tlvs.parts}
 use Rattle.dns_names_wire.specs.{State.Reading, Terms.StaysBehind}
 

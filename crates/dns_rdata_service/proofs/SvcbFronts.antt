@@ -6,18 +6,17 @@ use Rattle.std.specs.{Ordering.MatchOrdering, Ordering.nat_cmp, Ordering.orderin
 use Rattle.std.specs.{Cmp.Lexicographic.pointwise, Cmp.Lexicographic.slice_cmp, Cmp.Lexicographic.pointwise_decides, declared.cmp.Ordering.Ordering}
 use Rattle.std.specs.{Cmp.Equal-is, Cmp.ranks, Cmp.unsigned_Decides, Cmp.booleans_Decides, Cmp.nat_cmp_is, List.AllByRecursion, List.flat_map}
 use Rattle.std.specs.{FinMap.nat_cmp-IsAntisymmetric, FinMap.slice_cmp-IsAntisymmetric, Int.bytes_high_first, Prelude.nat_eq}
-use Rattle.dns_fields.specs.{Tlvs.string, Tlvs.Alpn, Tlvs.Opaque, Tlvs.Port, Equal.key_eq, Equal.parameter_keys, Equal.values_eq}
-use Rattle.dns_fields.specs.{Fields.Number, Fields.Name, Fields.field_octets, Labels.AreLabels, Labels.lowname, Comparing.name_eq}
+use Rattle.dns_fields.specs.{Tlvs.string, Tlvs.Alpn, Tlvs.Opaque, Tlvs.Port, Equal.key_eq, Equal.parameter_keys, Equal.values_eq, Comparing.name_eq}
+use Rattle.dns_fields.specs.{declared.Kind.TheVariants.Number, declared.Kind.TheVariants.Name, Fields.field_octets, Labels.AreLabels, Labels.lowname}
 use Rattle.dns_fields.proofs.Numbers.{number_cmp, length-bytes, same_number}
 use Rattle.dns_canonical.specs.Fronts.{canonical_cmp, field_cmp}
 use Rattle.dns_canonical.proofs.{Comparing.cmp_shared, Comparing.then_kept, Comparing.then_equal, Fronts.fields_decide, Fronts.front_then}
 use Rattle.dns_rdata_service.proofs.OwnValues.{value_given}
-use Rattle.dns_rdata_service.specs.ParameterOrder.{OrderFirst, joined, behind_length}
+use Rattle.dns_rdata_service.specs.{ParameterOrder.OrderFirst, ParameterOrder.joined, ParameterOrder.behind_length, Steps.parameters_from}
 use Rattle.dns_rdata_service.specs.SvcParamValue.{value_key, value_of, sized, key_numbers, value_rank, Differ}
 use Rattle.dns_rdata_service.specs.{SVCB.svcb_shape, SVCB.svcb_fields, SVCB.svcb_key_shape, SVCB.svcb_keys, declared.svcb.key.SvcParamKey.SvcParamKey}
 use Rattle.dns_rdata_service.specs.{declared.svcb.value.SvcParamValue.SvcParamValue, SvcParamKey.key_number, SvcParamKey.key_variant}
 use Rattle.dns_rdata_service.specs.{Parameters.Parameter, Parameters.own_parameter, OwnKeys.value_eq, OwnKeys.value_same, declared.svcb.SVCB.SVCB}
-use Rattle.dns_rdata_service.specs.Steps.{parameters_from}
 use Rattle.dns_rdata_base.specs.Numbered.{numbered_cmp}
 use Rattle.dns_rdata_service.specs.declared.svcb.value.SvcParamValue.TheVariants as variants
 

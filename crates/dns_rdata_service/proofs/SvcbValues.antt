@@ -1,26 +1,27 @@
--- SVCB and HTTPS by their fields: a record that was read is told by them, and fields of a region make one.
+-- SVCB by its fields: a record that was read is told by them, and fields of a region make one.
 use Rattle.std.proofs.Common.{◌≡◌, inl, inr, ℕ, ◌==◌, ◌&&◌, Bool, true, false, if◌then◌else◌, List, [], ◌∷◌, length, map, refl, sym, ap, ◌∙◌, arith}
 use Rattle.std.proofs.{lemmas.Bool.Decides.same_from_decides, lemmas.Bool.Decides.Decides-like, lemmas.Bool.Decides.nat_tests, lemmas.Simd.map-map}
 use Rattle.std.proofs.{Common.◌⊎◌, Common.nat_le, Common.◌≤◌, Common.subst, lemmas.Grind.common_steps}
 use Rattle.std.specs.List.{flat_map, AllByRecursion}
 use Rattle.dns_fields.specs.Tlvs.{Numbered, ParameterValue, Mandatory, Alpn, NoDefaultAlpn, Port, Ipv4Hint, Ipv6Hint, Opaque, ParameterHeld}
 use Rattle.dns_fields.specs.Tlvs.{AllHeld, tlv, tlvs, ParameterForm, Keys, Names, AnyOctets, form_for}
-use Rattle.dns_fields.specs.{Fields.Number, Fields.Name, Fields.Values, Fields.Parameters, Equal.kind_eq, Equal.values_eq, Octets.AreOctets}
+use Rattle.dns_fields.specs.{declared.Kind.TheVariants.Number, declared.Kind.TheVariants.Name, Fields.Values, declared.Kind.TheVariants.Parameters}
+use Rattle.dns_fields.specs.{Equal.kind_eq, Equal.values_eq, Octets.AreOctets}
 use Rattle.dns_fields.proofs.OctetLaws.{AreOctets-at, AreOctets-front, AreOctets-back, AreOctets-same, tlv_body}
 use Rattle.dns_fields.proofs.EqualLaws.{field_decide}
 use Rattle.dns_names_wire.specs.{State.Reading, Terms.Region}
 use Rattle.dns_rdata_base.proofs.{Addresses.octets_of-segments, Addresses.segments_of-octets_of, NumberLaws.number-numbered_of}
 use Rattle.dns_rdata_service.specs.Parameters.{Parameter, parameter_of, parameter_from, own_parameter, AreRead, IsParameterError}
-use Rattle.dns_rdata_service.specs.SvcParamValue.{value_of, value_from, a_octets, a_of, aaaa_octets, aaaa_of, IsFormError, IsKeyError, IsValueOf, opaque_from, is_text_key}
+use Rattle.dns_rows.specs.Rules.{is_text_key}
+use Rattle.dns_rdata_service.specs.SvcParamValue.{value_of, value_from, a_octets, a_of, aaaa_octets, aaaa_of, IsFormError, IsKeyError, IsValueOf, opaque_from}
 use Rattle.dns_rdata_service.specs.declared.svcb.key.SvcParamKey.TheVariants.{Key, Key65535, Unknown}
 use Rattle.dns_rdata_service.specs.declared.svcb.key.SvcParamKey.TheVariants as keys
 use Rattle.dns_rdata_service.specs.SvcParamKey.{key_number, key_of, key_variant, named_keys, other_key}
 use Rattle.dns_rdata_service.specs.SVCB.{svcb_shape, svcb_fields, svcb_key_shape, svcb_keys, IsReadSvcb, IsSvcbError}
-use Rattle.dns_rdata_service.specs.HTTPS.{https_shape, https_fields, https_key_shape, https_keys, IsReadHttps}
+use Rattle.dns_rdata_service.specs.declared.svcb.SVCB.{SVCB}
 use Rattle.dns_rdata_service.specs.{declared.svcb.key.SvcParamKey.SvcParamKey}
 use Rattle.dns_rdata_service.specs.{declared.svcb.value.SvcParamValue.SvcParamValue, declared.svcb.unknown.Unknown.Unknown as Other}
-use Rattle.dns_rdata_service.specs.{declared.svcb.ip_hint.IpHint.IpHint, Parameters.IsParametersError, declared.https.HTTPS.HTTPS}
-use Rattle.dns_rdata_service.specs.declared.svcb.SVCB.{SVCB}
+use Rattle.dns_rdata_service.specs.{declared.svcb.ip_hint.IpHint.IpHint, Parameters.IsParametersError}
 use Rattle.dns_rdata_service.proofs.OwnValues.{own_fields}
 use Rattle.dns_rdata_base.specs.{declared.aaaa.AAAA.AAAA, declared.a.A.A}
 use Rattle.dns_types.specs.declared.error.DecodeError.TheVariants as decode
@@ -41,25 +42,30 @@ map_back f g h (x ∷ xs) = ap (λ y. y ∷ xs) (h x) ∙ ap (λ ys. g (f x) ∷
 pub aaaa_list_back : (xs : List AAAA) → xs ≡ map aaaa_of (map aaaa_octets xs)
 aaaa_list_back = map_back aaaa_octets aaaa_of (λ x. ap (λ (s : List ℕ). record { 0 = record { segments = s } }) (sym (segments_of-octets_of x.0.segments)))
 
--- a key without a form of its own: its octets are unknown, it has no text, and its number has no form
+-- a key without a form of its own: its octets are unknown, and its number has no form and no text
 unnamed : (k : SvcParamKey) → ((x : ℕ) × (k ≡ Key x)) ⊎ ((k ≡ Key65535) ⊎ ((x : ℕ) × (k ≡ Unknown x)))
-    → ((s : List ℕ) → opaque_from k s ≡ variants.Unknown (record { 0 = s })) × (is_text_key k ≡ false) × (8 ≤ key_variant k)
-unnamed k (inl h) = rw h.1 ((λ s. refl), refl, omega arith)
-unnamed k (inr (inl h)) = rw h ((λ s. refl), refl, omega arith)
-unnamed k (inr (inr h)) = rw h.1 ((λ s. refl), refl, omega arith)
+    → ((s : List ℕ) → opaque_from k s ≡ variants.Unknown (record { 0 = s })) × (8 ≤ key_variant k)
+unnamed k (inl h) = rw h.1 ((λ s. refl), omega arith)
+unnamed k (inr (inl h)) = rw h ((λ s. refl), omega arith)
+unnamed k (inr (inr h)) = rw h.1 ((λ s. refl), omega arith)
 
 unnamed_form : (n : ℕ) → 8 ≤ key_variant (key_of n) → form_for n ≡ AnyOctets
 unfolding key_of
 unnamed_form n h = grind (arith, common_steps, nat_tests, h)
 
+text_is_named : (n : ℕ) → 8 ≤ key_variant (key_of n) → is_text_key n ≡ true → ⊥
+unfolding key_of
+text_is_named n h is = grind (arith, common_steps, nat_tests, h, is)
+
 pub unnamed_value : (k : SvcParamKey) (body : List ℕ) (x : Other) → k ≡ key_of (key_number k)
     → ((x : ℕ) × (k ≡ Key x)) ⊎ ((k ≡ Key65535) ⊎ ((x : ℕ) × (k ≡ Unknown x))) → body ≡ x.0 → IsValueOf (key_number k) body (variants.Unknown x)
 unnamed_value k body x given other e =
     let own = unnamed k other in
+    let rank = subst (λ (j : SvcParamKey). 8 ≤ key_variant j) given own.1 in
     record {
-      held = (sym (unnamed_form (key_number k) (subst (λ (j : SvcParamKey). 8 ≤ key_variant j) given own.2)), tt, e);
+      held = (sym (unnamed_form (key_number k) rank), tt, e);
       given = sym (ap (λ (j : SvcParamKey). opaque_from j x.0) (sym given) ∙ own.0 x.0);
-      text = λ is. absurd (cc (is, ap is_text_key given, own.1));
+      text = λ is. absurd (text_is_named (key_number k) rank is);
     }
 
 pub hint4_back : (x : IpHint A) → x ≡ record { 0 = map a_of (map a_octets x.0) }
@@ -188,22 +194,3 @@ pub svcb_never : (n : ℕ) (old new : Reading) (k : ℕ) → IsSvcbError n old (
 svcb_never n old new k (inl h) = grind arith
 svcb_never n old new k (inr (inl h)) = let e = h.error in cc e
 svcb_never n old new k (inr (inr h)) = parameters_never old.index n h.between new k h.refused
-
--- ---- HTTPS
-
-abbrev pub https_from : Values https_shape → HTTPS
-https_from vs = record { 0 = svcb_from vs }
-
-pub https_from-fields : (x : HTTPS) → IsReadHttps x → x ≡ https_from (https_fields x)
-https_from-fields x r = ap (λ (y : SVCB). record { 0 = y }) (svcb_from-fields x.0 r)
-
-pub https_fields-from : (m : List ℕ) (p n : ℕ) (condition : Values https_shape → Type 0) (vs : Values https_shape) → Region m p n https_shape condition vs
-    → https_fields (https_from vs) ≡ vs
-https_fields-from = svcb_fields-from
-
-pub https_from-read : (vs : Values https_shape) → IsReadHttps (https_from vs)
-https_from-read = svcb_from-read
-
-pub https_equal : (a b : HTTPS) → IsReadHttps a → IsReadHttps b
-    → values_eq https_key_shape (https_keys a) (https_keys b) ≡ values_eq https_shape (https_fields a) (https_fields b)
-https_equal a b x y = svcb_equal a.0 b.0 x y

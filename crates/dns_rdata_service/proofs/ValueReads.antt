@@ -7,17 +7,18 @@ use Rattle.std.specs.{Prelude.IsUtf8, Prelude.IfOk, Prelude.IfErr, List.flat_map
 use Rattle.dns_types.specs.{declared.error.DecodeError.DecodeError, declared.error.ProtoError.ProtoError}
 use Rattle.dns_fields.specs.Tlvs.{string, ParameterValue, ParameterForm, Keys, Names, form_of, Mandatory, Alpn, NoDefaultAlpn, Port, Ipv4Hint, Ipv6Hint}
 use Rattle.dns_fields.specs.Tlvs.{Opaque, Nothing, PortNumber, Addresses4, Addresses16, AnyOctets, IsEmittable, IsBody, form_for, ParameterHeld}
-use Rattle.dns_fields.specs.{Fields.CharacterString, Fields.Field, Fields.Octets, Fields.Stands, Fields.field_octets, Octets.At, Octets.AreOctets}
+use Rattle.dns_fields.specs.{declared.Kind.TheVariants.CharacterString, Fields.Field, declared.Kind.TheVariants.Octets, Fields.Stands, Fields.field_octets}
+use Rattle.dns_fields.specs.{Octets.At, Octets.AreOctets}
 use Rattle.dns_names_wire.specs.Terms.{TookField, StaysBehind, UnlessMemory, LacksOctets, LacksText, Emits, EmitsOctets}
 use Rattle.dns_names_wire.specs.State.{Reading, Writing}
 use Rattle.dns_names_wire.proofs.{FieldReads.stays, FieldReads.unless_map, FieldReads.unless_all, FieldWrites.because_map}
 use Rattle.dns_rdata_base.specs.{declared.aaaa.AAAA.AAAA, Numbered.NumberedAt, declared.a.A.A}
-use Rattle.dns_rdata_service.specs.SvcParamValue.{mandatory_value, alpn_value, AreGiven, ToEnd, MandatoryAt, AlpnAt, TruncatedName, WrongName, IsText, HasText}
+use Rattle.dns_rdata_service.specs.SvcParamValue.{mandatory_value, alpn_value, AreGiven, ToEnd, MandatoryAt, AlpnAt, TruncatedName, WrongName}
+use Rattle.dns_rows.specs.Rules.{is_text_key, HasText}
 use Rattle.dns_rdata_service.specs.SvcParamValue.{IsValueError, IsFormError, IsKeyError, a_octets, aaaa_octets, a_of, aaaa_of}
-use Rattle.dns_rdata_service.specs.{Hints.StandEach, Hints.StopsBefore, Hints.StandToEnd, Hints.ReadsEach, Hints.EmitsEach}
+use Rattle.dns_rdata_service.specs.{Hints.StandEach, Hints.StopsBefore, Hints.StandToEnd, Hints.ReadsEach, Hints.EmitsEach, declared.svcb.ip_hint.IpHint.IpHint}
 use Rattle.dns_rdata_service.specs.{declared.svcb.mandatory.Mandatory.Mandatory as MandatoryKeys, SvcParamKey.key_number, SvcParamKey.key_of}
 use Rattle.dns_rdata_service.specs.{declared.svcb.key.SvcParamKey.SvcParamKey, declared.svcb.alpn.Alpn.Alpn as Protocols}
-use Rattle.dns_rdata_service.specs.declared.svcb.ip_hint.IpHint.{IpHint}
 use Rattle.dns_rdata_service.proofs.Splits.{at_split, octet_split, length_numbers, string_first, strings_prefix, all_behind, stays_then}
 use Rattle.dns_rdata_service.proofs.EachEmits.{emits_all, emits_as, all_pass}
 use Rattle.dns_fields.proofs.{OctetLaws.AreOctets-at, Numbers.length-bytes}
@@ -124,11 +125,10 @@ value_none form body e (inr h) = unless_all e (record { none = refused_none form
 pub record NoKeyValue (key : ℕ) (body : List ℕ) : Type 0 where
   pub none : (v : ParameterValue) → ParameterHeld key body v → HasText key v → ⊥
 
-text_form : (key : ℕ) → IsText key → form_for key ≡ AnyOctets
-unfolding key_of
+text_form : (key : ℕ) → is_text_key key ≡ true → form_for key ≡ AnyOctets
 text_form key is = grind (arith, common_steps, nat_tests, is)
 
-no_text : (key : ℕ) (body : List ℕ) → IsText key → (IsUtf8 body → ⊥) → (v : ParameterValue) → ParameterHeld key body v → HasText key v → ⊥
+no_text : (key : ℕ) (body : List ℕ) → is_text_key key ≡ true → (IsUtf8 body → ⊥) → (v : ParameterValue) → ParameterHeld key body v → HasText key v → ⊥
 no_text key body is wrong (Opaque s) h text = wrong (subst IsUtf8 (sym h.2) (text is))
 no_text key body is wrong v h text = let e : form_of v ≡ AnyOctets = h.0 ∙ text_form key is in absurd (cc e)
 

@@ -1,8 +1,7 @@
 -- Parameters inserted into a list by the numbers of their keys, or removed from it (RFC 9460, 2.2).
 use Rattle.std.specs.Prelude.{ℕ, List, [], ◌∷◌, if◌then◌else◌, ◌==◌, nat_lt, map, filter, not}
 use Rattle.dns_fields.specs.Tlvs.{Rising}
-use Rattle.dns_rdata_service.specs.SVCB.{number_of_parameter}
-use Rattle.dns_rdata_service.specs.Parameters.{Parameter, parameter_of}
+use Rattle.dns_rdata_service.specs.{SVCB.number_of_parameter, Parameters.Parameter, Parameters.parameter_of}
 
 -- before the first parameter whose key has a greater number, or instead of the first whose key has the same number
 abbrev pub inserted : Parameter → List Parameter → List Parameter

@@ -3,13 +3,15 @@ use Rattle.std.specs.Prelude.{◌≡◌, ◌⊎◌, ℕ, ◌+◌, ◌<◌, ◌�
 use Rattle.std.specs.List.{AllByRecursion}
 use Rattle.dns_types.specs.{declared.error.DecodeError.DecodeError, declared.error.ProtoError.ProtoError}
 use Rattle.dns_types.specs.declared.error.DecodeError.TheVariants as decode
-use Rattle.dns_fields.specs.Fields.{Number, Rest, Parameters, Values}
+use Rattle.dns_fields.specs.Fields.{Values}
+use Rattle.dns_fields.specs.declared.Kind.{TheVariants.Number, TheVariants.Rest, TheVariants.Parameters}
 use Rattle.dns_fields.specs.Tlvs.{Numbered, ParameterValue, Alpn, ParameterFits, tlv, as_tlv, parameter_octets, Rising}
+use Rattle.dns_rows.specs.Rules.{HaveTexts}
 use Rattle.dns_names_wire.specs.{State.Reading, State.Writing, Terms.Took, Terms.TookField, Terms.EmitsOctets}
 use Rattle.dns_rdata_base.specs.FieldErrors.{FirstLack}
 use Rattle.dns_rdata_service.specs.{declared.svcb.key.SvcParamKey.SvcParamKey, declared.svcb.value.SvcParamValue.SvcParamValue}
 use Rattle.dns_rdata_service.specs.SvcParamKey.{key_number, key_variant, key_of}
-use Rattle.dns_rdata_service.specs.SvcParamValue.{value_of, value_from, value_key, HasText, IsKeyError, fits_value}
+use Rattle.dns_rdata_service.specs.SvcParamValue.{value_of, value_from, value_key, IsKeyError, fits_value}
 
 -- a key and its value
 abbrev pub Parameter : Type 0
@@ -31,13 +33,9 @@ own_parameter p = (key_number p.0, Alpn ((key_variant p.0 ∷ []) ∷ value_key 
 abbrev pub AreRead : List Parameter → Type 0
 AreRead ps = ps ≡ map parameter_from (map parameter_of ps)
 
--- a path of DNS queries is UTF-8, if there is one
-abbrev pub HaveTexts : List (Numbered ParameterValue) → Type 0
-HaveTexts v = AllByRecursion (λ x. HasText x.0 x.1) v
-
 -- parameters end there, and a path of DNS queries among them is UTF-8
 abbrev pub FillTo : ℕ → Values (Parameters ∷ []) → ℕ → Type 0
-FillTo end vs q = (q ≡ end) × HaveTexts vs.0
+FillTo end vs q = (q ≡ end) × (HaveTexts vs.0 × Unit {0})
 
 -- of the n octets from p, parameters are read up to the last three octets or further, and none past the end
 pub record TookParameters (p n : ℕ) (old : Reading) (ps : List Parameter) (new : Reading) : Type 0 where

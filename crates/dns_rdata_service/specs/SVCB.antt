@@ -3,24 +3,27 @@ use Rattle.std.specs.Prelude.{◌≡◌, ◌⊎◌, ℕ, ◌+◌, ◌≤◌, ◌
 use Rattle.std.specs.{List.flat_map, Ordering.on}
 use Rattle.dns_types.specs.declared.error.DecodeError.{DecodeError}
 use Rattle.dns_types.specs.declared.error.DecodeError.TheVariants as decode
-use Rattle.dns_fields.specs.{Labels.DomainName, Fields.Kind, Fields.Number, Fields.Name, Fields.Parameters, Fields.Values, Order.values_cmp}
+use Rattle.dns_fields.specs.{Labels.DomainName, declared.Kind.Kind, declared.Kind.TheVariants.Number, Order.values_cmp}
+use Rattle.dns_fields.specs.{declared.Kind.TheVariants.Name, declared.Kind.TheVariants.Parameters, Fields.Values}
+use Rattle.dns_rows.specs.{Table.kinds_of, Rules.MeetsRow}
+use Rattle.dns_rows.specs.declared.row.TheConstants as rows
 use Rattle.dns_labels.specs.Text.{name_text}
 use Rattle.dns_names_wire.specs.{State.Reading, Terms.Took, Facts.Facts}
 use Rattle.dns_rdata_base.specs.FieldErrors.{IsLack}
 use Rattle.dns_rdata_service.specs.{SvcParamKey.key_number, SvcParamKey.key_text, SvcParamValue.value_text, declared.svcb.SVCB.SVCB}
-use Rattle.dns_rdata_service.specs.Parameters.{Parameter, parameter_of, own_parameter, AreRead, HaveTexts, IsParametersError}
+use Rattle.dns_rdata_service.specs.Parameters.{Parameter, parameter_of, own_parameter, AreRead, IsParametersError}
 use Rattle.dns_rdata_service.specs.declared.svcb.value.SvcParamValue.{SvcParamValue}
 
 -- priority, target name, parameters
 abbrev pub svcb_shape : List Kind
-svcb_shape = Number 2 ∷ Name ∷ Parameters ∷ []
+svcb_shape = kinds_of rows.SVCB
 
-abbrev pub svcb_fields : SVCB → Values svcb_shape
+abbrev pub svcb_fields : SVCB → Values (kinds_of rows.SVCB)
 svcb_fields x = (x.svc_priority, (x.target_name, (map parameter_of x.svc_params, tt)))
 
--- a path of DNS queries is UTF-8
+-- a path of DNS queries is UTF-8, if there is one
 abbrev pub MeetsSvcbCondition : Values svcb_shape → Type 0
-MeetsSvcbCondition vs = HaveTexts vs.1.1.0
+MeetsSvcbCondition vs = MeetsRow rows.SVCB vs
 
 -- what is compared
 abbrev pub svcb_key_shape : List Kind

@@ -8,6 +8,7 @@ use Rattle.dns_types.specs.{declared.error.DecodeError.DecodeError, declared.err
 use Rattle.dns_fields.specs.Tlvs.{string, ParameterValue, Mandatory, Alpn, NoDefaultAlpn, Port, Ipv4Hint, Ipv6Hint, Opaque, ParameterForm, Keys, Names}
 use Rattle.dns_fields.specs.Tlvs.{Nothing, PortNumber, Addresses4, Addresses16, AnyOctets, IsEmittable, IsBody, ParameterHeld, form_for}
 use Rattle.dns_fields.specs.Tlvs.{parameter_octets, parameter_emittable}
+use Rattle.dns_rows.specs.Rules.{is_text_key, HasText}
 use Rattle.dns_names_wire.specs.{State.Writing, Terms.EmitsOctets}
 use Rattle.dns_rdata_base.specs.{declared.aaaa.AAAA.AAAA, AAAA.aaaa_text, declared.a.A.A, Lossy.lossy, A.a_text}
 use Rattle.dns_rdata_service.specs.{SvcParamKey.key_number, SvcParamKey.key_variant, SvcParamKey.key_of, SvcParamKey.key_text}
@@ -137,17 +138,6 @@ Differ v w = Unit {0}
 
 -- ---- reading
 
--- the keys whose values are UTF-8: the path of DNS queries (RFC 9461, 5)
-abbrev pub is_text_key : SvcParamKey → Bool
-is_text_key keys.DohPath = true
-is_text_key key = false
-
-abbrev pub IsText : ℕ → Type 0
-IsText key = is_text_key (key_of key) ≡ true
-
-abbrev pub HasText : ℕ → ParameterValue → Type 0
-HasText key value = IsText key → IsUtf8 (parameter_octets value)
-
 -- the octets are the value of the key with this number
 pub record IsValueOf (key : ℕ) (body : List ℕ) (v : SvcParamValue) : Type 0 where
   pub held : ParameterHeld key body (value_of v)
@@ -217,7 +207,7 @@ IsPathError body e = (e ≡ decode.Memory) ⊎ ((e ≡ decode.Utf8) × (IsUtf8 b
 
 -- why octets are no value of a key
 abbrev pub IsKeyError : ℕ → List ℕ → DecodeError → Type 0
-IsKeyError key body e = IsValueError (form_for key) body e ⊎ (IsText key × IsPathError body e)
+IsKeyError key body e = IsValueError (form_for key) body e ⊎ ((is_text_key key ≡ true) × IsPathError body e)
 
 -- ---- emitting
 

@@ -1,6 +1,6 @@
 -- The tokens of service bindings (RFC 9460, 2.1).
 use Rattle.std.specs.{Prelude.◌≡◌, Prelude.ℕ, Prelude.List, Prelude.[], Prelude.◌∷◌, Prelude.map, Prelude.Option, Prelude.None, List.AllZip}
-use Rattle.dns_fields.specs.Fields.{Parameters}
+use Rattle.dns_fields.specs.declared.Kind.{TheVariants.Parameters}
 use Rattle.dns_tokens.specs.{Forms.TokenRow, Forms.token, Forms.number, Forms.name, Reads.TookTokens}
 use Rattle.dns_rdata_service.specs.{Parameters.Parameter, Parameters.parameter_of, ParameterTokens.IsParameterToken, declared.svcb.SVCB.SVCB}
 use Rattle.dns_rdata_service.specs.SVCB.{svcb_shape}

@@ -2,7 +2,7 @@
 
 ghost use Rattle.std.specs.Prelude.{◌≡◌, ◌≤◌, length, IfOk};
 ghost use Rattle.std.specs.{List.Sorted.IsPermutation, List.Sorted.IsNonDecreasingBy, List.Sorted.IsStableByKey, Ordering.nat_cmp};
-ghost use Rattle.dns_rdata_service.specs.{SVCB.number_of_parameter, HTTPS.https_facts, HTTPS.https_key_shape, HTTPS.https_keys};
+ghost use Rattle.dns_rdata_service.specs.{SVCB.number_of_parameter, HTTPS.https_facts};
 
 use crate::svcb::SVCB;
 use dns_names_wire::{
@@ -88,9 +88,9 @@ impl Clone for HTTPS {
 
 impl fmt::Display for HTTPS {
     ghost use Rattle.std.specs.Prelude.{Some};
-    ghost use Rattle.dns_rdata_service.specs.HTTPS.{https_text};
+    ghost use Rattle.dns_rdata_service.specs.SVCB.{svcb_text};
 
-    ghost output = { λ x. Some (https_text x) };
+    ghost output = { λ x. Some (svcb_text x.0) };
 
     /// Writes the text of the SVCB.
     fn fmt<W: fmt::Write>(&self, f: &mut fmt::Formatter<W>) -> fmt::Result {

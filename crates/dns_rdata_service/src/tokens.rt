@@ -3,7 +3,7 @@
 ghost use Rattle.std.specs.{Prelude.map, Prelude.IfOk, Iterator.IsFinite};
 ghost use Rattle.dns_tokens.specs.Reads.{ReadsTokenRow, TookTokens};
 ghost use Rattle.dns_rdata_service.specs.TokenRows.{these_parameters, parameter_tokens, svcb_tokens, AreTokensOf};
-ghost use Rattle.dns_rdata_service.specs.{Parameters.parameter_of, HTTPS.https_fields, SVCB.svcb_fields};
+ghost use Rattle.dns_rdata_service.specs.{Parameters.parameter_of, SVCB.svcb_fields};
 
 use crate::https::HTTPS;
 use crate::items::Items;
@@ -83,7 +83,7 @@ impl HTTPS {
     ) -> Result<HTTPS, ParseError>
         requires can { I.can_next tokens }
         requires ends { IsFinite (I.remaining tokens) }
-        ensures reads { ReadsTokenRow I.next_gives S.text svcb_tokens https_fields result tokens }
+        ensures reads { ReadsTokenRow I.next_gives S.text svcb_tokens (λ x. svcb_fields x.0) result tokens }
         ensures own { IfOk result (λ x. AreTokensOf I.next_gives S.text x.0 tokens) }
     {
         Ok(HTTPS(SVCB::from_tokens(alloc, tokens)?))

@@ -2,8 +2,9 @@
 use Rattle.std.proofs.Common.{◌≡◌, ℕ, List, [], ◌∷◌, ◌++◌, map, length, inl, refl, sym, ◌∙◌, ap, subst, append_assoc, length-append, arith}
 use Rattle.std.specs.{Int.bytes_high_first, List.flat_map}
 use Rattle.std.proofs.lemmas.List.{append-nil, drop_at}
-use Rattle.dns_fields.specs.{Labels.wire, Names.LabelsStand.whole}
-use Rattle.dns_fields.specs.Fields.{Kind, Value, Values, Number, Octets, Name, CharacterString, CharacterStrings, Rest, Options, Parameters, Bitmap, Field, Stands, Fits}
+use Rattle.dns_fields.specs.{Labels.wire, Names.LabelsStand.whole, Fields.Value, Fields.Values, Fields.Field, Fields.Stands, Fields.Fits}
+use Rattle.dns_fields.specs.declared.Kind.{Kind, TheVariants.Number, TheVariants.Octets, TheVariants.Name, TheVariants.CharacterString}
+use Rattle.dns_fields.specs.declared.Kind.{TheVariants.CharacterStrings, TheVariants.Rest, TheVariants.Options, TheVariants.Parameters, TheVariants.Bitmap}
 use Rattle.dns_fields.specs.Fields.{Lawful, IsFull, field_octets, option_tlvs, parameter_tlvs, canonical}
 use Rattle.dns_fields.specs.Tlvs.{string, tlv, tlvs, OptionHeld, OptionFits, option_octets, ParameterHeld, ParameterFits, parameter_octets}
 use Rattle.dns_fields.proofs.{Bitmaps.minimal_stands, FieldLaws.field_append, FieldLaws.field_fits, FieldLaws.field_lawful, FieldLaws.field_full}

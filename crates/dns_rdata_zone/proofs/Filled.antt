@@ -3,9 +3,9 @@ use Rattle.std.proofs.Common.{◌≡◌, ℕ, zero, suc, ◌+◌, ◌*◌, ◌/�
 use Rattle.std.proofs.Common.{refl, sym, ◌∙◌, ap, subst, arith}
 use Rattle.std.specs.Prelude.{flat_map, slice_index}
 use Rattle.std.specs.{List.AllByRecursion, Net.Addr.IsIpv4Addr, Net.Addr.IsIpv6Addr, Net.Addr.ipv6_segments, Net.Addr.octets_of}
-use Rattle.dns_fields.specs.{Labels.DomainName, Labels.AreLabels, Labels.wire, Octets.AreOctets, Octets.At}
-use Rattle.dns_fields.specs.Fields.{Kind, Value, Values, Name, Options, Field, Stands, CompleteOptions, TruncatedOptions, option_tlvs, all_emittable}
-use Rattle.dns_fields.specs.Fields.{canonical}
+use Rattle.dns_fields.specs.{Labels.DomainName, Labels.AreLabels, Labels.wire, Octets.AreOctets, Octets.At, Fields.canonical}
+use Rattle.dns_fields.specs.Fields.{Value, Values, Field, Stands, CompleteOptions, TruncatedOptions, option_tlvs, all_emittable}
+use Rattle.dns_fields.specs.declared.Kind.{Kind, TheVariants.Name, TheVariants.Options}
 use Rattle.dns_fields.specs.Tlvs.{Numbered, tlv, tlvs, string, as_tlv, AllHeld, IsTlv, OptionValue, Subnet, OpaqueOption, option_octets}
 use Rattle.dns_fields.specs.Tlvs.{OptionHeld, ParameterHeld, IsEmittable, IsBody, parameter_octets}
 use Rattle.dns_fields.proofs.OctetLaws.{AreOctets-nil, AreOctets-cons, AreOctets-head, AreOctets-tail, AreOctets-same, AreOctets-append}
@@ -22,9 +22,8 @@ use Rattle.dns_rdata_service.specs.{Parameters.Parameter, Parameters.parameter_o
 use Rattle.dns_rdata_service.specs.{declared.svcb.SVCB.SVCB, declared.svcb.value.SvcParamValue.SvcParamValue}
 use Rattle.dns_rdata_service.specs.SvcParamValue.{value_of, a_octets, aaaa_octets}
 use Rattle.dns_rdata_service.specs.declared.svcb.value.SvcParamValue.TheVariants.{Mandatory, Alpn, NoDefaultAlpn, Port, Ipv4Hint, Ipv6Hint}
-use Rattle.dns_rdata_zone.specs.{ZoneGives.AreDataOf, ZoneGives.TextGives, ZoneReads.FillsGive, ZoneReads.FillsPrint, ZoneReads.FillsTell}
+use Rattle.dns_rdata_zone.specs.{ZoneGives.AreDataOf, ZoneGives.TextGives, ZoneReads.FillsGive, ZoneReads.FillsPrint, ZoneReads.FillsTell, Readable.IsReadable}
 use Rattle.dns_rdata_zone.specs.Readable.{IsString, IsWritable, IsWritableTlsa, IsWritableValue, IsWritableParameter, IsWritableService, FieldsFit}
-use Rattle.dns_rdata_zone.specs.Readable.{IsReadable}
 use Rattle.dns_rdata_zone.specs.ZoneTexts.{zone_text, zone_octets}
 use Rattle.dns_rdata_zone.proofs.{RowForms.bytes_of, Again.own_fields, Again.same_length, TextsGive.texts_give, TextsGive.texts_print, TextsGive.texts_tell}
 use Rattle.dns_rdata_zone.proofs.{FilledLengths.all_short, FilledLengths.few_fields, FilledLengths.body_short, ServiceDigits.octets_if}

@@ -1,10 +1,11 @@
 -- What was read from a message has few octets.
 use Rattle.std.proofs.Common.{◌≡◌, ℕ, suc, ◌+◌, ◌*◌, ◌≤◌, List, [], ◌∷◌, map, length, inl, inr, ◌⊎◌, refl, ap, arith, length-append}
 use Rattle.std.specs.{List.flat_map, List.AllByRecursion, List.range_with_len, Int.bytes_high_first}
-use Rattle.dns_fields.specs.Fields.{Kind, Value, Values, Number, Octets, Name, CharacterString, CharacterStrings, Rest, Options, Parameters, Bitmap}
+use Rattle.dns_fields.specs.Fields.{Value, Values, field_octets, Field, Stands, CompleteOptions, TruncatedOptions, option_tlvs}
+use Rattle.dns_fields.specs.declared.Kind.{Kind, TheVariants.Number, TheVariants.Octets, TheVariants.Name, TheVariants.CharacterString}
+use Rattle.dns_fields.specs.declared.Kind.{TheVariants.CharacterStrings, TheVariants.Rest, TheVariants.Options, TheVariants.Parameters, TheVariants.Bitmap}
 use Rattle.dns_fields.specs.Tlvs.{Numbered, tlv, tlvs, as_tlv, AllHeld, OptionValue, Subnet, OpaqueOption, option_octets, OptionHeld, ParameterValue, Mandatory}
 use Rattle.dns_fields.specs.{Labels.wire, Bitmaps.Block, Bitmaps.block, Bitmaps.IsBlock, Bitmaps.minimal, Bitmaps.window, Bitmaps.windows, Bitmaps.with_block}
-use Rattle.dns_fields.specs.Fields.{field_octets, Field, Stands, CompleteOptions, TruncatedOptions, option_tlvs}
 use Rattle.dns_fields.specs.Tlvs.{Alpn, NoDefaultAlpn, Port, Ipv4Hint, Ipv6Hint, Opaque, parameter_octets, ParameterHeld, IsBody}
 use Rattle.dns_fields.proofs.{Bitmaps.minimal_fit, FieldLaws.field_inside, Tlvs.length-tlv}
 use Rattle.dns_rdata.specs.{Data.fields_of, declared.record_data.RData.RData, WholeOctets.whole_octets, WholeOctets.all_whole}

@@ -3,7 +3,7 @@ use Rattle.std.proofs.Common.{◌≡◌, ℕ, ◌+◌, ◌*◌, ◌%◌, ◌<◌
 use Rattle.std.proofs.{Math.Seq.take-suc, Common.length-append, lemmas.List.append-nil, lemmas.Grind.flat_map-append}
 use Rattle.std.specs.Int.{bytes_high_first}
 use Rattle.hex.specs.Hex.{encode_lower}
-use Rattle.dns_fields.specs.{Fields.Number, Fields.field_octets, Fields.option_tlvs, Tlvs.as_tlv, Tlvs.option_octets, Tlvs.tlv, Tlvs.tlvs}
+use Rattle.dns_fields.specs.{declared.Kind.TheVariants.Number, Fields.field_octets, Fields.option_tlvs, Tlvs.as_tlv, Tlvs.option_octets, Tlvs.tlv, Tlvs.tlvs}
 use Rattle.dns_fields.proofs.Tlvs.{length-tlv}
 use Rattle.dns_rdata_options.specs.OPT.{Pair, pair_value}
 use Rattle.dns_rdata_zone.specs.{Options.pair_octets, Options.options_octets, Tokens.tokens_from, Tokens.in_tokens, Tokens.left_after}

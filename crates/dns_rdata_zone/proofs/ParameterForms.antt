@@ -1,14 +1,12 @@
 -- Parameters that were written are read as they were.
 use Rattle.std.proofs.Common.{◌≡◌, ◌≢◌, ◌⊎◌, ℕ, suc, get_or, ◌+◌, ◌^◌, ◌<◌, ◌≤◌, Bool, true, false, cond, eqb, ◌&&◌, nat_lt, List, [], ◌∷◌, ◌++◌}
 use Rattle.std.proofs.Common.{length, take, drop, decimal, codes, refl, sym, ◌∙◌, ap, subst, append_assoc, arith, inl, inr, lt-ltb, le-ltb}
-use Rattle.std.specs.Prelude.{not}
-use Rattle.std.specs.{List.AllByRecursion, List.list_all, List.position_or_len, Str.Parse.digits_value}
+use Rattle.std.specs.{Prelude.not, List.AllByRecursion, List.list_all, List.position_or_len, Str.Parse.digits_value}
 use Rattle.std.proofs.{lemmas.Bool.Decides.nat_tests, lemmas.Bool.cases_lt, lemmas.Fmt.decimal_is_IsNumeral, lemmas.Str.Parse.digit_at}
 use Rattle.std.proofs.lemmas.List.{take_all, drop_all}
 use Rattle.dns_tokens.proofs.Printed.{number_back}
-use Rattle.dns_rdata_zone.proofs.Letters.{first_true, second_true}
+use Rattle.dns_rdata_zone.proofs.{Letters.first_true, Letters.second_true, Dividing.plain_divided, Dividing.InQuotes, Dividing.joined_divided}
 use Rattle.dns_rdata_zone.proofs.Dividing.{AreDivided, bare_token, quoted_token, is_run_octet, AreRunOctets, run_both, run_printable, begins_plain}
-use Rattle.dns_rdata_zone.proofs.Dividing.{plain_divided, InQuotes, joined_divided}
 use Rattle.dns_rdata_zone.proofs.RowForms.{bare_unmarked, run_first}
 use Rattle.dns_zone_tokens.specs.Tokens.{Token}
 use Rattle.dns_rdata_service.specs.SvcParamKey.{key_number, key_variant, key_of, key_text}

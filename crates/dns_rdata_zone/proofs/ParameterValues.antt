@@ -1,11 +1,9 @@
 -- Values of parameters that were written are read as they were.
-use Rattle.std.proofs.Common.{rules, ◌≡◌, ◌≢◌, ℕ, zero, suc, ◌+◌, ◌^◌, ◌<◌, ◌≤◌, Bool, true, false, cond, eqb, ◌||◌, ◌&&◌, nat_lt, List, [], ◌∷◌}
+use Rattle.std.proofs.Common.{rules, ◌≡◌, ◌≢◌, ℕ, zero, suc, ◌+◌, ◌^◌, ◌<◌, ◌≤◌, Bool, true, false, cond, eqb, ◌||◌, ◌&&◌, nat_lt, List, [], ◌∷◌, arith}
 use Rattle.std.proofs.Common.{◌++◌, map, length, take, drop, get_or, All, inl, inr, decimal, codes, Ok, refl, sym, ◌∙◌, ap, subst, append_assoc}
-use Rattle.std.proofs.Common.{arith}
-use Rattle.std.specs.Prelude.{flat_map, slice_index, not, bytes_eq}
+use Rattle.std.specs.{Prelude.flat_map, Prelude.slice_index, Prelude.not, Prelude.bytes_eq, Net.Text.ipv4_text, Net.Text.ipv6_text, Net.Text.hex_groups_text}
 use Rattle.std.specs.{Int.bytes_high_first, List.AllByRecursion, List.AllZip, List.list_all, List.join_with_byte, List.Sorted.IsStrictlyIncreasing}
 use Rattle.std.specs.Net.Addr.{IsIpv4Addr, IsIpv6Addr, ipv4_octets, ipv6_segments, octets_of}
-use Rattle.std.specs.Net.Text.{ipv4_text, ipv6_text, hex_groups_text}
 use Rattle.std.proofs.{NetLemmas.Texts.AllSegments, NetLemmas.Texts.AllSegments-drop, lemmas.Str.Parse.digit_at, lemmas.Bool.Decides.nat_tests}
 use Rattle.std.proofs.{lemmas.Fmt.decimal_is_IsNumeral, lemmas.Grind.flat_map-append, lemmas.List.append-nil, lemmas.List.Sorted.IsPermutation-refl}
 use Rattle.std.proofs.NetLemmas.Alphabet.{IsDigitOrDot, IsHexOrColon, All-ipv4_text, All-hex_groups_text}
@@ -14,8 +12,7 @@ use Rattle.base64.specs.{Engines.standard, GeneralPurpose.encode_of, GeneralPurp
 use Rattle.base64.proofs.EngineFacts.{decode_of-encode_of}
 use Rattle.dns_fields.specs.{Octets.AreOctets, Tlvs.string}
 use Rattle.dns_rdata_base.specs.{A.a_text, AAAA.aaaa_text, declared.a.A.A, declared.aaaa.AAAA.AAAA}
-use Rattle.dns_rdata_service.specs.{SvcParamKey.key_number, declared.svcb.key.SvcParamKey.SvcParamKey}
-use Rattle.dns_rdata_service.specs.SvcParamValue.{a_octets, aaaa_octets}
+use Rattle.dns_rdata_service.specs.{SvcParamKey.key_number, declared.svcb.key.SvcParamKey.SvcParamKey, SvcParamValue.a_octets, SvcParamValue.aaaa_octets}
 use Rattle.dns_tokens.proofs.Printed.{ipv4_back, ipv6_back}
 use Rattle.dns_zone_tokens.specs.Letters.{Letter, plain, letters, octet_of, escapes_stand}
 use Rattle.dns_zone_parameters.specs.{Values.HasOctets, Values.IsPort, Values.forbids_escapes, Values.IsValue, Laws.IsPlainItem, Laws.IsProtocolName}

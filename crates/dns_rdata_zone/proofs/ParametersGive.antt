@@ -1,19 +1,16 @@
 -- The parameters of a service that was written give their octets.
 use Rattle.std.proofs.Common.{◌≡◌, ◌≢◌, ℕ, ◌^◌, ◌<◌, ◌≤◌, true, false, cond, eqb, nat_lt, List, [], ◌∷◌, ◌++◌, map, length, decimal, codes, refl, sym}
 use Rattle.std.proofs.Common.{◌∙◌, ap, subst, arith, le-ltb}
-use Rattle.std.specs.Prelude.{flat_map}
-use Rattle.std.specs.{Int.bytes_high_first, List.AllByRecursion, List.list_all}
+use Rattle.std.specs.{Prelude.flat_map, Int.bytes_high_first, List.AllByRecursion, List.list_all}
 use Rattle.std.proofs.{lemmas.Bool.Decides.nat_tests, lemmas.List.append-nil, lemmas.List.Sorted.IsPermutation-refl}
 use Rattle.base64.specs.{Engines.standard, GeneralPurpose.encode_of}
-use Rattle.dns_zone_parameters.specs.{Values.HasOctets, Values.IsValue}
-use Rattle.dns_zone_parameters.specs.Laws.{IsProtocolName}
+use Rattle.dns_zone_parameters.specs.{Values.HasOctets, Values.IsValue, Laws.IsProtocolName}
 use Rattle.dns_zone_parameters.specs.Parameters.{Parameter as Spelled, IsParameter, AreWritten, AreParameters}
 use Rattle.dns_fields.specs.{Fields.parameter_tlvs, Octets.AreOctets}
 use Rattle.dns_fields.specs.Tlvs.{Numbered, ParameterValue, string, tlvs, as_tlv, is_some, parameter_octets, Below, Rising}
 use Rattle.dns_rdata_base.specs.{A.a_text, AAAA.aaaa_text}
 use Rattle.dns_rdata_service.specs.{Parameters.Parameter, Parameters.parameter_of, SvcParamKey.is_unnamed, SvcParamKey.key_number, SvcParamKey.key_of, SvcParamValue.value_of, SvcParamValue.own_key}
-use Rattle.dns_rdata_service.specs.declared.svcb.key.SvcParamKey.{SvcParamKey}
-use Rattle.dns_rdata_service.specs.declared.svcb.value.SvcParamValue.{SvcParamValue}
+use Rattle.dns_rdata_service.specs.{declared.svcb.key.SvcParamKey.SvcParamKey, declared.svcb.value.SvcParamValue.SvcParamValue}
 use Rattle.dns_rdata_service.specs.declared.svcb.value.SvcParamValue.TheVariants.{Mandatory, Alpn, NoDefaultAlpn, Port, Ipv4Hint, EchConfigList}
 use Rattle.dns_rdata_service.specs.declared.svcb.value.SvcParamValue.TheVariants.{Ipv6Hint, Unknown}
 use Rattle.dns_zone_tokens.specs.Tokens.{Token}

@@ -2,7 +2,8 @@
 use Rattle.std.proofs.Common.{◌≡◌, ℕ, ◌+◌, ◌*◌, ◌≤◌, Bool, true, false, cond, List, [], ◌∷◌, ◌++◌, length, drop, decimal, Option, Some, None, MatchOption, refl}
 use Rattle.std.proofs.{lemmas.List.append-nil, lemmas.List.drop_at, Common.sym, Common.◌∙◌, Common.ap, Common.append_assoc, Common.arith, Common.length-append}
 use Rattle.hex.specs.Hex.{encode_lower}
-use Rattle.dns_fields.specs.{Labels.lowname, Fields.Number, Fields.Parameters, Fields.canonical, Fields.field_octets, Fields.all_emittable}
+use Rattle.dns_fields.specs.{Labels.lowname, declared.Kind.TheVariants.Number, declared.Kind.TheVariants.Parameters, Fields.canonical, Fields.field_octets}
+use Rattle.dns_fields.specs.{Fields.all_emittable}
 use Rattle.dns_rdata.specs.{Data.fields_of, Data.data_octets, declared.record_data.RData.RData, WholeOctets.name_octets}
 use Rattle.dns_rdata_service.specs.{SVCB.svcb_shape, SVCB.svcb_fields, declared.svcb.SVCB.SVCB}
 use Rattle.dns_rdata_zone.specs.{Generic.generic, Services.service_octets, Tokens.tokens_from, Tokens.left_after}

@@ -7,8 +7,7 @@ use Rattle.dns_rdata.specs.declared.record_data.RData.{RData}
 use Rattle.dns_rdata.specs.declared.record_data.RData.TheVariants as rdata
 use Rattle.dns_rdata_base.specs.declared.soa.SOA.{SOA}
 use Rattle.dns_rdata_certs.specs.Enums.{cert_algorithm_number, cert_type_number, cert_usage_number, matching_number, selector_number}
-use Rattle.dns_rdata_certs.specs.Enums.{sshfp_algorithm_number, fingerprint_type_number}
-use Rattle.dns_rdata_certs.specs.declared.tlsa.TLSA.{TLSA}
+use Rattle.dns_rdata_certs.specs.{Enums.sshfp_algorithm_number, Enums.fingerprint_type_number, declared.tlsa.TLSA.TLSA}
 use Rattle.dns_rdata_service.specs.{Parameters.Parameter, Parameters.parameter_of, SvcParamKey.key_number, SvcParamValue.value_of}
 use Rattle.dns_rdata_service.specs.{declared.svcb.SVCB.SVCB, declared.svcb.value.SvcParamValue.SvcParamValue}
 use Rattle.dns_rdata_service.specs.declared.svcb.value.SvcParamValue.TheVariants as values

@@ -1,6 +1,6 @@
 -- Which octets, and which RDATA, a text of a zone file gives (RFC 1035, 5.1; RFC 3597, 5).
 use Rattle.std.specs.Prelude.{◌≡◌, ◌⊎◌, ℕ, ◌<◌, Bool, true, false, ◌||◌, List, [], ◌∷◌, length, Option, Some, None, Ok}
-use Rattle.dns_fields.specs.{Fields.Kind, Fields.Name, Labels.DomainName}
+use Rattle.dns_fields.specs.{declared.Kind.Kind, declared.Kind.TheVariants.Name, Labels.DomainName}
 use Rattle.dns_rdata.specs.{Data.shape, Data.Fills, Data.data_octets, declared.record_data.RData.RData}
 use Rattle.dns_types.specs.declared.record_type.RecordType.{RecordType}
 use Rattle.dns_zone_rows.specs.{RowTable.zone_row_of, Rows.RowShape, Rows.RowGives}

@@ -1,7 +1,6 @@
 //! Domain names read from texts of zone files.
 
-ghost use Rattle.std.specs.Prelude.{◌≡◌, ◌⊎◌, IfOk, IfErr};
-ghost use Rattle.std.specs.Option.{option_copied};
+ghost use Rattle.std.specs.{Prelude.◌≡◌, Prelude.◌⊎◌, Prelude.IfOk, Prelude.IfErr, Option.option_copied};
 ghost use Rattle.dns_fields.specs.Labels.{IsName, full_name};
 ghost use Rattle.dns_tokens.specs.Reads.{UnlessParseMemory};
 ghost use Rattle.dns_zone_tokens.specs.NameTokens.{name_octets};

@@ -1,7 +1,6 @@
 //! Domain names printed for zone files (RFC 1035, section 5.1).
 
-ghost use Rattle.std.specs.Prelude.{◌≡◌, ◌<◌, Some};
-ghost use Rattle.std.specs.Bool.{OnTrue};
+ghost use Rattle.std.specs.{Prelude.◌≡◌, Prelude.◌<◌, Prelude.Some, Bool.OnTrue};
 ghost use Rattle.dns_rdata_zone.specs.{Spellings.name_octet, Spellings.needs_backslash, Names.zone_label, Names.zone_name};
 
 use crate::spelling::{Spelled, Spelling, write_digits, write_escaped};

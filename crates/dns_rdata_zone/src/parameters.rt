@@ -1,7 +1,6 @@
 //! Service parameters printed for zone files (RFC 9460, sections 2.1 and 7, and appendix A; RFC 9461, section 5).
 
-ghost use Rattle.std.specs.Prelude.{◌≡◌, Some, flat_map, map, true};
-ghost use Rattle.std.specs.List.{list_all};
+ghost use Rattle.std.specs.{Prelude.◌≡◌, Prelude.Some, Prelude.flat_map, Prelude.map, Prelude.true, List.list_all};
 ghost use Rattle.dns_rdata_base.specs.{A.a_text, AAAA.aaaa_text};
 ghost use Rattle.dns_rdata_service.specs.SvcParamKey.{is_unnamed, key_number, key_of};
 ghost use Rattle.dns_rdata_zone.specs.Spellings.{protocol_octet};

@@ -1,7 +1,6 @@
 //! Records of numbers, strings and names whose zone text is not their display text, or not always.
 
-ghost use Rattle.std.specs.Prelude.{◌≡◌, Some};
-ghost use Rattle.std.specs.{Char.is_ascii_alphanumeric, List.list_all};
+ghost use Rattle.std.specs.{Prelude.◌≡◌, Prelude.Some, Char.is_ascii_alphanumeric, List.list_all};
 ghost use Rattle.dns_rdata_zone.specs.Records.{zone_hinfo, zone_txt, zone_naptr, zone_soa, has_plain_tag, zone_caa, zone_type, zone_csync};
 
 use crate::names::ZoneName;

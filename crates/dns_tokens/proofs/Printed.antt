@@ -9,7 +9,8 @@ use Rattle.std.proofs.{Math.Pow.pow_mono, lemmas.Bool.Decides.nat_tests, lemmas.
 use Rattle.std.proofs.{lemmas.Fmt.decimal_is_IsNumeral, lemmas.Str.Parse.without_leading_plus_none, lemmas.Str.Parse.digit_at}
 use Rattle.std.proofs.NetLemmas.Alphabet.{IsDigitOrDot, IsHexOrColon, All-ipv4_text, All-hex_groups_text}
 use Rattle.std.proofs.NetLemmas.Texts.{IsDotted-ipv4_text, IsColonHex-ipv6_text, AllSegments, AllSegments-drop}
-use Rattle.dns_fields.specs.{Labels.DomainName, Fields.Kind, Fields.Number, Fields.Name, Fields.Value, Fields.Values}
+use Rattle.dns_fields.specs.{Labels.DomainName, declared.Kind.Kind, declared.Kind.TheVariants.Number, declared.Kind.TheVariants.Name, Fields.Value}
+use Rattle.dns_fields.specs.{Fields.Values}
 use Rattle.dns_labels.specs.Text.{printed, label_text, joined_text, name_text}
 use Rattle.dns_labels.proofs.NameTexts.{name_reads}
 use Rattle.dns_text.specs.Ttl.Periods.{unitless}

@@ -4,7 +4,8 @@ use Rattle.std.specs.Prelude.{map}
 use Rattle.std.specs.{List.flat_map, Iterator.Yields, Iterator.Drains, Result.IsErrAnd}
 use Rattle.dns_types.specs.declared.error.ParseError.{ParseError}
 use Rattle.dns_types.specs.declared.error.ParseError.TheVariants as parse
-use Rattle.dns_fields.specs.Fields.{Kind, Value, Values}
+use Rattle.dns_fields.specs.Fields.{Value, Values}
+use Rattle.dns_fields.specs.declared.Kind.{Kind}
 use Rattle.dns_tokens.specs.{Taking.HoldsBehind, Taking.HoldsOfTokens, Forms.Form, Forms.TokenRow, Forms.token, Forms.ignored, Forms.nothing}
 use Rattle.dns_tokens.specs.{Forms.every_text, Reads.UnlessParseMemory, Reads.NoToken, Reads.AreTexts, Reads.AreJoined, Reads.ReadsText, Reads.FirstIs}
 use Rattle.dns_tokens.specs.{Reads.TookToken, Reads.RefusedToken, Reads.ReadsToken, Reads.TookTokens, Reads.RefusedTokens, Reads.ReadsTokenRow}

@@ -6,7 +6,9 @@ use Rattle.std.specs.Str.Parse.{IsNumeral, digits_value, without_leading_plus}
 use Rattle.std.specs.Net.Grammar.{IsIpv4Text, IsIpv6Text}
 use Rattle.base64.specs.{Engines.standard, GeneralPurpose.decode_of}
 use Rattle.dns_fields.specs.Labels.{DomainName}
-use Rattle.dns_fields.specs.Fields.{Kind, Number, Octets, Name, CharacterString, CharacterStrings, Rest, Value, Values}
+use Rattle.dns_fields.specs.Fields.{Value, Values}
+use Rattle.dns_fields.specs.declared.Kind.{Kind, TheVariants.Number, TheVariants.Octets, TheVariants.Name}
+use Rattle.dns_fields.specs.declared.Kind.{TheVariants.CharacterString, TheVariants.CharacterStrings, TheVariants.Rest}
 use Rattle.dns_text.specs.Ttl.{IsTtl}
 use Rattle.dns_names_wire.specs.NameValues.{IsParsed}
 

@@ -1,6 +1,6 @@
 -- Printed tokens, divided at their blanks, are read back.
 use Rattle.std.specs.Prelude.{◌≡◌, ℕ, ◌==◌, if◌then◌else◌, true, List, [], ◌∷◌, ◌++◌}
-use Rattle.dns_fields.specs.{Labels.DomainName, Labels.IsName, Fields.Kind, Fields.Values}
+use Rattle.dns_fields.specs.{Labels.DomainName, Labels.IsName, declared.Kind.Kind, Fields.Values}
 use Rattle.dns_labels.specs.Text.{HasOctets}
 use Rattle.dns_tokens.specs.Forms.{TokenRow}
 

@@ -3,7 +3,8 @@ use Rattle.std.specs.Prelude.{◌≡◌, ℕ, List, [], ◌∷◌, Option, Some,
 use Rattle.std.specs.{Iterator.Count, Iterator.IsFinite, Iterator.Drains, List.flat_map}
 use Rattle.dns_types.specs.declared.error.ParseError.{ParseError}
 use Rattle.dns_types.specs.declared.error.ParseError.TheVariants as parse
-use Rattle.dns_fields.specs.Fields.{Kind, Value, Values}
+use Rattle.dns_fields.specs.Fields.{Value, Values}
+use Rattle.dns_fields.specs.declared.Kind.{Kind}
 use Rattle.dns_tokens.specs.{Taking.HoldsOfTokens, Forms.Form, Forms.TokenRow}
 
 -- the error `Memory` says nothing

@@ -1,7 +1,8 @@
 -- Records of numbers and names, in order: their tokens, their text, and which of them print in tokens that give them
 -- back.
 use Rattle.std.specs.Prelude.{ℕ, ◌<◌, ◌^◌, ◌*◌, min, List, [], ◌∷◌, ◌++◌, codes, decimal, Option}
-use Rattle.dns_fields.specs.{Labels.DomainName, Fields.Kind, Fields.Number, Fields.Name, Fields.Values}
+use Rattle.dns_fields.specs.{Labels.DomainName, declared.Kind.Kind, declared.Kind.TheVariants.Number}
+use Rattle.dns_fields.specs.{declared.Kind.TheVariants.Name, Fields.Values}
 use Rattle.dns_labels.specs.Text.{name_text}
 use Rattle.dns_names_wire.specs.Facts.{Facts}
 use Rattle.dns_tokens.specs.{Forms.TokenRow, Forms.token, Forms.ignored, Forms.number, Forms.name, Printed.IsPrintedName}

@@ -2,7 +2,8 @@
 
 ghost use Rattle.std.specs.Prelude.{List, [], ◌∷◌, Option};
 ghost use Rattle.std.specs.Option.{option_copied};
-ghost use Rattle.dns_fields.specs.{Fields.Kind, Fields.Name as NameKind, Fields.Values, Labels.DomainName};
+ghost use Rattle.dns_fields.specs.{declared.Kind.Kind, declared.Kind.TheVariants.Name as NameKind, Fields.Values};
+ghost use Rattle.dns_fields.specs.{Labels.DomainName};
 ghost use Rattle.dns_tokens.specs.{Forms.TokenRow, Forms.name, Forms.token, Forms.ignored, Reads.ReadsTokenRow};
 
 use crate::reading::next_name;

@@ -1,7 +1,6 @@
 -- A name is of one key at most, and which texts of a key are its names.
 use Rattle.std.proofs.Common.{◌≡◌, ◌≢◌, ◌≤◌, ℕ, arith, List, ◌++◌, drop, refl, sym, ◌∙◌, ap, subst, inl, inr, ◌⊎◌, ◌<◌, ◌^◌, length, get_or, length-drop}
-use Rattle.std.specs.Prelude.{codes}
-use Rattle.std.specs.{Str.IsUtf8, Str.Parse.AllDigits, Str.Parse.digits_value, Str.Parse.without_leading_plus, Fmt.decimal}
+use Rattle.std.specs.{Prelude.codes, Str.IsUtf8, Str.Parse.AllDigits, Str.Parse.digits_value, Str.Parse.without_leading_plus, Fmt.decimal}
 use Rattle.std.proofs.lemmas.Str.Parse.{IsNumeralModel, without_leading_plus_none, without_leading_plus_plus, digit_at}
 use Rattle.std.proofs.lemmas.Fmt.{decimal-digits_value, decimal_is_IsNumeral, decimal_digit, first_decimal, IsAscii-decimal}
 use Rattle.std.proofs.lemmas.{Bool.cases_lt, Str.IsUtf8-append, Str.IsUtf8-from_ascii}

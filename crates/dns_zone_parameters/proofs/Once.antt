@@ -4,11 +4,10 @@ use Rattle.std.specs.{Int.bytes_high_first, List.AllZip, List.flat_map, List.Sor
 use Rattle.std.proofs.NetLemmas.Theorems.{IsIpv4Text_unique, IsIpv6Text_unique}
 use Rattle.base64.specs.declared.decode.DecodeError.{DecodeError}
 use Rattle.dns_fields.specs.Tlvs.{string}
-use Rattle.dns_rdata_service.specs.{SvcParamKey.key_number, declared.svcb.key.SvcParamKey.SvcParamKey}
+use Rattle.dns_rdata_service.specs.{SvcParamKey.key_number, declared.svcb.key.SvcParamKey.SvcParamKey, declared.svcb.key.SvcParamKey.TheVariants.Ipv6Hint}
 use Rattle.dns_zone_parameters.specs.{Values.HasOctets, declared.lists.ListItem.ListItem}
 use Rattle.dns_zone_parameters.specs.Lists.{items_in, IsItem, IsList, IsListedKey, IsKeyList}
 use Rattle.dns_rdata_service.specs.declared.svcb.key.SvcParamKey.TheVariants.{Mandatory, Alpn, NoDefaultAlpn, Port, Ipv4Hint, EchConfigList}
-use Rattle.dns_rdata_service.specs.declared.svcb.key.SvcParamKey.TheVariants.{Ipv6Hint}
 use Rattle.dns_zone_parameters.specs.declared.lists.ListItem.TheVariants.{Protocol, Ipv4, Ipv6}
 use Rattle.dns_zone_parameters.proofs.{Items.same_both, KeyNames.key_once, Rises.climbs_rising, Rises.order_once}
 

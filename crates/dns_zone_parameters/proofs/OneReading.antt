@@ -6,8 +6,7 @@ use Rattle.dns_fields.specs.{Sorting.put, Sorting.sorted, Tlvs.tlvs, Tlvs.Rising
 use Rattle.dns_fields.proofs.Sorted.{octets_cmp, sorted_same}
 use Rattle.dns_zone_tokens.specs.Tokens.{Token}
 use Rattle.dns_rdata_service.specs.{SvcParamKey.key_number, declared.svcb.key.SvcParamKey.SvcParamKey}
-use Rattle.dns_zone_parameters.specs.{Laws.OneReading, Values.IsValue}
-use Rattle.dns_zone_parameters.specs.Parameters.{Parameter, HasParameter, AreWritten}
+use Rattle.dns_zone_parameters.specs.{Laws.OneReading, Values.IsValue, Parameters.Parameter, Parameters.HasParameter, Parameters.AreWritten}
 use Rattle.dns_zone_parameters.proofs.{KeyNames.key_once, Once.octets_once, TokenSteps.apart, TokenSteps.begin_once, TokenSteps.no_tokens}
 
 -- ---- one order

@@ -9,11 +9,10 @@ use Rattle.dns_zone_tokens.specs.{Tokens.Token, Tokens.Cursor, Tokens.tokens_at,
 use Rattle.dns_zone_tokens.specs.Remaining.{with_tokens, NoneOfAll, TookAll, PutAll}
 use Rattle.dns_tokens.proofs.Steps.{unless_map}
 use Rattle.dns_zone_tokens.proofs.RemainingSteps.{tokens_more, tokens_ok}
-use Rattle.dns_zone_parameters.specs.{Faults.KeyTwice, Faults.IsFirstTwice, Faults.twice_text, Steps.AreLeft, Steps.IsFirstFall}
+use Rattle.dns_zone_parameters.specs.{Faults.KeyTwice, Faults.IsFirstTwice, Faults.twice_text, Steps.AreLeft, Steps.IsFirstFall, Keys.IsKeyName, Values.IsValue}
 use Rattle.dns_zone_parameters.specs.{Steps.TookWritten, Steps.TookParameter, Steps.TookParameters, Views.parameter_value, declared.parameter.Parameter.Parameter as CodeParameter}
 use Rattle.dns_zone_parameters.specs.Parameters.{Parameter, IsWritten, HasParameter, IsParameter, AreWritten, AreParameters}
 use Rattle.dns_rdata_service.specs.declared.svcb.key.SvcParamKey.{SvcParamKey}
-use Rattle.dns_zone_parameters.specs.{Keys.IsKeyName, Values.IsValue}
 use Rattle.dns_zone_parameters.proofs.{KeyNames.key_once, OneReading.written_once, Rises.Climbs, Rises.climbs_rising, Rises.order_once, Rises.rising_from, Rises.rising_to}
 
 -- ---- the next parameter

@@ -2,13 +2,11 @@
 use Rattle.std.proofs.Common.{◌≡◌, ℕ, suc, ◌+◌, ◌-◌, ◌<◌, ◌≤◌, true, false, cond, ltb, min, List, [], ◌∷◌, ◌++◌, length, take, drop, get_or, Option}
 use Rattle.std.proofs.Common.{Some, None, Result, Ok, Err, refl, sym, ◌∙◌, ap, subst, arith, inl, inr, length-append}
 use Rattle.std.specs.List.{position, position_or_len}
-use Rattle.std.proofs.{Math.Seq.drop-cons, lemmas.Bool.cases_Bool, lemmas.Option.same_Some, lemmas.Bool.Decides.nat_tests}
+use Rattle.std.proofs.{Math.Seq.drop-cons, lemmas.Bool.cases_Bool, lemmas.Option.same_Some, lemmas.Bool.Decides.nat_tests, lemmas.List.Sums.passes_at_first}
 use Rattle.std.proofs.lemmas.List.{drop_all, take_all, take-append-drop, length-take, length-drop}
-use Rattle.std.proofs.lemmas.List.Sums.{passes_at_first}
 use Rattle.dns_zone_tokens.specs.{Remaining.NoneOfAll, Remaining.with_tokens, declared.tokens_error.TokensError.TokensError, Tokens.Token, Tokens.Cursor, Tokens.tokens_at, Tokens.with_token}
 use Rattle.dns_zone_tokens.proofs.RemainingSteps.{token_ok}
-use Rattle.dns_zone_parameters.specs.Parameters.{Parameter, is_equals, name_in, value_in, StandsAlone, IsQuotedValue, IsWritten, HasParameter}
-use Rattle.dns_zone_parameters.specs.Parameters.{AreWritten}
+use Rattle.dns_zone_parameters.specs.Parameters.{Parameter, is_equals, name_in, value_in, StandsAlone, IsQuotedValue, IsWritten, HasParameter, AreWritten}
 use Rattle.dns_zone_parameters.specs.Steps.{NoQuoted, TookWritten}
 
 front_alone : (name value : List ℕ) (front behind : List Token) (token : Token) (rest : List Token) → token ∷ rest ≡ front ++ behind

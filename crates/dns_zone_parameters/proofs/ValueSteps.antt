@@ -1,10 +1,9 @@
 -- Values, one step after the other.
 use Rattle.std.proofs.Common.{◌≡◌, ◌≢◌, ℕ, suc, ◌<◌, ◌⊎◌, inl, inr, true, false, eqb, get_or, take, drop, List, [], ◌∷◌, ◌++◌, length, map, refl, sym}
 use Rattle.std.proofs.Common.{◌∙◌, ap, subst, arith, Result, Ok, Err}
-use Rattle.std.specs.Prelude.{IfErr}
+use Rattle.std.specs.{Prelude.IfErr, List.AllByRecursion, List.AllZip, Ordering.nat_cmp}
 use Rattle.std.proofs.{lemmas.Bool.Decides.nat_tests, lemmas.List.Sorted.IsNonDecreasingBy-from_sort}
 use Rattle.std.proofs.lemmas.List.{append-nil, take_all, drop_all}
-use Rattle.std.specs.{List.AllByRecursion, List.AllZip, Ordering.nat_cmp}
 use Rattle.std.specs.List.Sorted.{IsPermutation, IsSorted, IsStrictlyIncreasing}
 use Rattle.dns_types.specs.declared.error.ParseError.{ParseError}
 use Rattle.dns_types.specs.declared.error.ParseError.TheVariants as parse
@@ -14,8 +13,7 @@ use Rattle.dns_zone_tokens.proofs.LetterSteps.{plain_letters}
 use Rattle.dns_tokens.proofs.Steps.{unless_map}
 use Rattle.dns_rdata_service.specs.declared.svcb.key.SvcParamKey.{SvcParamKey}
 use Rattle.dns_zone_parameters.specs.{Faults.ValueFault, Values.wrong_value, Steps.HasMeant, Values.HasOctets, Values.IsPlain, Values.IsValue}
-use Rattle.dns_zone_parameters.specs.{declared.lists.ListItem.ListItem}
-use Rattle.dns_zone_parameters.specs.Lists.{items_in, IsItem, IsListedKey, IsKeyList}
+use Rattle.dns_zone_parameters.specs.{declared.lists.ListItem.ListItem, Lists.items_in, Lists.IsItem, Lists.IsListedKey, Lists.IsKeyList}
 use Rattle.dns_zone_parameters.specs.declared.lists.ListItem.TheVariants.{Ipv4, Ipv6}
 use Rattle.dns_zone_parameters.proofs.{Once.keys_once, Once.octets_once, Rises.climbs_rising, Rises.climbs_sorted, Rises.order_once}
 

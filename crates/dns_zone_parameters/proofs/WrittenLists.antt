@@ -1,7 +1,6 @@
 -- Lists are read as they are written.
 use Rattle.std.proofs.Common.{◌≡◌, ◌≢◌, ℕ, Bool, true, false, eqb, List, [], ◌∷◌, ◌++◌, map, refl, sym, ◌∙◌, ap, subst, arith, append_assoc, inl, inr}
-use Rattle.std.specs.Prelude.{◌||◌}
-use Rattle.std.specs.List.{AllByRecursion, AllZip, flat_map, join_with_byte}
+use Rattle.std.specs.{Prelude.◌||◌, List.AllByRecursion, List.AllZip, List.flat_map, List.join_with_byte}
 use Rattle.std.proofs.{lemmas.Bool.cases_Bool, lemmas.Bool.Decides.nat_tests, lemmas.List.append-nil}
 use Rattle.dns_fields.specs.Tlvs.{string}
 use Rattle.dns_zone_parameters.specs.Laws.{escaped, IsProtocolName, NamesRead, IsPlainItem, PlainItemsRead}

@@ -1,7 +1,6 @@
 -- What the code keeps.
 use Rattle.std.specs.Prelude.{◌≡◌, ℕ, ◌+◌, ◌<◌, take, drop, map, List, [], ◌∷◌, ◌++◌, length, Result, Ok, Err, Option, Some, None, true, ◌≢◌, codes}
-use Rattle.std.specs.Prelude.{◌≤◌, ◌⊎◌, slice_index}
-use Rattle.std.specs.Str.Parse.{IsNumeral, digits_value}
+use Rattle.std.specs.{Prelude.◌≤◌, Prelude.◌⊎◌, Prelude.slice_index, Str.Parse.IsNumeral, Str.Parse.digits_value}
 use Rattle.dns_types.specs.declared.error.ParseError.{ParseError}
 use Rattle.dns_tokens.specs.Reads.{UnlessParseMemory, HoldsOfNone}
 use Rattle.dns_zone_tokens.specs.{Remaining.with_tokens, Remaining.NoneOfAll, declared.tokens_error.TokensError.TokensError, Tokens.Token, Tokens.Cursor}

@@ -3,7 +3,7 @@ use Rattle.std.specs.Prelude.{◌≡◌, ◌≢◌, ℕ, ◌<◌, ◌^◌, ◌==
 use Rattle.std.specs.{Int.bytes_high_first, List.AllByRecursion, Str.Parse.IsNumeral, Str.Parse.digits_value}
 use Rattle.base64.specs.{Engines.standard, GeneralPurpose.decode_of}
 use Rattle.dns_zone_tokens.specs.Letters.{letters, octet_of, escapes_stand}
-use Rattle.dns_rdata_service.specs.{SvcParamValue.is_text_key, declared.svcb.key.SvcParamKey.SvcParamKey}
+use Rattle.dns_rdata_service.specs.declared.svcb.key.SvcParamKey.{SvcParamKey}
 use Rattle.dns_zone_parameters.specs.{Lists.IsList, Lists.IsKeyList}
 use Rattle.dns_rdata_service.specs.declared.svcb.key.SvcParamKey.TheVariants.{Mandatory, Alpn, NoDefaultAlpn, Port, Ipv4Hint, EchConfigList}
 use Rattle.dns_rdata_service.specs.declared.svcb.key.SvcParamKey.TheVariants.{Ipv6Hint, DohPath}
@@ -14,6 +14,11 @@ pub record IsPort (text octets : List ℕ) : Type 0 where
   pub digits : IsNumeral 10 text
   pub fits : digits_value 10 text < 2 ^ 16
   pub value : octets ≡ bytes_high_first 2 (digits_value 10 text)
+
+-- the keys whose values are text
+abbrev pub is_text_key : SvcParamKey → Bool
+is_text_key DohPath = true
+is_text_key key = false
 
 -- The octets on the wire that a value of the key has, by the octets of its text. If the key's value is text, or if the
 -- key is written as a number, whatever the number, they are the octets of the text.

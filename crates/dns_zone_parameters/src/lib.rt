@@ -42,7 +42,7 @@ use std::alloc::{AllocError, Global};
 /// - `port`: a decimal number of 16 bits.
 /// - `ipv4hint`, `ipv6hint`: a list of addresses.
 /// - `ech`: base64 (RFC 4648, section 4) of one octet or more.
-/// - `dohpath`: one octet or more, as they are.
+/// - a key whose value is text, such as `dohpath`: one octet or more, as they are.
 /// - `key` and a number, even that of a key above: the octets as they are.
 ///
 /// Lists have one item or more, with a comma between two. A value has at most 65535 octets. A value of `mandatory`,

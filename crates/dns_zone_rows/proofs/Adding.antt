@@ -1,7 +1,7 @@
 -- Octets appended to others.
 use Rattle.std.proofs.Common.{◌≡◌, ℕ, zero, suc, ◌-◌, ◌≤◌, List, ◌∷◌, Result, Ok, Err, refl, sym, ◌∙◌, subst, take, drop, arith}
 use Rattle.std.specs.{Int.bytes_high_first, Result.IsErrAnd}
-use Rattle.dns_fields.specs.Fields.{Kind, Value}
+use Rattle.dns_fields.specs.{Fields.Value, declared.Kind.Kind}
 use Rattle.dns_types.specs.declared.error.ParseError.{ParseError}
 use Rattle.dns_tokens.specs.Reads.{UnlessParseMemory}
 use Rattle.dns_zone_tokens.specs.{Forms.ZoneForm, Tokens.Token, Tokens.Cursor, Tokens.tokens_at, Tokens.with_token, ZoneReads.NoValueOf, ZoneReads.PutsAs}

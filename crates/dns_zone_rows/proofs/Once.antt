@@ -2,7 +2,7 @@
 use Rattle.std.proofs.NetLemmas.Theorems.{IsIpv4Text_unique, IsIpv6Text_unique}
 use Rattle.std.proofs.Common.{◌≡◌, ℕ, true, List, [], ◌∷◌, ◌++◌, drop, find, codes, Option, Some, None, Result, Ok, refl, sym, ap, ◌∙◌, subst, inl, inr}
 use Rattle.std.specs.{List.flat_map, Net.Addr.ipv4_octets, Net.Addr.ipv6_octets, Str.Parse.digits_value}
-use Rattle.dns_fields.specs.{Bitmaps.block, Bitmaps.minimal, Fields.Kind, Fields.Value, Labels.DomainName, Tlvs.string as string_octets}
+use Rattle.dns_fields.specs.{Bitmaps.block, Bitmaps.minimal, declared.Kind.Kind, Fields.Value, Labels.DomainName, Tlvs.string as string_octets}
 use Rattle.dns_text.proofs.TtlSteps.{periods_one}
 use Rattle.dns_types.specs.{declared.record_type.RecordType.RecordType, declared.record_type.RecordType.TheVariants.Unknown}
 use Rattle.dns_types.specs.RecordTypes.{number_of, is_named, named_types, record_type_of, type_text, has_name, IsTypeName, IsNumberText, IsTypeText}

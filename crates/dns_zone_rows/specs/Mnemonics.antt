@@ -1,6 +1,6 @@
 -- Numbers that tokens have by name: certificate types (RFC 4398, 2.1) and algorithms (RFC 4034, A.1).
 use Rattle.std.specs.Prelude.{◌≡◌, ◌⊎◌, ℕ, true, false, List, [], ◌∷◌, Option, Some, None, codes}
-use Rattle.dns_fields.specs.Fields.{Number}
+use Rattle.dns_fields.specs.declared.Kind.{TheVariants.Number}
 use Rattle.dns_zone_tokens.specs.{Forms.ZoneForm, Forms.number, Mnemonics.Named, Mnemonics.named, Mnemonics.number_named, Tokens.Token}
 
 -- a token without quotes that is a name is its number; any other token is a number of so many octets

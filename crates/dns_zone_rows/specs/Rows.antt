@@ -3,7 +3,7 @@
 use Rattle.std.specs.Prelude.{◌≡◌, ◌≢◌, ℕ, ◌≤◌, false, List, [], ◌∷◌, ◌++◌, length, Option}
 use Rattle.std.specs.{List.AllZip, List.flat_map, Int.bytes_high_first}
 use Rattle.dns_fields.specs.{Bitmaps.block, Bitmaps.minimal, Labels.DomainName, Tlvs.string as string_octets}
-use Rattle.dns_fields.specs.Fields.{Kind, Value, CharacterString}
+use Rattle.dns_fields.specs.{Fields.Value, declared.Kind.Kind, declared.Kind.TheVariants.CharacterString}
 use Rattle.dns_types.specs.{RecordTypes.number_of, declared.record_type.RecordType.RecordType}
 use Rattle.dns_tokens.specs.Forms.{ttl, ipv4, ipv6}
 use Rattle.dns_zone_tokens.specs.{NameTokens.name, NameTokens.name_octets, Mnemonics.Named, Remaining.AreHex, Remaining.AreBase64, Remaining.AreStrings, Tokens.Token}

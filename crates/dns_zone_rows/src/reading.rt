@@ -1,7 +1,6 @@
 //! RDATA of a zone file as octets.
 
-ghost use Rattle.std.specs.Prelude.{◌≡◌, ◌⊎◌, IfErr};
-ghost use Rattle.std.specs.Option.{option_copied};
+ghost use Rattle.std.specs.{Prelude.◌≡◌, Prelude.◌⊎◌, Prelude.IfErr, Option.option_copied};
 ghost use Rattle.dns_zone_tokens.specs.Remaining.{ReadsAll};
 ghost use Rattle.dns_zone_rows.specs.{RowFaults.row_value, RowFaults.RowFault, Rows.RowGives};
 

@@ -1,7 +1,8 @@
 -- The forms of tokens: which values of a field a token of a text has (RFC 1035, 5.1).
 use Rattle.std.specs.Prelude.{◌≡◌, ◌⊎◌, ℕ, ◌*◌, ◌^◌, ◌<◌, ◌≤◌, true, false, List, length, map}
 use Rattle.std.specs.Str.Parse.{IsNumeral, digits_value}
-use Rattle.dns_fields.specs.Fields.{Kind, Number, CharacterString, Rest, Value}
+use Rattle.dns_fields.specs.Fields.{Value}
+use Rattle.dns_fields.specs.declared.Kind.{Kind, TheVariants.Number, TheVariants.CharacterString, TheVariants.Rest}
 use Rattle.dns_types.specs.{declared.record_type.RecordType.RecordType, declared.error.ParseError.ParseError}
 use Rattle.dns_types.specs.declared.error.ParseError.TheVariants as parse
 use Rattle.dns_tokens.specs.Forms.{Form}

@@ -1,6 +1,6 @@
 -- Domain names in tokens (RFC 1035, 5.1).
 use Rattle.std.specs.Prelude.{◌≡◌, ◌⊎◌, ℕ, ◌+◌, ◌<◌, Bool, true, false, ◌==◌, if◌then◌else◌, List, [], ◌∷◌, ◌++◌, length, Option, Some, None}
-use Rattle.dns_fields.specs.{Fields.Name, Labels.DomainName, Labels.IsName, Labels.wire}
+use Rattle.dns_fields.specs.{declared.Kind.TheVariants.Name, Labels.DomainName, Labels.IsName, Labels.wire}
 use Rattle.dns_names_wire.specs.NameValues.{root_name, completed}
 use Rattle.dns_zone_tokens.specs.{Forms.ZoneForm, Tokens.Token, declared.field.NameField.NameField}
 use Rattle.dns_zone_tokens.specs.Letters.{Letter, letters, octet_of, stands_for, escapes_stand}

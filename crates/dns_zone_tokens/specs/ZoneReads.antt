@@ -2,7 +2,7 @@
 use Rattle.std.specs.Prelude.{◌≡◌, ◌⊎◌, ℕ, List, [], ◌∷◌, ◌++◌, Result, Ok, Err}
 use Rattle.dns_types.specs.declared.error.ParseError.{ParseError}
 use Rattle.dns_types.specs.declared.error.ParseError.TheVariants as parse
-use Rattle.dns_fields.specs.Fields.{Kind, Value}
+use Rattle.dns_fields.specs.{Fields.Value, declared.Kind.Kind}
 use Rattle.dns_tokens.specs.{Reads.UnlessParseMemory, declared.field.Field.Field}
 use Rattle.dns_zone_tokens.specs.{Forms.ZoneForm, Errors.Says, Errors.undivided_text, declared.tokens_error.TokensError.TokensError}
 use Rattle.dns_zone_tokens.specs.Tokens.{Token, Cursor, tokens_at, with_token}

@@ -1,7 +1,6 @@
 //! Numbers that have names.
 
-ghost use Rattle.std.specs.Prelude.{◌≡◌};
-ghost use Rattle.std.specs.Str.{str_eq_ignore_ascii_case};
+ghost use Rattle.std.specs.{Prelude.◌≡◌, Str.str_eq_ignore_ascii_case};
 ghost use Rattle.dns_zone_tokens.specs.Mnemonics.{named_values, number_named};
 
 /// A mnemonic and its number.

@@ -1,8 +1,7 @@
 //! The commands of the program `rdata`.
 #![tactic(auto)]
 
-ghost use Rattle.std.specs.Prelude.{◌≡◌, ◌≤◌, ◌⊎◌, codes};
-ghost use Rattle.std.specs.Io.KnownBytes.{Appends};
+ghost use Rattle.std.specs.{Prelude.◌≡◌, Prelude.◌≤◌, Prelude.◌⊎◌, Prelude.codes, Io.KnownBytes.Appends};
 ghost use Rattle.rdata_command.specs.{Request.texts, Request.NoRequest, Report.PrintsValue, Report.RefusesValue, Comparing.NoOrderRequest};
 ghost use Rattle.rdata_command.specs.{Comparing.PrintsOrder, Comparing.RefusesOrder, Parsing.NoTextRequest, Parsing.PrintsText, Parsing.RefusesText};
 

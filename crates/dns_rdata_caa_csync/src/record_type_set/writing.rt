@@ -2,7 +2,7 @@
 
 ghost use Rattle.std.specs.Prelude.{◌≡◌, ◌≢◌, ◌+◌, ◌-◌, ◌*◌, ◌/◌, ◌%◌, ◌<◌, ◌≤◌, ◌==◌, ◌++◌, ℕ, if◌then◌else◌, length, take, drop, slice_index};
 ghost use Rattle.std.specs.Int.{bit_at, bytes_high_first};
-ghost use Rattle.dns_fields.specs.{Octets.AreOctets, Bitmaps.IsTypeSet, Bitmaps.mark, Fields.Bitmap};
+ghost use Rattle.dns_fields.specs.{Octets.AreOctets, Bitmaps.IsTypeSet, Bitmaps.mark, declared.Kind.TheVariants.Bitmap};
 ghost use Rattle.dns_names_wire.specs.Terms.{EmitsField};
 ghost use Rattle.dns_rdata_caa_csync.specs.RecordTypeSet.{AreOfWindow, first_window};
 

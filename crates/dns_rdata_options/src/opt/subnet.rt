@@ -3,9 +3,8 @@
 ghost use Rattle.std.specs.Prelude.{◌≡◌, ◌+◌, ◌<◌, ◌≤◌, ◌/◌, ◌⊎◌, IfSome, IfNone, false, length, drop, take, Result, IfOk, IfErr, OnErr, Bool};
 ghost use Rattle.dns_fields.specs.Tlvs.{option_octets, IsEmittableOption, IsAddress, Subnet as SubnetValue};
 ghost use Rattle.dns_names_wire.specs.Terms.{ReadsBy, EmitsFitting, IsMessage};
-ghost use Rattle.dns_rdata_options.specs.{IpNet.masked_address};
+ghost use Rattle.dns_rdata_options.specs.{IpNet.masked_address, ClientSubnet.address_of, ClientSubnet.IsFamily};
 ghost use Rattle.dns_rdata_options.specs.ClientSubnet.{subnet_value, SubnetAt, IsSubnetError, ReadsSubnet, prefix_octets, family_octets};
-ghost use Rattle.dns_rdata_options.specs.ClientSubnet.{address_of, IsFamily};
 
 use crate::opt::net::{IpNet, masked_address};
 use dns_names_wire::{BinDecodable, BinDecoder, BinEncodable, BinEncoder, DecodeError, ProtoError};

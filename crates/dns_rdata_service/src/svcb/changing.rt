@@ -2,8 +2,7 @@
 
 ghost use Rattle.std.specs.Prelude.{◌≡◌, ◌≢◌, ◌⊎◌, ◌≤◌, ◌+◌, ◌++◌, ◌∷◌, ℕ, List, drop, length, take, Some, None, IfErr, IfOk, IsTrue, OnErr, OnOk, if◌then◌else◌};
 ghost use Rattle.dns_rdata_service.specs.{Parameters.Parameter, SVCB.number_of_parameter, SVCB.value_at, SvcParamKey.key_number};
-ghost use Rattle.dns_rdata_service.specs.{SvcParamValue.own_key};
-ghost use Rattle.dns_rdata_service.specs.Changing.{inserted, removed, RisesIn};
+ghost use Rattle.dns_rdata_service.specs.{SvcParamValue.own_key, Changing.inserted, Changing.removed, Changing.RisesIn};
 
 use crate::items::Items;
 use crate::svcb::key::SvcParamKey;

@@ -4,7 +4,7 @@ ghost use Rattle.std.specs.Prelude.{◌≡◌, ◌≢◌, ℕ, refl, IfErr, Matc
 ghost use Rattle.std.specs.Hash as fed;
 ghost use Rattle.dns_rdata_base.specs.Numbered.{NumberedAt, numbered_eq, numbered_cmp, numbered_partial_cmp, numbered_hash};
 ghost use Rattle.dns_rdata_base.proofs.NumberedLaws.{numbered_equiv, numbered_partial, numbered_total, numbered_order, numbered_ties, numbered_alike};
-ghost use Rattle.dns_fields.specs.Fields.{Number};
+ghost use Rattle.dns_fields.specs.declared.Kind.{TheVariants.Number};
 ghost use Rattle.dns_names_wire.specs.Terms.{ReadsBy, EmitsField, LacksOctets, IsTruncated};
 ghost use Rattle.dns_types.specs.declared.error.ProtoError.TheVariants as proto;
 ghost use Rattle.dns_rdata_service.specs.{SvcParamKey.key_number, SvcParamKey.key_variant, SvcParamKey.key_of, ParameterTokens.IsNumberedKey};

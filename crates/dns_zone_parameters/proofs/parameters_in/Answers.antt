@@ -1,5 +1,4 @@
-use Rattle.std.proofs.Common.{◌∙◌, ap, map, [], ◌∷◌}
-use Rattle.std.proofs.lemmas.List.{map-append}
+use Rattle.std.proofs.{Common.◌∙◌, Common.ap, Common.map, Common.[], Common.◌∷◌, lemmas.List.map-append}
 use Rattle.dns_zone_parameters.specs.Views.{parameter_value}
 use Rattle.dns_zone_parameters.proofs.ParameterSteps.{one_parameter, all_taken}
 use Rattle.dns_zone_parameters.proofs.parameters_in.Goals as goal

@@ -1,6 +1,5 @@
-use Rattle.std.proofs.Common.{◌∙◌, ap, map, rules, subst, inr}
+use Rattle.std.proofs.{Common.◌∙◌, Common.ap, Common.map, Common.rules, Common.subst, Common.inr, lemmas.List.Sorted.IsNonDecreasingBy-from_sort_by_key}
 use Rattle.std.specs.List.Sorted.{IsStrictlyIncreasing}
-use Rattle.std.proofs.lemmas.List.Sorted.{IsNonDecreasingBy-from_sort_by_key}
 use Rattle.dns_fields.specs.Tlvs.{tlvs}
 use Rattle.dns_zone_parameters.specs.{Views.parameter_value, Parameters.AreParameters, Steps.IsFirstFall}
 use Rattle.dns_zone_tokens.specs.Remaining.{PutsAll}

@@ -115,7 +115,7 @@ pub fn names(alloc: Global, word: &str) -> Result<String> {
 struct Pair(u16);
 
 impl BinDecodable for Pair {
-    ghost use Rattle.dns_fields.specs.Fields.{Number, Field};
+    ghost use Rattle.dns_fields.specs.{Fields.Field, declared.Kind.TheVariants.Number};
     ghost use Rattle.dns_names_wire.specs.Terms.{IsTruncated};
 
     ghost stands = { λ m p x q. Field m p (Number 2) x.0 q };

@@ -1,7 +1,7 @@
 //! A record of a number and a name, put together by the words of fields alone.
 
 ghost use Rattle.std.specs.Prelude.{◌∷◌, []};
-ghost use Rattle.dns_fields.specs.Fields.{Number, Name as NameKind};
+ghost use Rattle.dns_fields.specs.declared.Kind.{TheVariants.Number, TheVariants.Name as NameKind};
 ghost use Rattle.dns_names_wire.specs.Terms.{ReadsIf, Emits, Always};
 
 use anyhow::Context;

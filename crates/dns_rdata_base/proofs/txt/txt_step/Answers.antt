@@ -1,5 +1,6 @@
 use Rattle.std.proofs.Common.{◌≡◌, ◌∙◌, ap, ◌++◌, arith}
-use Rattle.dns_fields.specs.Fields.{CharacterString, field_octets}
+use Rattle.dns_fields.specs.Fields.{field_octets}
+use Rattle.dns_fields.specs.declared.Kind.{TheVariants.CharacterString}
 use Rattle.dns_rdata_base.proofs.TextLists.{text_given}
 use Rattle.dns_rdata_base.proofs.txt.txt_step.Goals as goal
 

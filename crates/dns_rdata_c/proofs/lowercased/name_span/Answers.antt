@@ -1,5 +1,5 @@
 use Rattle.std.proofs.Common.{refl, [], ◌∷◌, arith}
-use Rattle.dns_fields.specs.Fields.{Parameters}
+use Rattle.dns_fields.specs.declared.Kind.{TheVariants.Parameters}
 use Rattle.dns_rdata_c.proofs.NameSpans.{short_texts, text_behind, moved, name_first, names_first, number_behind, with_name, without_name}
 use Rattle.dns_rdata_c.proofs.lowercased.name_span.Goals as goal
 

@@ -1,5 +1,4 @@
-use Rattle.std.proofs.Common.{ℕ, inr, refl, sym, subst}
-use Rattle.std.proofs.lemmas.List.{take_rest}
+use Rattle.std.proofs.{Common.ℕ, Common.inr, Common.refl, Common.sym, Common.subst, lemmas.List.take_rest}
 use Rattle.dns_fields.specs.Names.{IsNameIn}
 use Rattle.dns_rdata_c.proofs.NamesStand.{name_found, name_missed}
 use Rattle.dns_rdata_c.proofs.names.soa_name.Goals as goal

@@ -1,5 +1,4 @@
-use Rattle.std.proofs.Common.{arith}
-use Rattle.std.proofs.lemmas.List.{take_rest}
+use Rattle.std.proofs.{Common.arith, lemmas.List.take_rest}
 use Rattle.dns_rdata_c.proofs.PartWalks.{front_of, no_front}
 use Rattle.dns_rdata_c.proofs.parts.service_begin.Goals as goal
 

@@ -1,5 +1,4 @@
-use Rattle.std.proofs.Common.{◌-◌, length, arith}
-use Rattle.std.proofs.lemmas.Bool.{eqb-true, eq-eqb, ltb-true, lt-ltb}
+use Rattle.std.proofs.{Common.◌-◌, Common.length, Common.arith, lemmas.Bool.eqb-true, lemmas.Bool.eq-eqb, lemmas.Bool.ltb-true, lemmas.Bool.lt-ltb}
 use Rattle.dns_rdata_c.proofs.TlvWalks.{slice_octets, code_alone, cut_length, body_cut, cut_says}
 use Rattle.dns_rdata_c.proofs.tlvs.is_cut.Goals as goal
 

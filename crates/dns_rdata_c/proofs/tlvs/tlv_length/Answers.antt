@@ -1,5 +1,4 @@
-use Rattle.std.proofs.Common.{◌∙◌, sym, ap, arith, take, drop}
-use Rattle.std.proofs.lemmas.List.{drop-drop, length-drop}
+use Rattle.std.proofs.{Common.◌∙◌, Common.sym, Common.ap, Common.arith, Common.take, Common.drop, lemmas.List.drop-drop, lemmas.List.length-drop}
 use Rattle.dns_fields.proofs.OctetLaws.{AreOctets-drop}
 use Rattle.dns_rdata_c.proofs.TlvWalks.{slice_octets, few_octets, long_tlv, tlv_stands}
 use Rattle.dns_rdata_c.proofs.tlvs.tlv_length.Goals as goal

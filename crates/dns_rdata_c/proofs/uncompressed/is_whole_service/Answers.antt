@@ -1,5 +1,4 @@
-use Rattle.std.proofs.Common.{◌+◌, arith}
-use Rattle.std.proofs.lemmas.List.{take_rest}
+use Rattle.std.proofs.{Common.◌+◌, Common.arith, lemmas.List.take_rest}
 use Rattle.dns_rdata_c.proofs.FieldRegions.{service_same}
 use Rattle.dns_rdata_c.proofs.uncompressed.is_whole_service.Goals as goal
 

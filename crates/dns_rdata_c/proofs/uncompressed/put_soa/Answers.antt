@@ -1,5 +1,4 @@
-use Rattle.std.proofs.Common.{◌∙◌, ◌++◌, ◌-◌, ℕ, List, length, ap, arith, sym}
-use Rattle.std.proofs.lemmas.List.{take_rest}
+use Rattle.std.proofs.{Common.◌∙◌, Common.◌++◌, Common.◌-◌, Common.ℕ, Common.List, Common.length, Common.ap, Common.arith, Common.sym, lemmas.List.take_rest}
 use Rattle.dns_rdata.specs.WholeOctets.{name_octets}
 use Rattle.dns_rdata_c.proofs.ValueRegions.{soa_behind, puts_same}
 use Rattle.dns_rdata_c.proofs.uncompressed.put_soa.Goals as goal

@@ -1,5 +1,5 @@
 use Rattle.std.proofs.Common.{ap, ◌∙◌, ◌++◌}
-use Rattle.dns_fields.specs.Fields.{Number, field_octets}
+use Rattle.dns_fields.specs.{Fields.field_octets, declared.Kind.TheVariants.Number}
 use Rattle.dns_rdata_service.proofs.ParameterSteps.{target_step, parameter_gives_step}
 use Rattle.dns_rdata_service.proofs.steps.svcb_step.Goals as goal
 

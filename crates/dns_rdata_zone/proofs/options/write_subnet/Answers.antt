@@ -2,7 +2,7 @@ use Rattle.std.proofs.Common.{◌≡◌, ℕ, ◌*◌, List, [], ◌++◌, ◌�
 use Rattle.std.proofs.Output.{has_written_of_eq}
 use Rattle.hex.specs.Hex.{encode_lower}
 use Rattle.dns_rdata_zone.specs.Tokens.{tokens_from}
-use Rattle.dns_fields.specs.Fields.{Number, field_octets}
+use Rattle.dns_fields.specs.{Fields.field_octets, declared.Kind.TheVariants.Number}
 use Rattle.dns_rdata_options.specs.ClientSubnet.{prefix_octets}
 use Rattle.dns_rdata_zone.proofs.OptionDigits.{subnet_head}
 use Rattle.dns_rdata_zone.proofs.options.write_subnet.Goals as goal

@@ -1,6 +1,6 @@
 use Rattle.std.proofs.Common.{◌≡◌, ℕ, ◌+◌, List, ◌++◌, refl, ◌∙◌, ap, drop, length, arith}
 use Rattle.std.proofs.Output.{has_written_append, has_written_of_eq}
-use Rattle.dns_fields.specs.{Labels.lowname, Fields.Number, Fields.field_octets}
+use Rattle.dns_fields.specs.{Labels.lowname, declared.Kind.TheVariants.Number, Fields.field_octets}
 use Rattle.dns_rdata.specs.Data.{data_octets}
 use Rattle.dns_rdata_zone.proofs.ServiceDigits.{service_generic}
 use Rattle.dns_rdata_zone.proofs.services.write_generic.Goals as goal

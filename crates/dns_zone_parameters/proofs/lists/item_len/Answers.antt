@@ -1,5 +1,4 @@
-use Rattle.std.proofs.Common.{arith}
-use Rattle.std.proofs.lemmas.Bool.Decides.{nat_tests}
+use Rattle.std.proofs.{Common.arith, lemmas.Bool.Decides.nat_tests}
 use Rattle.dns_zone_parameters.proofs.Items.{two_more}
 use Rattle.dns_zone_parameters.proofs.lists.item_len.Goals as goal
 

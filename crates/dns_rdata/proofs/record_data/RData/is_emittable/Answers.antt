@@ -1,5 +1,4 @@
-use Rattle.std.proofs.Common.{◌∙◌, sym}
-use Rattle.std.proofs.Math.Bool.{and-true}
+use Rattle.std.proofs.{Common.◌∙◌, Common.sym, Math.Bool.and-true}
 use Rattle.dns_rdata.proofs.CursorSteps.{decides}
 use Rattle.dns_rdata.proofs.record_data.RData.is_emittable.Goals as goal
 

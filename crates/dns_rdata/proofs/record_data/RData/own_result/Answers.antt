@@ -1,17 +1,13 @@
 use Rattle.std.proofs.Common.{◌≡◌, ◌≢◌, ◌+◌, ◌∙◌, ℕ, sym, ap, arith, Result, Ok, Err}
 use Rattle.std.specs.Result.{IfErr, OnOk}
-use Rattle.dns_types.specs.{RecordTypes.number_of, declared.error.DecodeError.DecodeError}
-use Rattle.dns_types.specs.{declared.record_type.RecordType.RecordType}
+use Rattle.dns_types.specs.{RecordTypes.number_of, declared.error.DecodeError.DecodeError, declared.record_type.RecordType.RecordType}
 use Rattle.dns_types.specs.declared.error.DecodeError.TheVariants as decode
 use Rattle.dns_names_wire.specs.{State.Reading, Terms.StaysBehind, Terms.UnlessMemory}
-use Rattle.dns_rdata.specs.{Data.HasValue, Data.IsNeverRead, Data.NoValue, ReadErrors.OwnResult, ReadErrors.without}
-use Rattle.dns_rdata.specs.declared.record_data.RData.{RData}
+use Rattle.dns_rdata.specs.{Data.HasValue, Data.IsNeverRead, Data.NoValue, ReadErrors.OwnResult, ReadErrors.without, declared.record_data.RData.RData}
 use Rattle.dns_rdata.specs.declared.record_data.RData.TheVariants as rdata
-use Rattle.dns_rdata.proofs.DataReads.{IsNone, ReadsOwn, known_types, has_no_format, mapped, own_behind, own_elsewhere}
-use Rattle.dns_rdata.proofs.DataReads.{own_refused, own_result}
+use Rattle.dns_rdata.proofs.DataReads.{IsNone, ReadsOwn, known_types, has_no_format, mapped, own_behind, own_elsewhere, own_refused, own_result}
 use Rattle.dns_rdata.proofs.DataReads.{own_whole, unread_own, without_mapped, zero_own}
-use Rattle.dns_rdata.proofs.OwnReads.{own_a, own_aaaa, own_aname, own_caa, own_cert, own_cname, own_csync, own_hinfo}
-use Rattle.dns_rdata.proofs.OwnReads.{own_https, own_mx, own_naptr, own_null}
+use Rattle.dns_rdata.proofs.OwnReads.{own_a, own_aaaa, own_aname, own_caa, own_cert, own_cname, own_csync, own_hinfo, own_https, own_mx, own_naptr, own_null}
 use Rattle.dns_rdata.proofs.OwnReads.{own_ns, own_openpgpkey, own_opt, own_ptr, own_smimea, own_soa, own_srv, own_sshfp}
 use Rattle.dns_rdata.proofs.OwnReads.{own_svcb, own_tlsa, own_txt, own_unknown}
 use Rattle.dns_rdata.proofs.record_data.RData.own_result.Goals as goal

@@ -1,7 +1,5 @@
-use Rattle.std.proofs.Common.{arith, ℕ}
-use Rattle.std.proofs.lemmas.Result.{err_from_is_err_and}
-use Rattle.std.specs.Prelude.{◌≡◌, ◌+◌, Result, Err, IfOk, IfErr, OnOk}
-use Rattle.std.specs.Result.{IsErrAnd}
+use Rattle.std.proofs.{Common.arith, Common.ℕ, lemmas.Result.err_from_is_err_and}
+use Rattle.std.specs.{Prelude.◌≡◌, Prelude.◌+◌, Prelude.Result, Prelude.Err, Prelude.IfOk, Prelude.IfErr, Prelude.OnOk, Result.IsErrAnd}
 use Rattle.dns_types.specs.{RecordTypes.number_of, declared.error.DecodeError.DecodeError, declared.record_type.RecordType.RecordType}
 use Rattle.dns_types.specs.declared.error.DecodeError.TheVariants as decode
 use Rattle.dns_names_wire.specs.{Terms.StaysBehind, Terms.UnlessMemory, State.Reading}

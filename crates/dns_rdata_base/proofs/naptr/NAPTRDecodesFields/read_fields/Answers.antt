@@ -1,5 +1,5 @@
 use Rattle.std.proofs.Common.{[], ◌∷◌, inl}
-use Rattle.dns_fields.specs.Fields.{CharacterString, Name}
+use Rattle.dns_fields.specs.declared.Kind.{TheVariants.CharacterString, TheVariants.Name}
 use Rattle.dns_rdata_base.proofs.Lacking.{exit_lack, is_lack_far, is_lack_here, is_lack_then, is_lack_name}
 use Rattle.dns_rdata_base.proofs.naptr.NAPTRDecodesFields.read_fields.Goals as goal
 

@@ -1,5 +1,5 @@
 use Rattle.std.proofs.Common.{[], ◌∷◌}
-use Rattle.dns_fields.specs.Fields.{Number}
+use Rattle.dns_fields.specs.declared.Kind.{TheVariants.Number}
 use Rattle.dns_rdata_base.proofs.Lacking.{exit_lack, is_lack_far, is_lack_here, is_lack_then}
 use Rattle.dns_rdata_base.proofs.soa.SOA.read_numbers.Goals as goal
 

@@ -1,5 +1,5 @@
 use Rattle.std.proofs.Common.{[], ◌∷◌}
-use Rattle.dns_fields.specs.Fields.{Name}
+use Rattle.dns_fields.specs.declared.Kind.{TheVariants.Name}
 use Rattle.dns_names_wire.proofs.{FieldWrites.exit_emit, FieldWrites.stopped_first, NamelessWrites.stopped_more}
 use Rattle.dns_rdata_base.specs.NameRecords.{srv_numbers_shape, srv_numbers}
 use Rattle.dns_rdata_base.proofs.srv.SRVEncodesFields.emit_fields.Goals as goal

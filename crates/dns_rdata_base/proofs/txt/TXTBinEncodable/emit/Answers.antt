@@ -1,6 +1,6 @@
 use Rattle.std.proofs.Common.{◌≡◌, ◌+◌, ◌++◌, ◌∷◌, List, ℕ, take, drop, ◌∙◌, subst, arith}
 use Rattle.std.proofs.lemmas.Result.{err_from_is_err_and}
-use Rattle.dns_fields.specs.Fields.{CharacterStrings}
+use Rattle.dns_fields.specs.declared.Kind.{TheVariants.CharacterStrings}
 use Rattle.dns_names_wire.specs.Terms.{StoppedField}
 use Rattle.dns_names_wire.proofs.FieldWrites.{stopped_first}
 use Rattle.dns_rdata_base.proofs.TextLists.{stopped_strings, list_at}

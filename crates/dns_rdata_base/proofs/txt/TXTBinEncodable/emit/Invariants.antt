@@ -1,5 +1,5 @@
 use Rattle.std.proofs.Common.{take}
-use Rattle.dns_fields.specs.Fields.{CharacterStrings}
+use Rattle.dns_fields.specs.declared.Kind.{TheVariants.CharacterStrings}
 use Rattle.dns_names_wire.specs.Terms.{AppendedField}
 use Rattle.dns_rdata_base.proofs.txt.TXTBinEncodable.emit.Given as goal
 

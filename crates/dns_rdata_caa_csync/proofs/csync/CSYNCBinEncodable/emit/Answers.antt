@@ -1,5 +1,5 @@
 use Rattle.std.proofs.Common.{[], ◌∷◌, Ok}
-use Rattle.dns_fields.specs.Fields.{Bitmap}
+use Rattle.dns_fields.specs.declared.Kind.{TheVariants.Bitmap}
 use Rattle.dns_names_wire.proofs.FieldWrites.{emits_extend, emits_one, exit_emit, stopped_first}
 use Rattle.dns_names_wire.proofs.NamelessWrites.{emits_more, stopped_more}
 use Rattle.dns_rdata_caa_csync.specs.CSYNC.{csync_shape, csync_fields, csync_numbers_shape, csync_numbers}

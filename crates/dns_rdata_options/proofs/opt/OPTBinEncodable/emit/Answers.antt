@@ -1,5 +1,5 @@
 use Rattle.std.proofs.{Common.◌≡◌, Common.◌∙◌, Common.List, Common.map, Common.arith, Common.subst, lemmas.Result.err_from_is_err_and}
-use Rattle.dns_fields.specs.Fields.{Options}
+use Rattle.dns_fields.specs.declared.Kind.{TheVariants.Options}
 use Rattle.dns_names_wire.specs.Terms.{StoppedField}
 use Rattle.dns_names_wire.proofs.FieldWrites.{stopped_first}
 use Rattle.dns_rdata_options.specs.OPT.{Pair, pair_value}

@@ -1,5 +1,5 @@
 use Rattle.std.proofs.Common.{take, map}
-use Rattle.dns_fields.specs.Fields.{Options}
+use Rattle.dns_fields.specs.declared.Kind.{TheVariants.Options}
 use Rattle.dns_names_wire.specs.Terms.{AppendedField}
 use Rattle.dns_rdata_options.specs.OPT.{pair_value}
 use Rattle.dns_rdata_options.proofs.opt.OPTBinEncodable.emit.Given as goal

@@ -1,5 +1,4 @@
-use Rattle.std.proofs.Common.{rules, ap, ◌∙◌}
-use Rattle.std.proofs.lemmas.Fn.{filter_same}
+use Rattle.std.proofs.{Common.rules, Common.ap, Common.◌∙◌, lemmas.Fn.filter_same}
 use Rattle.dns_rdata_service.specs.{Changing.removed, SvcParamKey.key_number}
 use Rattle.dns_rdata_service.proofs.svcb.SVCB.remove.Goals as goal
 

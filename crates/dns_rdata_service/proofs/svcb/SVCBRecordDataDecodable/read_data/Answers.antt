@@ -29,7 +29,7 @@ returns-clause-after_read c =
       read = c.in_ok-svc_params.ensures.read;
       took = rw c.unverified-svc_priority.ensures
           (took_then c.in_ok-read_u16.ensures.taken (took_then c.in_ok-target_name.ensures.field (took_then params.took (took_last _))));
-      holds = params.texts;
+      holds = (params.texts, tt);
       within = omega (arith, starts, len, params.within);
       left = omega (arith, starts, len, params.left);
     }

@@ -1,6 +1,5 @@
 use Rattle.std.proofs.Common.{◌≡◌, ◌+◌, ◌<◌, ◌≤◌, ◌++◌, ◌∷◌, List, length, take, drop, arith, rules, ◌∙◌, ap, sym, subst, IsTrue}
-use Rattle.std.proofs.Math.ListN.{set}
-use Rattle.std.proofs.lemmas.List.{take-append-drop, take-set, drop-set}
+use Rattle.std.proofs.{Math.ListN.set, lemmas.List.take-append-drop, lemmas.List.take-set, lemmas.List.drop-set}
 use Rattle.dns_rdata_service.specs.Parameters.{Parameter}
 use Rattle.dns_rdata_service.proofs.svcb.changing.put_at.Goals as goal
 

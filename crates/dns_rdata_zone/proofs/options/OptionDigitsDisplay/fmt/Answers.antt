@@ -1,7 +1,7 @@
 use Rattle.std.proofs.Common.{◌≡◌, ℕ, ◌*◌, List, [], ◌++◌, ◌∙◌, ap, refl}
 use Rattle.std.proofs.Output.{has_written_append, has_written_of_eq}
 use Rattle.hex.specs.Hex.{encode_lower}
-use Rattle.dns_fields.specs.{Fields.Number, Fields.field_octets, Tlvs.option_octets}
+use Rattle.dns_fields.specs.{declared.Kind.TheVariants.Number, Fields.field_octets, Tlvs.option_octets}
 use Rattle.dns_rdata_options.specs.{EdnsCode.edns_code_number, EdnsOption.option_value}
 use Rattle.dns_rdata_zone.specs.Tokens.{tokens_from}
 use Rattle.dns_rdata_zone.proofs.OptionDigits.{pair_digits}

@@ -1,5 +1,4 @@
-use Rattle.std.proofs.Common.{take_all, rules}
-use Rattle.std.proofs.hash.Loops.{byte_more}
+use Rattle.std.proofs.{Common.take_all, Common.rules, hash.Loops.byte_more}
 use Rattle.rdata_replay.proofs.recorder.RecorderHasher.write.Goals as goal
 
 pub loop-octet-preserved : goal.loop-octet-preserved

@@ -1,5 +1,5 @@
 use Rattle.std.proofs.Common.{take, Ok}
-use Rattle.dns_fields.specs.Fields.{CharacterString}
+use Rattle.dns_fields.specs.declared.Kind.{TheVariants.CharacterString}
 use Rattle.dns_names_wire.specs.Terms.{EmitsField}
 use Rattle.dns_rdata_service.specs.Hints.{EmitsEach}
 use Rattle.dns_rdata_service.proofs.svcb.alpn.AlpnBinEncodable.emit.Given as goal
