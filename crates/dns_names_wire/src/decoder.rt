@@ -113,6 +113,14 @@ impl<'a> BinDecoder<'a> {
         self.alloc
     }
 
+    /// The whole message.
+    #[inline]
+    pub fn message(&self) -> &'a [u8]
+        ensures { result.now ≡ self.now.message }
+    {
+        self.message
+    }
+
     /// The offset of the next octet, counted from the first octet of the message.
     #[inline]
     pub fn index(&self) -> usize

@@ -8,3 +8,7 @@ pub mod QuickOrders
 pub mod OrderReads
 pub mod Ranks
 pub mod WholeOctets
+pub mod RowErrors
+pub mod ListErrors
+pub mod OptionErrors
+pub mod Views

@@ -11,6 +11,7 @@ pub mod Ties
 pub mod ReadErrors
 pub mod Texts
 pub mod WholeOctets
+pub mod Views
 pub use Rattle.dns_fields.specs.Octets
 pub use Rattle.dns_fields.specs.Labels
 pub use Rattle.dns_fields.specs.Names

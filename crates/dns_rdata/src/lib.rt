@@ -7,6 +7,7 @@ pub mod order;
 pub mod record_data;
 mod tokens;
 pub mod traits;
+pub mod view;
 
 pub use canonical::CanonicalOctets;
 pub use dns_names_wire::{
@@ -27,6 +28,7 @@ pub use dns_tokens::{FromTokens, TokenList};
 pub use dns_types::Strings;
 pub use record_data::RData;
 pub use traits::RecordData;
+pub use view::RDataRef;
 
 // Modules of records that share their file with functions for this crate alone.
 

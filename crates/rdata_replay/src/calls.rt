@@ -11,7 +11,7 @@ mod made_services;
 mod made_sets;
 mod numbers;
 mod options;
-mod reading;
+pub mod reading;
 mod services;
 pub mod values;
 

@@ -15,8 +15,11 @@ mod shared;
 mod wire_calls;
 
 use anyhow::{Result, bail};
+use calls::reading::view_end;
+use dns_rdata::BinDecoder;
+use held_data::record_type;
 use rdata_command::run;
-use replay::{Interpreter, replay};
+use replay::{Interpreter, octets, replay};
 use std::alloc::Global;
 use std::io;
 
@@ -33,6 +36,9 @@ impl Interpreter for Commands {
         let output = String::from_utf8(out)?;
         if status != wanted_status.as_str().parse::<u8>()? || output.as_str() != wanted.as_str() {
             return Ok(Some(output));
+        }
+        if !is_viewed(alloc, words, status)? {
+            return Ok(Some(String::from_str(alloc, "viewed otherwise")?));
         }
         if !reads_again(alloc, words, output.as_str())? {
             return Ok(Some(String::from_str(alloc, "read again as other octets")?));
@@ -69,6 +75,29 @@ fn canonical_line(output: &str) -> Option<&str> {
     output
         .lines()
         .find_map(|line| line.strip_prefix("canonical "))
+}
+
+// Whether a view of the octets that are read is made exactly if they are read.
+fn is_viewed(alloc: Global, words: &[String], status: u8) -> Result<bool> {
+    let [command, kind, offset, length, digits] = words else {
+        return Ok(true);
+    };
+    if command.as_str() != "read" {
+        return Ok(true);
+    }
+    let (Ok(kind), Ok(offset), Ok(length), Ok(message)) = (
+        record_type(kind.as_str()),
+        offset.as_str().parse::<usize>(),
+        length.as_str().parse::<u16>(),
+        octets(alloc, digits.as_str().trim_matches('-')),
+    ) else {
+        return Ok(status > 1);
+    };
+    let Ok(decoder) = BinDecoder::at(alloc, message.as_slice(), offset) else {
+        return Ok(status != 0);
+    };
+    let view = view_end(&decoder, kind, length);
+    Ok(status > 1 || matches!(view, Some((None, _))) == (status == 0))
 }
 
 // Whether the canonical octets of what was read, read again, are told as the same.

@@ -72,6 +72,7 @@ fn answer(marks: &Marks<'_>, call: &str, words: &[String]) -> Result<String> {
 fn answer_to_one(marks: &Marks<'_>, call: &str, text: &str) -> Result<String> {
     match call {
         "read" => making::read(marks, text),
+        "view" => making::view(marks, text),
         "clone" => making::copy(marks, text),
         "to_string" | "cert_base64" => making::text(marks, call, text),
         "canonical_octets" | "octet_at" => asking::octets(marks, call, text),

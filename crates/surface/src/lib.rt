@@ -9,7 +9,10 @@ use dns_rdata::opt::EdnsCode;
 use dns_rdata::sshfp::{Algorithm as SshAlgorithm, FingerprintType};
 use dns_rdata::svcb::{Alpn, SvcParamKey};
 use dns_rdata::tlsa::{CertUsage, Matching, Selector};
-use dns_rdata::{A, AAAA, MX, Name, RecordType, RecordTypeSet, SVCB, TXT};
+use dns_rdata::{
+    A, AAAA, BinDecoder, DecodeError, MX, Name, RDataRef, RecordType, RecordTypeSet, Restrict,
+    SVCB, TXT,
+};
 use std::net::{Ipv4Addr, Ipv6Addr};
 
 /// The numbers of the enums of 16 bits.
@@ -44,6 +47,16 @@ pub fn small_numbers(
         selector.number(),
         matching.number(),
     ]
+}
+
+/// The octets of RDATA in a message, which is not built.
+pub fn looked_at<'a>(
+    decoder: &mut BinDecoder<'a>,
+    record_type: RecordType,
+    length: u16,
+) -> Result<&'a [u8], DecodeError> {
+    let data = RDataRef::read(decoder, record_type, Restrict::new(length))?;
+    Ok(data.octets())
 }
 
 /// An IPv4 address.

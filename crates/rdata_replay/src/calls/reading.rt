@@ -4,7 +4,8 @@ use crate::shared::{record, shown};
 use anyhow::{Context, Result, bail};
 use dns_rdata::opt::{ClientSubnet, NSIDPayload};
 use dns_rdata::{
-    BinDecodable, BinDecoder, CERT, CSYNC, DecodeError, NAPTR, OPT, RecordType, SVCB, verify_flags,
+    BinDecodable, BinDecoder, CERT, CSYNC, DecodeError, NAPTR, OPT, RDataRef, RecordType, Restrict,
+    SVCB, verify_flags,
 };
 use held_data::{Held, record_type};
 use rdata_command::run;
@@ -12,16 +13,30 @@ use replay::octets;
 use std::alloc::Global;
 use std::io;
 
-// Why the data of so many octets is rejected, and the offset where reading ends.
+// Why a view of the data of so many octets is not made, and the offset where its check ends. The decoder stays where it is.
+pub fn view_end(
+    decoder: &BinDecoder<'_>,
+    record_type: RecordType,
+    length: u16,
+) -> Option<(Option<DecodeError>, usize)> {
+    let mut other = decoder.clone(decoder.index()).ok()?;
+    let error = RDataRef::read(&mut other, record_type, Restrict::new(length)).err();
+    Some((error, other.index()))
+}
+
+// Why the data of so many octets is rejected, and the offset where reading ends; no offset of a message where a view of the
+// same octets tells otherwise.
 fn end(
     decoder: &mut BinDecoder<'_>,
     record_type: RecordType,
     length: u16,
 ) -> (Option<DecodeError>, usize) {
-    match Held::read(decoder, record_type, length) {
-        Ok(_) => (None, decoder.index()),
-        Err(error) => (Some(error), decoder.index()),
+    let view = view_end(decoder, record_type, length);
+    let error = Held::read(decoder, record_type, length).err();
+    if view != Some((error, decoder.index())) {
+        return (error, usize::MAX);
     }
+    (error, decoder.index())
 }
 
 /// Why the data at an offset, `PLACE LENGTH OCTETS`, is rejected, or that it is not, and the offset where reading ends.

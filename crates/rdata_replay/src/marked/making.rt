@@ -6,7 +6,9 @@ use crate::shared;
 use anyhow::Result;
 use dns_rdata::caa::CAA;
 use dns_rdata::opt::{ClientSubnet, EdnsCode, EdnsOption, NSIDPayload};
-use dns_rdata::{BinDecoder, CERT, CSYNC, HEX, ParseError, RData, RecordType};
+use dns_rdata::{
+    BinDecoder, CERT, CSYNC, DecodeError, HEX, ParseError, RData, RDataRef, RecordType, Restrict,
+};
 use held_data::{Held, record_type};
 use std::alloc::Global;
 use std::fmt::Debug;
@@ -32,6 +34,33 @@ pub fn read(marks: &Marks<'_>, text: &str) -> Result<String> {
     let shown = show(alloc, &made)?;
     let rest = hex::encode(alloc, decoder.unread().unverified())?;
     Ok(format!(in alloc; "{} {rest} {shown}", decoder.index())?)
+}
+
+// Why a view is not made; or that it is, and how many uncompressed octets it has, which are written.
+fn look(
+    decoder: &mut BinDecoder<'_>,
+    record_type: RecordType,
+    length: u16,
+    out: &mut [u8],
+) -> (Option<DecodeError>, usize) {
+    match RDataRef::read(decoder, record_type, Restrict::new(length)) {
+        Ok(data) => (None, data.put_whole(out)),
+        Err(error) => (Some(error), 0),
+    }
+}
+
+/// Why a view is not made, or that it is; the offset where its check ends; and how many uncompressed octets it has.
+pub fn view(marks: &Marks<'_>, text: &str) -> Result<String> {
+    let alloc = marks.alloc();
+    let given = read_given(alloc, text)?;
+    let mut decoder = BinDecoder::new(alloc, given.message.as_slice());
+    let _before = decoder.read_slice(given.offset)?;
+    let mut out = [0u8; 512];
+    let (error, count) = marked!(
+        marks,
+        look(&mut decoder, given.record_type, given.length, &mut out)
+    );
+    Ok(format!(in alloc; "{error:?} {} {count}", decoder.index())?)
 }
 
 /// A copy, and the value that it is of.

@@ -1,0 +1,365 @@
+-- RDATA that is looked at is the RDATA of a value.
+use Rattle.std.proofs.Common.{◌≡◌, ◌≢◌, ℕ, ◌+◌, ◌-◌, ◌<◌, ◌≤◌, ◌⊎◌, inl, inr, true, false, List, [], ◌∷◌, ◌++◌, length, Option, Some, None, Result, Ok, Err, refl, sym, ap, ◌∙◌, arith, subst}
+use Rattle.std.specs.Result.{IfOk, IfErr}
+use Rattle.std.specs.Prelude.{IfSome, IfNone}
+use Rattle.dns_types.specs.{declared.error.DecodeError.DecodeError, declared.record_type.RecordType.RecordType}
+use Rattle.dns_types.specs.declared.error.DecodeError.TheVariants as decode
+use Rattle.dns_types.specs.declared.record_type.RecordType.TheVariants as types
+use Rattle.dns_fields.specs.Fields.{Value, Values}
+use Rattle.dns_fields.specs.declared.Kind.{Kind}
+use Rattle.dns_fields.specs.declared.Kind.TheVariants.{Number, Octets, Name, CharacterString, CharacterStrings, Rest, Options, Parameters, Bitmap}
+use Rattle.dns_fields.specs.Tlvs.{form_for, ParameterForm, Keys, Names, Nothing, PortNumber, Addresses4, Addresses16, AnyOctets}
+use Rattle.dns_names_wire.specs.{State.Reading, Terms.TookField, Terms.LacksOctets, Terms.StaysBehind}
+use Rattle.dns_names_wire.proofs.FieldReads.{unless_all}
+use Rattle.dns_rows.specs.{declared.row.Part.Part, declared.row.Rule.Rule, declared.row.Row.Row, Rules.MeetsRow}
+use Rattle.dns_rows.specs.declared.row.Rule.TheVariants as rules
+use Rattle.dns_rows.specs.declared.row.Row.TheVariants as code
+use Rattle.dns_rows.specs.Table.{TypeRow, fields as row, unread, formatless, table, kinds_of, row_value}
+use Rattle.dns_rows.specs.declared.row.TheConstants as rows
+use Rattle.dns_view.specs.{Checks.FillsRow, Checks.NoFill, Checks.IsRowError, Rows.RowFault, Rows.RowError, Rows.RowReached, Rows.SkipsRow, Rows.is_row}
+use Rattle.dns_view.specs.Parts.{Ends, KindFault, NumberFault, StringFault, EndFault, RestFault}
+use Rattle.dns_view.specs.{Tags.IsTagError, Values.IsFormError, Values.IsKeyError, Parameters.IsParametersError}
+use Rattle.dns_view.specs.{Options.IsSubnetError, Options.IsTlvError, Options.IsNextError, Parameters.IsParameterError}
+use Rattle.dns_view.specs.ViewOf as row_view
+use Rattle.dns_view.specs.declared.view.RowView.{RowView}
+use Rattle.dns_rdata.specs.Views.{IsViewOf}
+use Rattle.dns_view.specs.{Putting.form_octets, Putting.all_form, Rows.HasRow}
+use Rattle.dns_rdata.specs.WholeOctets.{whole_octets, all_whole, whole_data}
+use Rattle.dns_rdata.specs.{declared.record_data.RData.RData, declared.view.RDataRef.RDataRef}
+use Rattle.dns_rdata.specs.Data.{parts_of, MeetsRule, IsNever, IsNeverRead, HasValue, NoValue, FieldsOf, Fills, shape}
+use Rattle.dns_rdata.specs.ReadErrors.{OwnError, IsReadError, Stopped, Reached, rejects_of}
+use Rattle.dns_rdata.proofs.DataLaws.{each_region}
+use Rattle.dns_rdata.proofs.RowErrors.{Rejects, straight_rejects, rest_rejects, a_rejects, aaaa_rejects, cert_rejects, hinfo_rejects, null_rejects}
+use Rattle.dns_rdata.proofs.{RowErrors.txt_rejects, RowErrors.naptr_rejects, ListErrors.caa_rejects, ListErrors.csync_rejects, ListErrors.svcb_rejects}
+use Rattle.dns_rdata.proofs.OptionErrors.{opt_rejects}
+
+-- ---- the row of a type
+
+pub rows_checked : (t : RecordType) → is_row (parts_of (table t)) ≡ true
+rows_checked types.A = refl
+rows_checked t = refl
+
+meets_rule : (r : TypeRow) (vs : Values (kinds_of (parts_of r))) → (IsNever r → ⊥) → MeetsRow (parts_of r) vs → MeetsRule r vs
+meets_rule (row parts) vs read h = h
+meets_rule unread vs read h = absurd (read tt)
+meets_rule formatless vs read h = tt
+
+meets_row : (r : TypeRow) (vs : Values (kinds_of (parts_of r))) → MeetsRule r vs → MeetsRow (parts_of r) vs
+meets_row (row parts) vs h = h
+meets_row unread vs h = absurd h
+meets_row formatless vs h = tt
+
+-- ---- where a row ends
+
+last_reached : (k : Kind) (r : Rule) (n : ℕ) (old new : Reading) → Ends k r (old.index + n) new.index → Reached (k ∷ []) n old new
+last_reached (Number w) r n old new h = tt
+last_reached (Octets w) r n old new h = tt
+last_reached Name r n old new h = tt
+last_reached CharacterString r n old new h = tt
+last_reached CharacterStrings r n old new h = h
+last_reached Rest r n old new h = h
+last_reached Options r n old new h = h
+last_reached Parameters r n old new h = h
+last_reached Bitmap r n old new h = h
+
+then_reached : (k l : Kind) (kinds : List Kind) (n : ℕ) (old new : Reading) → Reached (l ∷ kinds) n old new → Reached (k ∷ (l ∷ kinds)) n old new
+then_reached (Number w) l kinds n old new h = h
+then_reached (Octets w) l kinds n old new h = h
+then_reached Name l kinds n old new h = h
+then_reached CharacterString l kinds n old new h = h
+then_reached CharacterStrings l kinds n old new h = h
+then_reached Rest l kinds n old new h = h
+then_reached Options l kinds n old new h = h
+then_reached Parameters l kinds n old new h = h
+then_reached Bitmap l kinds n old new h = h
+
+row_reached : (parts : List Part) (n : ℕ) (old new : Reading) → RowReached parts (old.index + n) new.index → Reached (kinds_of parts) n old new
+row_reached [] n old new h = tt
+row_reached (p ∷ []) n old new h = last_reached p.kind p.rule n old new h
+row_reached (p ∷ (l ∷ parts)) n old new h = then_reached p.kind l.kind (kinds_of parts) n old new (row_reached (l ∷ parts) n old new h)
+
+-- ---- no error of a row is out of memory, or that of a type that is never read
+
+abbrev Known : DecodeError → Type 0
+Known e = (e ≢ decode.Memory) × ((k : ℕ) → e ≢ decode.UnknownRecordTypeValue k)
+
+known : {e x : DecodeError} → e ≡ x → Known x → Known e
+known is k = ((λ m. k.0 (sym is ∙ m)), (λ n m. k.1 n (sym is ∙ m)))
+
+short : {e : DecodeError} → e ≡ decode.InsufficientBytes → Known e
+short is = known is ((λ m. cc m), (λ n m. cc m))
+
+length_read : {e : DecodeError} {a b : ℕ} → e ≡ decode.IncorrectRDataLengthRead a b → Known e
+length_read is = known is ((λ m. cc m), (λ n m. cc m))
+
+not_utf8 : {e : DecodeError} → e ≡ decode.Utf8 → Known e
+not_utf8 is = known is ((λ m. cc m), (λ n m. cc m))
+
+no_value_there : {e : DecodeError} → e ≡ decode.SvcParamMissingValue → Known e
+no_value_there is = known is ((λ m. cc m), (λ n m. cc m))
+
+bad_tag : {e : DecodeError} → e ≡ decode.CaaTagInvalid → Known e
+bad_tag is = known is ((λ m. cc m), (λ n m. cc m))
+
+tag_known : (used n t : ℕ) (d : Reading) (e : DecodeError) (new : Reading) → IsTagError used n t d e new → Known e
+tag_known used n t d e new (inl h) = length_read h.error
+tag_known used n t d e new (inr (inl h)) = bad_tag h.error
+tag_known used n t d e new (inr (inr (inl h))) = bad_tag h.error
+tag_known used n t d e new (inr (inr (inr h))) = short h.error
+
+form_known : (form : ParameterForm) (body : List ℕ) (e : DecodeError) → IsFormError form body e → Known e
+form_known Keys body e (inl h) = no_value_there h.0
+form_known Keys body e (inr h) = short h.0
+form_known Names body e (inl h) = no_value_there h.0
+form_known Names body e (inr (inl h)) = short h.0
+form_known Names body e (inr (inr h)) = not_utf8 h.0
+form_known Nothing body e h = length_read h.0
+form_known PortNumber body e h = short h.0
+form_known Addresses4 body e h = short h.0
+form_known Addresses16 body e h = short h.0
+form_known AnyOctets body e h = absurd h
+
+key_known : (key : ℕ) (body : List ℕ) (e : DecodeError) → IsKeyError key body e → Known e
+key_known key body e (inl h) = form_known (form_for key) body e h
+key_known key body e (inr h) = not_utf8 h.1
+
+parameter_known : (d : Reading) (e : DecodeError) (new : Reading) → IsParameterError d e new → Known e
+parameter_known d e new (inl (inl h)) = short h.0
+parameter_known d e new (inl (inr (key, between, took, h))) = short h.0
+parameter_known d e new (inr (inl h)) = length_read h.error
+parameter_known d e new (inr (inr h)) = key_known h.key h.octets e h.refused
+
+parameters_known : (p n : ℕ) (d : Reading) (e : DecodeError) (new : Reading) → IsParametersError p n d e new → Known e
+parameters_known p n d e new (inl h) = parameter_known h.between e new h.refused
+parameters_known p n d e new (inr (inl h)) = known h.error ((λ m. cc m), (λ n m. cc m))
+parameters_known p n d e new (inr (inr h)) = length_read h.error
+
+subnet_known : (s : List ℕ) (e : DecodeError) → IsSubnetError s e → Known e
+subnet_known s e (inl h) = short h.error
+subnet_known s e (inr (inl h)) = known h.error ((λ m. cc m), (λ n m. cc m))
+subnet_known s e (inr (inr (inl h))) = short h.error
+subnet_known s e (inr (inr (inr (inl h)))) = length_read h.error
+subnet_known s e (inr (inr (inr (inr h)))) = short h.error
+
+tlv_known : (start n : ℕ) (d : Reading) (e : DecodeError) (new : Reading) → IsTlvError start n d e new → Known e
+tlv_known start n d e new (inl h) = short h.error
+tlv_known start n d e new (inr (inl h)) = short h.error
+tlv_known start n d e new (inr (inr (inl h))) = length_read h.error
+tlv_known start n d e new (inr (inr (inr (inl h)))) = length_read h.error
+tlv_known start n d e new (inr (inr (inr (inr h)))) = short h.error
+
+next_known : (start n : ℕ) (d : Reading) (e : DecodeError) (new : Reading) → IsNextError start n d e new → Known e
+next_known start n d e new (inl h) = tlv_known start n d e new h
+next_known start n d e new (inr h) = subnet_known h.body e h.refused
+
+number_known : (r : Rule) (w : ℕ) (old : Reading) (e : DecodeError) (new : Reading) → NumberFault r w old e new → Known e
+number_known rules.KnownFlags w old e new (inl h) = short h.0
+number_known rules.KnownFlags w old e new (inr h) = known h.error ((λ m. cc m), (λ n m. cc m))
+number_known r w old e new h = short h.0
+
+string_known : (r : Rule) (start n : ℕ) (old : Reading) (e : DecodeError) (new : Reading) → StringFault r start n old e new → Known e
+string_known rules.Tag start n old e new (inl h) = short h.0
+string_known rules.Tag start n old e new (inr h) = tag_known (h.between.index - start) n h.size h.between e new h.refused
+string_known rules.Letters start n old e new (inl h) = short h.0
+string_known rules.Letters start n old e new (inr h) = known h.0 ((λ m. cc m), (λ n m. cc m))
+string_known r start n old e new h = short h.0
+
+end_known : (start n : ℕ) (old : Reading) (e : DecodeError) → EndFault start n old e → Known e
+end_known start n old e (inl h) = length_read h.0
+end_known start n old e (inr h) = short h.0
+
+rest_known : (r : Rule) (start n : ℕ) (old : Reading) (e : DecodeError) → RestFault r start n old e → Known e
+rest_known rules.Some start n old e (inl h) = end_known start n old e h
+rest_known rules.Some start n old e (inr h) = length_read h.0
+rest_known r start n old e h = end_known start n old e h
+
+kind_known : (k : Kind) (r : Rule) (start n : ℕ) (old : Reading) (e : DecodeError) (new : Reading) → KindFault r k start n old e new → Known e
+kind_known (Number w) r start n old e new h = number_known r w old e new h
+kind_known (Octets w) r start n old e new h = short h.0
+kind_known Name r start n old e new h = known h.0 ((λ m. cc m), (λ n m. cc m))
+kind_known CharacterString r start n old e new h = string_known r start n old e new h
+kind_known CharacterStrings r start n old e new h = short h.0
+kind_known Rest r start n old e new h = rest_known r start n old e h.1
+kind_known Bitmap r start n old e new (inl h) = end_known start n old e h.1
+kind_known Bitmap r start n old e new (inr h) = known h.error ((λ m. cc m), (λ n m. cc m))
+kind_known Parameters r start n old e new (inl h) = length_read h.0
+kind_known Parameters r start n old e new (inr h) = parameters_known start n old e new h.1
+kind_known Options r start n old e new (inl h) = length_read h.0
+kind_known Options r start n old e new (inr h) = next_known old.index (n - (old.index - start)) h.1.between e new h.1.next
+
+fault_known : (parts : List Part) (start n : ℕ) (old : Reading) (e : DecodeError) (new : Reading) → RowFault parts start n old e new → Known e
+fault_known [] start n old e new h = absurd h
+fault_known (p ∷ parts) start n old e new (inl h) = kind_known p.kind p.rule start n old e new h
+fault_known (p ∷ parts) start n old e new (inr h) = fault_known parts start n h.1 e new h.5
+
+row_known : (parts : List Part) (n : ℕ) (old : Reading) (e : DecodeError) (new : Reading) → RowError parts n old e new → Known e
+row_known parts n old e new (inl h) = length_read h.error
+row_known parts n old e new (inr h) = fault_known parts old.index n old e new h.1
+
+-- ---- each error of a row is one of the record
+
+zero_rejects : Rejects [] (λ n old e new. ⊥)
+zero_rejects n old e new inside (inl h) = omega (arith, h.short)
+zero_rejects n old e new inside (inr h) = h.1
+
+rejected : (t : RecordType) → (IsNeverRead t → ⊥) → Rejects (parts_of (table t)) (rejects_of t)
+rejected types.A read = a_rejects
+rejected types.AAAA read = aaaa_rejects
+rejected types.ANAME read = straight_rejects (Name ∷ []) tt refl
+rejected types.CAA read = caa_rejects
+rejected types.CERT read = cert_rejects
+rejected types.CNAME read = straight_rejects (Name ∷ []) tt refl
+rejected types.CSYNC read = csync_rejects
+rejected types.HINFO read = hinfo_rejects
+rejected types.HTTPS read = svcb_rejects
+rejected types.MX read = straight_rejects (Number 2 ∷ Name ∷ []) tt refl
+rejected types.NAPTR read = naptr_rejects
+rejected types.NS read = straight_rejects (Name ∷ []) tt refl
+rejected types.OPT read = opt_rejects
+rejected types.PTR read = straight_rejects (Name ∷ []) tt refl
+rejected types.SMIMEA read = rest_rejects 3 refl
+rejected types.SOA read = straight_rejects (Name ∷ Name ∷ Number 4 ∷ Number 4 ∷ Number 4 ∷ Number 4 ∷ Number 4 ∷ []) tt refl
+rejected types.SRV read = straight_rejects (Number 2 ∷ Number 2 ∷ Number 2 ∷ Name ∷ []) tt refl
+rejected types.SSHFP read = rest_rejects 2 refl
+rejected types.SVCB read = svcb_rejects
+rejected types.TLSA read = rest_rejects 3 refl
+rejected types.TXT read = txt_rejects
+rejected types.ZERO read = zero_rejects
+rejected types.ANY read = absurd (read tt)
+rejected types.AXFR read = absurd (read tt)
+rejected types.IXFR read = absurd (read tt)
+rejected t read = null_rejects
+
+-- ---- what reading returns
+
+abbrev error_of : Result (Unit {0}) DecodeError → DecodeError
+error_of (Ok x) = decode.InsufficientBytes
+error_of (Err e) = e
+
+stopped : (t : RecordType) (n : ℕ) (old new : Reading) (own : Result (Unit {0}) DecodeError) → (IsNeverRead t → ⊥) → old.index ≤ length old.message
+    → SkipsRow (parts_of (table t)) n own old new → Stopped t n old new
+stopped t n old new (Ok x) read inside s = record {
+  own = Ok x;
+  is_own = record {
+    values = s.fields.values;
+    took = record { message = s.behind.message; stands = s.fields.stands };
+    holds = meets_rule (table t) s.fields.values read s.fields.meets;
+    reached = row_reached (parts_of (table t)) n old new s.reached;
+  };
+  some = λ q. cc q;
+  read = read;
+}
+stopped t n old new (Err e) read inside s = record {
+  own = Err e;
+  is_own = unless_all e (rejected t read n old e new inside s.error);
+  some = λ q. (row_known (parts_of (table t)) n old e new s.error).0 (ap error_of q);
+  read = read;
+}
+
+error_read : (t : RecordType) (n : ℕ) (old new : Reading) (e : DecodeError) → new.index ≡ old.index + n → OwnError t n old new e → Known e → IsReadError t n old new e
+error_read t n old new decode.Memory i own k = absurd (k.0 refl)
+error_read t n old new (decode.UnknownRecordTypeValue j) i own k = absurd (k.1 j refl)
+error_read t n old new (decode.IncorrectRDataLengthRead a b) i own k = inr (i, own)
+error_read t n old new e i own k = (i, own)
+
+pub row_why : (t : RecordType) (n : ℕ) (old new : Reading) (e : DecodeError) → (IsNeverRead t → ⊥) → old.index ≤ length old.message
+    → IsRowError (parts_of (table t)) n old e new → IsReadError t n old new e × (e ≢ decode.Memory)
+row_why t n old new e read inside (inl (ne, is, s)) =
+    subst (λ (x : DecodeError). IsReadError t n old new x × (x ≢ decode.Memory)) (sym is)
+    (inl (ne, refl, refl, stopped t n old new s.own read inside s.is_own), (λ m. cc m))
+row_why t n old new e read inside (inr (i, h)) =
+    let k = row_known (parts_of (table t)) n old e new h in
+    (error_read t n old new e i (rejected t read n old e new inside h) k, k.0)
+
+pub row_none : (m : List ℕ) (p n : ℕ) (t : RecordType) → NoFill m p n (parts_of (table t)) → NoValue m p n t
+row_none m p n t w = record {
+  none = λ v f. w.none (record {
+    octets = f.region.octets;
+    short = f.region.short;
+    within = f.region.within;
+    has = record { values = f.values; stands = f.region.stands; meets = meets_row (table t) f.values f.region.holds };
+  });
+}
+
+pub row_value_is : (m : List ℕ) (p n : ℕ) (t : RecordType) → (IsNeverRead t → ⊥) → FillsRow m p n (parts_of (table t)) → HasValue m p n t
+row_value_is m p n t read f =
+    let v = each_region m p n t f.has.values (record {
+      octets = f.octets;
+      short = f.short;
+      within = f.within;
+      stands = f.has.stands;
+      holds = meets_rule (table t) f.has.values read f.has.meets;
+    }) in
+    record { value = v.0; fills = v.1 }
+
+-- ---- the same for a walk that begins where the decoder is
+
+reading_is : {a b : Reading} → a.message ≡ b.message → a.index ≡ b.index → a ≡ b
+reading_is {a} {b} m i = ap (λ (x : List ℕ). record { message = x; index = a.index }) m ∙ ap (λ (y : ℕ). record { message = b.message; index = y }) i
+
+pub starts_at : {d old : Reading} {m : List ℕ} {i : ℕ} → d ≡ record { message = m; index = i } → m ≡ old.message → i ≡ old.index → d ≡ old
+starts_at {d} {old} {m} {i} is same at = is ∙ reading_is {a = record { message = m; index = i }} {b = old} same at
+
+-- the decoder is moved to where the walk is
+pub moved : {X : Type 0} (r : Result X DecodeError) (octets : X → List ℕ) (k : ℕ) (d walk new : Reading) → walk.message ≡ d.message → walk.index ≡ d.index + k
+    → walk.index ≤ length walk.message → IfOk r (λ x. TookField d (Octets k) (octets x) new)
+    → IfErr r (λ e. (e ≡ decode.InsufficientBytes) × LacksOctets d k) → new ≡ walk
+moved (Ok x) octets k d walk new same at inside took lacks =
+    reading_is (took.message ∙ sym same) (omega (arith, took.field.is.0, took.field.is.1.ends, at))
+moved (Err e) octets k d walk new same at inside took lacks = absurd (omega (arith, lacks.1, at, inside, ap length same))
+
+filled_as : {m l : List ℕ} {p q n k : ℕ} {parts others : List Part} → m ≡ l → p ≡ q → n ≡ k → parts ≡ others → FillsRow m p n parts → FillsRow l q k others
+filled_as {m} {l} {p} {q} {n} {k} {parts} {others} a b c d f =
+    subst (λ (x : List ℕ). FillsRow x q k others) a
+    (subst (λ (x : ℕ). FillsRow m x k others) b (subst (λ (x : ℕ). FillsRow m p x others) c (subst (λ (x : List Part). FillsRow m p n x) d f)))
+
+pub view_found : (t : RecordType) (n : ℕ) (old d : Reading) (parts : List Part) (r : RowView) → d ≡ old → parts ≡ parts_of (table t) → (IsNeverRead t → ⊥)
+    → row_view.IsViewOf d n parts r → IsViewOf old.message old.index n t (record { view = r; record_type = t })
+view_found t n old d parts r same is read v =
+    let w : row_view.IsViewOf old n (parts_of (table t)) r =
+    subst (λ (x : List Part). row_view.IsViewOf old n x r) is (subst (λ (x : Reading). row_view.IsViewOf x n parts r) same v) in
+    record {
+      type = refl;
+      view = record { message = w.message; offset = w.offset; len = w.len; row = w.row; fills = w.fills };
+      filled = row_value_is old.message old.index n t read (filled_as w.message w.offset w.len w.row w.fills);
+    }
+
+pub view_none : (t : RecordType) (n : ℕ) (old d : Reading) (parts : List Part) → d ≡ old → parts ≡ parts_of (table t) → NoFill d.message d.index n parts
+    → NoValue old.message old.index n t
+view_none t n old d parts same is w = row_none old.message old.index n t
+    (subst (λ (x : List Part). NoFill old.message old.index n x) is (subst (λ (x : Reading). NoFill x.message x.index n parts) same w))
+
+pub view_why : (t : RecordType) (n : ℕ) (old d walk new : Reading) (e : DecodeError) (parts : List Part) → d ≡ old → parts ≡ parts_of (table t)
+    → (IsNeverRead t → ⊥) → old.index ≤ length old.message → new ≡ walk → IsRowError parts n d e walk → IsReadError t n old new e × (e ≢ decode.Memory)
+view_why t n old d walk new e parts same is read inside at w = row_why t n old new e read inside
+    (subst (λ (x : Reading). IsRowError (parts_of (table t)) n old e x) (sym at)
+    (subst (λ (x : List Part). IsRowError x n old e walk) is (subst (λ (x : Reading). IsRowError parts n x e walk) same w)))
+
+-- ---- octets that are written
+
+form_whole : (k : Kind) (v : Value k) → form_octets false k v ≡ whole_octets k v
+form_whole Name v = refl
+form_whole k v = refl
+
+forms_whole : (kinds : List Kind) (vs : Values kinds) → all_form false kinds vs ≡ all_whole kinds vs
+forms_whole [] vs = refl
+forms_whole (k ∷ kinds) vs =
+    ap (λ (o : List ℕ). o ++ all_form false kinds vs.1) (form_whole k vs.0) ∙ ap (λ (o : List ℕ). whole_octets k vs.0 ++ o) (forms_whole kinds vs.1)
+
+-- whatever fields fill the row, these are their octets
+abbrev pub Writes : (List ℕ → Type 0) → List ℕ → ℕ → ℕ → List Part → Type 0
+Writes P m p n parts = (h : HasRow m p parts (p + n)) → P (all_form false (kinds_of parts) h.values)
+
+writes_as : (P : List ℕ → Type 0) {m l : List ℕ} {p q n k : ℕ} {parts others : List Part} → m ≡ l → p ≡ q → n ≡ k → parts ≡ others → Writes P m p n parts
+    → Writes P l q k others
+writes_as P {m} {l} {p} {q} {n} {k} {parts} {others} a b c d f =
+    subst (λ (x : List ℕ). Writes P x q k others) a
+    (subst (λ (x : ℕ). Writes P m x k others) b (subst (λ (x : ℕ). Writes P m p x others) c (subst (λ (x : List Part). Writes P m p n x) d f)))
+
+pub view_writes : (P : List ℕ → Type 0) (m : List ℕ) (p n : ℕ) (t : RecordType) (v : RData) (r : RDataRef) → IsViewOf m p n t r → Fills m p n t v
+    → Writes P r.view.message.now r.view.offset r.view.len r.view.row.now → P (whole_data v)
+view_writes P m p n t v r is f w =
+    let whole : all_form false (shape t) f.values ≡ whole_data v =
+    forms_whole (shape t) f.values ∙ sym (ap (λ (x : FieldsOf). all_whole x.kinds x.values) f.value.fields) in
+    subst P whole (writes_as P is.view.message is.view.offset is.view.len is.view.row w
+    (record { values = f.values; stands = f.region.stands; meets = meets_row (table t) f.values f.region.holds }))

@@ -1,0 +1,45 @@
+-- What was put of a name is of that name.
+use Rattle.std.proofs.Common.{◌≡◌, ℕ, ◌-◌, ◌≤◌, Bool, true, List, [], length, take, drop, map, Option, None, refl, sym, ap, ◌∙◌, arith, subst}
+use Rattle.std.proofs.lemmas.List.{take_at}
+use Rattle.std.specs.{Char.to_ascii_lowercase, Cmp.Lexicographic.slice_cmp, Ordering.nat_cmp, declared.cmp.Ordering.Ordering}
+use Rattle.dns_fields.specs.{Labels.DomainName, Labels.wire, Labels.lowname, Names.IsNameIn}
+use Rattle.dns_labels.specs.{Labels.name_of, Reading.IsNameAt}
+use Rattle.dns_labels.proofs.{ReadingRuns.first_run, ReadingRuns.no_more, Found.name_found, Found.octets_found, Lowered.compared}
+use Rattle.dns_view.specs.NameEnds.{SkipsRun, IsPlainName}
+use Rattle.dns_view.proofs.{NameSteps.adds_run, Puts.run_octets}
+use Rattle.dns_fields.proofs.NameLaws.{name_same}
+use Rattle.dns_view.specs.Putting.{Put, PutName, name_form}
+
+-- the name that stands there is the one that was put
+pub put_same : {m : List ℕ} {p end q : ℕ} {low : Bool} {old new : List ℕ} {start behind : ℕ} (x : DomainName) → PutName m p end low old new start behind
+    → IsNameIn m p x q
+    → Put old new start behind (name_form low x)
+put_same {low = low} {old} {new} {start} {behind} x n is = subst (λ (y : DomainName). Put old new start behind (name_form low y)) (name_same n.is is).0 n.put
+
+pub put_front : {m : List ℕ} {p end q : ℕ} {old new : List ℕ} {behind : ℕ} (x : DomainName) → PutName m p end true old new 0 behind → behind ≤ length old
+    → IsNameIn m p x q
+    → take behind new ≡ lowname x
+put_front {old = old} {new} {behind} x n room is =
+    let w = put_same x n is in
+    ap (take behind) (w.written room) ∙ take_at (lowname x) (drop behind old) behind (omega (arith, w.ends))
+
+-- ---- names that stand whole
+
+pub plain_is : {m octets : List ℕ} {p end n len : ℕ} {stop : Option ℕ} → SkipsRun m p stop end 0 len → stop ≡ None → p ≤ length m → n ≡ len
+    → octets ≡ take n (drop p m) → IsPlainName m p octets
+plain_is {m} {octets} {p} {end} {n} {len} {stop} r none inside is same =
+    let s : SkipsRun m p None end 0 len = subst (λ (t : Option ℕ). SkipsRun m p t end 0 len) none r in
+    let k = run_octets s inside in
+    let long : n ≡ len - 0 = omega arith in
+    let front : octets ≡ wire s.front = same ∙ ap (λ (i : ℕ). take i (drop p m)) long ∙ k.2 in
+    let found : IsNameAt m p (wire s.front) end = no_more (first_run {old = []} refl inside (omega (arith, s.counted, s.room)) (adds_run [] s)) in
+    record { end = end; is = subst (λ (o : List ℕ). IsNameAt m p o end) (sym front) found }
+
+pub plain_compared : {a b s t : List ℕ} {x y : ℕ} {o : Ordering} → IsPlainName a x s → IsPlainName b y t
+    → o ≡ slice_cmp nat_cmp (map to_ascii_lowercase s) (map to_ascii_lowercase t)
+    → (u : DomainName) (q : ℕ) (v : DomainName) (r : ℕ) → IsNameIn a x u q → IsNameIn b y v r → o ≡ slice_cmp nat_cmp (lowname u) (lowname v)
+plain_compared {s = s} {t} f g e u q v r is as_is =
+    let first : name_of s true ≡ u = (name_same (name_found f.is) is).0 in
+    let second : name_of t true ≡ v = (name_same (name_found g.is) as_is).0 in
+    e ∙ compared s t (octets_found f.is) (octets_found g.is) ∙ ap (λ (n : DomainName). slice_cmp nat_cmp (lowname n) (lowname (name_of t true))) first
+    ∙ ap (λ (n : DomainName). slice_cmp nat_cmp (lowname u) (lowname n)) second

@@ -1,0 +1,134 @@
+-- How octets are put behind each other.
+use Rattle.std.proofs.Common.{◌≡◌, ℕ, ◌+◌, ◌-◌, ◌≤◌, ◌<◌, Bool, true, false, List, [], ◌∷◌, ◌++◌, length, take, drop, Option, Some, None, refl, sym, ap, ◌∙◌}
+use Rattle.std.proofs.Common.{arith, subst, append_assoc, length-append}
+use Rattle.std.proofs.lemmas.List.{length-map, map-append, drop-drop, take_at, drop_at, take-append-drop, length-take, length-drop}
+use Rattle.std.specs.Char.{to_ascii_lowercase}
+use borrow.Rule.Slice.PartMut.{put_mid}
+use Rattle.dns_fields.specs.{Labels.wire}
+use Rattle.dns_labels.specs.{Labels.name_of, Labels.AreNameOctets, Reading.stop_octets}
+use Rattle.dns_labels.proofs.{ReadingRuns.no_more, Found.name_found, Found.octets_found, Lowered.lowered-of}
+use Rattle.dns_view.specs.{NameEnds.SkipsRun, Putting.cased, Putting.name_form, Putting.Put, Putting.PutName}
+use Rattle.dns_view.proofs.NameSteps.{Going, going_first, going_next}
+
+pub cased_length : (low : Bool) (s : List ℕ) → length (cased low s) ≡ length s
+cased_length true s = length-map s to_ascii_lowercase
+cased_length false s = refl
+
+pub cased_append : (low : Bool) (x y : List ℕ) → cased low (x ++ y) ≡ cased low x ++ cased low y
+cased_append true x y = map-append to_ascii_lowercase x y
+cased_append false x y = refl
+
+-- octets that were copied into a part of the buffer
+pub put_here : {old : List ℕ} {start end : ℕ} (octets : List ℕ) {part : List ℕ} → end ≡ start + length octets → end ≤ length old → part ≡ octets
+    → Put old (put_mid start (end - start) old part) start end octets
+put_here {old} {start} {end} octets {part} e room same =
+    let k : end - start ≡ length octets = omega (arith, e) in
+    let d : drop (end - start) (drop start old) ≡ drop end old = drop-drop (end - start) start old ∙ ap (λ (n : ℕ). drop n old) (omega (arith, e)) in
+    let whole : put_mid start (end - start) old part ≡ take start old ++ (octets ++ drop end old) = rw (same, d) refl in
+    record {
+      ends = e;
+      size = ap length whole
+          ∙ omega (
+            arith,
+            length-append (take start old) (octets ++ drop end old),
+            length-append octets
+                (drop end old),
+            length-take start old,
+            length-drop end old,
+            e,
+          );
+      written = λ h. whole;
+    }
+
+-- octets that do not fit
+pub put_past : {old : List ℕ} {start end : ℕ} (octets : List ℕ) → end ≡ start + length octets → length old < end → Put old old start end octets
+put_past octets e full = record { ends = e; size = refl; written = λ h. absurd (omega arith) }
+
+pub put_none : (old : List ℕ) (start : ℕ) → Put old old start start []
+put_none old start = record { ends = omega arith; size = refl; written = λ h. sym (take-append-drop start old) }
+
+-- one behind the other
+pub put_then : {old mid new : List ℕ} {s a e : ℕ} {x y : List ℕ} → Put old mid s a x → Put mid new a e y → Put old new s e (x ++ y)
+put_then {old} {mid} {new} {s} {a} {e} {x} {y} p q = record {
+  ends = omega (arith, p.ends, q.ends, length-append x y);
+  size = q.size ∙ p.size;
+  written = λ h. joined_put old mid new s a e x y p q h;
+}
+  where
+    joined_put : (old mid new : List ℕ) (s a e : ℕ) (x y : List ℕ) → Put old mid s a x → Put mid new a e y → e ≤ length old
+        → new ≡ take s old ++ ((x ++ y) ++ drop e old)
+    joined_put old mid new s a e x y p q h =
+        let one : mid ≡ take s old ++ (x ++ drop a old) = p.written (omega (arith, q.ends)) in
+        let grouped : mid ≡ (take s old ++ x) ++ drop a old = one ∙ sym (append_assoc (take s old) x (drop a old)) in
+        let long : length (take s old ++ x) ≡ a = omega (arith, length-append (take s old) x, length-take s old, p.ends, q.ends) in
+        let front : take a mid ≡ take s old ++ x = ap (take a) grouped ∙ take_at (take s old ++ x) (drop a old) a long in
+        let rest : drop a mid ≡ drop a old = ap (drop a) grouped ∙ drop_at (take s old ++ x) (drop a old) a long in
+        let n : (e - a) + a ≡ e = omega (arith, q.ends) in
+        let m : a + (e - a) ≡ e = omega (arith, q.ends) in
+        let back : drop e mid ≡ drop e old = ap (λ (k : ℕ). drop k mid) (sym m) ∙ sym (drop-drop (e - a) a mid) ∙ ap (drop (e - a)) rest
+        ∙ drop-drop (e - a) a old ∙ ap (λ (k : ℕ). drop k old) m in
+        let two : new ≡ take a mid ++ (y ++ drop e mid) = q.written (omega (arith, p.size)) in
+        two ∙ ap (λ (t : List ℕ). t ++ (y ++ drop e mid)) front ∙ ap (λ (t : List ℕ). (take s old ++ x) ++ (y ++ t)) back
+        ∙ append_assoc (take s old) x (y ++ drop e old) ∙ ap (λ (t : List ℕ). take s old ++ t) (sym (append_assoc x y (drop e old)))
+
+-- ---- names
+
+-- the labels of a run stand at its offset
+pub run_octets : {m : List ℕ} {p : ℕ} {stop : Option ℕ} {end before after : ℕ} (r : SkipsRun m p stop end before after) → p ≤ length m
+    → (before ≤ after) × (p + (after - before) ≤ length m) × (take (after - before) (drop p m) ≡ wire r.front)
+run_octets {m} {p} {stop} {end} {before} {after} r inside =
+    let w = wire r.front in
+    let n : after - before ≡ length w = omega (arith, r.counted) in (
+      omega (arith, r.counted),
+      omega (arith, r.counted, ap length r.run.stands, length-append w (stop_octets stop ++ r.run.behind), length-drop p m),
+      ap (λ (t : List ℕ). take (after - before) t) r.run.stands ∙ take_at w (stop_octets stop ++ r.run.behind) (after - before) (sym n),
+    )
+
+-- the name so far, and its octets in the buffer
+pub record Putting (message : List ℕ) (start end : ℕ) (region : List ℕ) (offset : ℕ) (next : Option ℕ) (len : ℕ) (low : Bool) (old new : List ℕ)
+    (begin at : ℕ) : Type 0 where
+  pub going : Going message start end region offset next len
+  pub put : Put old new begin at (cased low going.octets)
+
+pub putting_first : {message : List ℕ} {start end : ℕ} {stop : Option ℕ} {len n : ℕ} {low : Bool} {old new : List ℕ} {begin at : ℕ} → start ≤ length message
+    → SkipsRun message start stop end 0 len → n ≡ len → Put old new begin at (cased low (take n (drop start message)))
+    → Putting message start end message start stop len low old new begin at
+unfolding going_first
+putting_first {message} {start} {stop = stop} {len = len} {n = count} {low} {old} {new} {begin} {at} within r is p =
+    let k = run_octets r within in
+    let n : len - 0 ≡ count = omega (arith, is) in
+    let same : take count (drop start message) ≡ wire r.front = ap (λ (i : ℕ). take i (drop start message)) (sym n) ∙ k.2 in
+    record {
+      going = going_first within r;
+      put = subst (λ (s : List ℕ). Put old new begin at (cased low s)) same p;
+    }
+
+pub putting_next : {message : List ℕ} {start end : ℕ} {region : List ℕ} {offset target len : ℕ} {stop : Option ℕ} {end' after n : ℕ} {low : Bool}
+    {old mid new : List ℕ} {begin at at' : ℕ}
+    → Putting message start end region offset (Some target) len low old mid begin at → target < offset
+    → SkipsRun (take offset region) target stop end' len after
+    → n ≡ after - len → Put mid new at at' (cased low (take n (drop target (take offset region))))
+    → Putting message start end (take offset region) target stop after low old new begin at'
+unfolding going_next
+putting_next {region = region} {offset} {target} {len = len} {after = after} {low = low} {old} {mid} {new} {begin} {at} {at'} g before r is p =
+    let k = run_octets r (omega (arith, before, g.going.pending.within, length-take offset region)) in
+    record {
+      going = going_next g.going before r;
+      put = subst (λ (s : List ℕ). Put old new begin at' s) (sym (cased_append low g.going.octets (wire r.front)))
+          (put_then g.put (subst (λ (s : List ℕ). Put mid new at at' (cased low s)) (ap (λ (i : ℕ). take i (drop target (take offset region))) is ∙ k.2) p));
+    }
+
+name_is : (low : Bool) (octets : List ℕ) → AreNameOctets octets → cased low octets ++ 0 ∷ [] ≡ name_form low (name_of octets true)
+name_is true octets h = sym (lowered-of octets h)
+name_is false octets h = ap (λ (s : List ℕ). s ++ 0 ∷ []) h.same
+
+pub putting_last : {message : List ℕ} {start end : ℕ} {region : List ℕ} {offset len : ℕ} {low : Bool} {old mid new : List ℕ} {begin at behind : ℕ}
+    → Putting message start end region offset None len low old mid begin at → Put mid new at behind (0 ∷ [])
+    → PutName message start end low old new begin behind
+putting_last {low = low} {old} {mid} {new} {begin} {at} {behind} g p =
+    let n = no_more g.going.pending in
+    record {
+      name = name_of g.going.octets true;
+      is = name_found n;
+      put = subst (λ (s : List ℕ). Put old new begin behind s) (name_is low g.going.octets (octets_found n)) (put_then g.put p);
+    }

@@ -1,0 +1,14 @@
+pub mod NameEnds
+pub mod Tags
+pub mod Blocks
+pub mod Values
+pub mod Options
+pub mod Parameters
+pub mod Parts
+pub mod Rows
+pub mod Checks
+pub mod Putting
+pub mod Shown
+pub mod ViewOf
+pub mod Windows
+pub mod Tlvs

@@ -1,0 +1,21 @@
+-- Where a name in a message ends (RFC 1035, 3.1 and 4.1.4).
+use Rattle.std.specs.Prelude.{◌≡◌, ℕ, ◌+◌, ◌≤◌, List, length, Option}
+use Rattle.dns_fields.specs.{Labels.DomainName, Labels.wire, Names.IsNameIn}
+use Rattle.dns_labels.specs.Reading.{IsRun, IsNameAt}
+
+-- labels and what ends them are there; the name has `after` octets with them, and `before` without
+pub record SkipsRun (message : List ℕ) (offset : ℕ) (stop : Option ℕ) (end before after : ℕ) : Type 0 where
+  pub front : List (List ℕ)
+  pub run : IsRun message offset front stop end
+  pub counted : after ≡ before + length (wire front)
+  pub room : after ≤ 254
+
+-- a name is encoded from the offset to the end
+pub record NameEnds (message : List ℕ) (offset end : ℕ) : Type 0 where
+  pub name : DomainName
+  pub is : IsNameIn message offset name end
+
+-- a name is encoded at the offset, and these are its octets without the 0 at its end
+pub record IsPlainName (message : List ℕ) (offset : ℕ) (octets : List ℕ) : Type 0 where
+  pub end : ℕ
+  pub is : IsNameAt message offset octets end

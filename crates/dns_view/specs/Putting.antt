@@ -1,0 +1,66 @@
+-- Octets of RDATA in one of two forms, written into a buffer.
+use Rattle.std.specs.Prelude.{◌≡◌, ℕ, ◌+◌, ◌≤◌, Bool, true, false, List, [], ◌∷◌, ◌++◌, length, take, drop, map}
+use Rattle.std.specs.Char.{to_ascii_lowercase}
+use Rattle.dns_fields.specs.declared.Kind.{Kind}
+use Rattle.dns_fields.specs.declared.Kind.TheVariants.{Name, Options, Parameters, Bitmap}
+use Rattle.dns_fields.specs.{Labels.DomainName, Labels.wire, Labels.lowname, Names.IsNameIn}
+use Rattle.dns_fields.specs.{Fields.Value, Fields.Values, Fields.field_octets, Fields.option_tlvs, Tlvs.tlvs}
+use Rattle.dns_rows.specs.declared.row.Part.{Part}
+
+-- with A to Z lowercased, or with case preserved
+abbrev pub cased : Bool → List ℕ → List ℕ
+cased true s = map to_ascii_lowercase s
+cased false s = s
+
+-- an uncompressed name: its canonical octets, or with case preserved
+abbrev pub name_form : Bool → DomainName → List ℕ
+name_form true x = lowname x
+name_form false x = wire x.labels ++ 0 ∷ []
+
+-- options that are not canonical are in their order
+abbrev pub form_octets : Bool → (k : Kind) → Value k → List ℕ
+form_octets low Name x = name_form low x
+form_octets false Options v = tlvs (option_tlvs v)
+form_octets low k v = field_octets k v
+
+-- the fields of a record, one after the other
+abbrev pub all_form : Bool → (kinds : List Kind) → Values kinds → List ℕ
+all_form low [] vs = []
+all_form low (k ∷ kinds) vs = form_octets low k vs.0 ++ all_form low kinds vs.1
+
+-- fields that are names, or whose octets are the same in every form
+abbrev pub IsCopied : Kind → Type 0
+IsCopied Options = ⊥
+IsCopied Parameters = ⊥
+IsCopied Bitmap = ⊥
+IsCopied k = Unit {0}
+
+-- Fields whose octets are made anew: what follows a client subnet's address or a port is left out, and a bitmap is the
+-- shortest one.
+abbrev pub IsRecoded : Kind → Type 0
+IsRecoded Options = Unit {0}
+IsRecoded Parameters = Unit {0}
+IsRecoded Bitmap = Unit {0}
+IsRecoded k = ⊥
+
+-- Fields whose octets can be written in a form: in the canonical one all but options, which it sorts.
+abbrev pub IsPut : Kind → Bool → Type 0
+IsPut Options true = ⊥
+IsPut k low = Unit {0}
+
+abbrev pub ArePut : Bool → List Part → Type 0
+ArePut low [] = Unit {0}
+ArePut low (p ∷ row) = IsPut p.kind low × ArePut low row
+
+-- Octets were written into the buffer from start to end. If they pass the end of the buffer, its contents are not
+-- specified.
+pub record Put (old new : List ℕ) (start end : ℕ) (octets : List ℕ) : Type 0 where
+  pub ends : end ≡ start + length octets
+  pub size : length new ≡ length old
+  pub written : end ≤ length old → new ≡ take start old ++ (octets ++ drop end old)
+
+-- a name is encoded in the message from the offset to the end, and its octets were written
+pub record PutName (message : List ℕ) (offset end : ℕ) (low : Bool) (old new : List ℕ) (start behind : ℕ) : Type 0 where
+  pub name : DomainName
+  pub is : IsNameIn message offset name end
+  pub put : Put old new start behind (name_form low name)

@@ -1,0 +1,41 @@
+//! RDATA that is checked.
+
+ghost use Rattle.std.specs.Prelude.{◌≡◌, ◌+◌, ◌<◌, IfErr, OnOk};
+ghost use Rattle.dns_names_wire.specs.Terms.{StaysBehind};
+ghost use Rattle.dns_view.specs.Checks.{FillsRow, NoFill, IsRowError};
+ghost use Rattle.dns_view.specs.Rows.{IsRowChecked};
+
+use crate::skip::skip_row;
+use crate::walk::Walk;
+use dns_rows::Part;
+use dns_types::DecodeError;
+
+/// Checks that the next `len` octets are RDATA of this row, and takes them. Allocates nothing.
+///
+/// # Errors
+///
+/// The error is the one that reading the record returns. On error the decoder may be anywhere after the offset where the
+/// call began.
+///
+/// - [`IncorrectRDataLengthRead`](DecodeError::IncorrectRDataLengthRead): the fields take another number of octets than
+///   `len`, with both numbers.
+/// - Otherwise the error of the first field that is not there or not as its row asks.
+#[inline]
+pub fn check_data(walk: &mut Walk<'_>, row: &[Part], len: usize) -> Result<(), DecodeError>
+    requires row { IsRowChecked row.now }
+    requires short { len < 65536 }
+    ensures found { OnOk result (FillsRow walk.old.message walk.old.index len row.now) }
+    ensures after { OnOk result (walk.new.index ≡ walk.old.index + len) }
+    ensures refused { IfErr result (λ e. NoFill walk.old.message walk.old.index len row.now) }
+    ensures why { IfErr result (λ e. IsRowError row.now len walk.old e walk.new) }
+    ensures behind { StaysBehind walk.old walk.new }
+{
+    let start = walk.index();
+    let own = skip_row(walk, row, len);
+    let read = walk.index() - start;
+    if read == len {
+        own
+    } else {
+        Err(DecodeError::IncorrectRDataLengthRead { read, len })
+    }
+}

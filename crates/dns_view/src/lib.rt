@@ -1,0 +1,34 @@
+//! RDATA as it is encoded in a message: it is checked, and looked at, by its row of fields. Nothing here allocates.
+//!
+//! - [`Walk`] is a decoder without an allocator; [`check::check_data`] checks RDATA by a row, [`row_of`] returns a
+//!   type's.
+//! - [`RowView`] is RDATA that was checked: its fields, its canonical and uncompressed octets, its order.
+//! - [`FieldRef`] and [`NameRef`] are a field and a name, lent from the message.
+#![tactic(auto)]
+
+pub mod blocks;
+pub mod canonical;
+pub mod check;
+pub mod coded_order;
+pub mod field;
+pub mod name_ref;
+pub mod names;
+mod options;
+pub mod order;
+mod parameters;
+pub mod put;
+pub mod put_bitmap;
+pub mod put_options;
+pub mod put_params;
+pub mod row;
+pub mod skip;
+mod tlv;
+pub mod values;
+pub mod view;
+pub mod walk;
+
+pub use field::FieldRef;
+pub use name_ref::NameRef;
+pub use row::row_of;
+pub use view::RowView;
+pub use walk::Walk;

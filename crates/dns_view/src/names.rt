@@ -1,0 +1,90 @@
+//! Names in a message: where they end (RFC 1035, 3.1 and 4.1.4).
+
+ghost use Rattle.std.specs.Prelude.{ℕ, ◌+◌, ◌≤◌, List, length, IfSome, IfNone, Option};
+ghost use Rattle.dns_fields.specs.{Labels.DomainName, Labels.wire, Names.IsNameIn};
+ghost use Rattle.dns_labels.specs.Reading.{IsRun};
+ghost use Rattle.dns_view.specs.NameEnds.{NameEnds, SkipsRun};
+
+// The most octets that a name has before the 0 at its end (RFC 1035, 3.1).
+const MAX_OCTETS: usize = 254;
+
+// Labels one after the other: where they and what ends them end, the target of the compression pointer that ends them, if
+// one does, and how many octets the name has with them.
+#[derive(Clone, Copy)]
+pub(crate) struct Run {
+    pub(crate) end: usize,
+    pub(crate) next: Option<usize>,
+    pub(crate) octets: usize,
+}
+
+// Goes over labels up to an octet 0 or a compression pointer.
+#[inline]
+#[tactic(auto, using(crate::proofs::NameSteps::pointer_skips, crate::proofs::NameSteps::zero_skips, crate::proofs::NameSteps::skipped_none))]
+pub(crate) fn skip_run(message: &[u8], offset: usize, before: usize) -> Option<Run>
+    requires offset { offset ≤ length message.now }
+    requires few { before ≤ 254 }
+    ensures some { IfSome result (λ r. SkipsRun message.now offset r.next r.end before r.octets) }
+    ensures end { IfSome result (λ r. r.end ≤ length message.now) }
+    ensures none { IfNone result ((front : List (List ℕ)) (stop : Option ℕ) (end : ℕ) →
+        IsRun message.now offset front stop end → before + length (wire front) ≤ 254 → ⊥) }
+{
+    let mut at = offset;
+    let mut len = before;
+    'labels: loop {
+        if at >= message.len() {
+            return None;
+        }
+        let first = message[at];
+        let count = first as usize;
+        if count == 0 {
+            return Some(Run {
+                end: at + 1,
+                next: None,
+                octets: len,
+            });
+        }
+        if count >= 192 {
+            if message.len() - at < 2 {
+                return None;
+            }
+            let second = message[at + 1];
+            return Some(Run {
+                end: at + 2,
+                next: Some((count - 192) * 256 + second as usize),
+                octets: len,
+            });
+        }
+        if count >= 64 || message.len() - at <= count || len + count >= MAX_OCTETS {
+            return None;
+        }
+        at += count + 1;
+        len += count + 1;
+    }
+}
+
+/// Returns where the encoding of a name ends, or `None` if no name is encoded there.
+#[tactic(auto, using(crate::proofs::NameSteps::going_first, crate::proofs::NameSteps::going_next))]
+pub fn skip_name(message: &[u8], start: usize) -> Option<usize>
+    requires { start ≤ length message.now }
+    ensures some { IfSome result (λ end. NameEnds message.now start end) }
+    ensures end { IfSome result (λ end. end ≤ length message.now) }
+    ensures none { IfNone result ((name : DomainName) (end : ℕ) → IsNameIn message.now start name end → ⊥) }
+{
+    let first = skip_run(message, start, 0)?;
+    let end = first.end;
+    let mut region = message;
+    let mut offset = start;
+    let mut octets = first.octets;
+    let mut next = first.next;
+    'runs: while let Some(target) = next {
+        if target >= offset {
+            return None;
+        }
+        region = &region[..offset];
+        let run = skip_run(region, target, octets)?;
+        offset = target;
+        octets = run.octets;
+        next = run.next;
+    }
+    Some(end)
+}

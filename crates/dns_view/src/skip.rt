@@ -1,0 +1,327 @@
+//! Fields that are checked, one after the other.
+
+ghost use Rattle.std.specs.Prelude.{◌≡◌, ◌<◌, ◌+◌, ◌≤◌, ℕ, false, take, length, get_or};
+ghost use Rattle.std.specs.{Char.is_ascii_alphanumeric, List.list_all};
+ghost use Rattle.dns_fields.specs.declared.Kind.TheVariants.{Number, Octets, Name, CharacterString, CharacterStrings, Rest, Bitmap};
+ghost use Rattle.dns_rows.specs.Rules.{AreLetters};
+ghost use Rattle.dns_view.specs.{Parts.Skips, Parts.IsCovered, Parts.IsUnasked, Parts.step_of as octet_step};
+ghost use Rattle.dns_view.specs.Rows.{IsRowChecked, SkipsRow, asked_length as row_asks};
+
+use crate::blocks::check_blocks;
+use crate::options::skip_options;
+use crate::parameters::skip_parameters;
+use crate::walk::Walk;
+use dns_fields::Kind;
+use dns_rows::{Part, Rule};
+use dns_types::DecodeError;
+
+/// Takes a field exactly if one is there that is as its rule asks, of `len` octets of RDATA from `start`.
+///
+/// On error the decoder may be anywhere after the offset where the call began.
+#[inline]
+#[tactic(auto, using(crate::proofs::Skips::skips_as))]
+pub fn skip_field(
+    walk: &mut Walk<'_>,
+    kind: Kind,
+    rule: Rule,
+    start: usize,
+    len: usize,
+) -> Result<(), DecodeError>
+    requires covered { IsCovered kind rule }
+    requires short { len < 65536 }
+    requires before { start ≤ walk.old.index }
+    ensures { Skips rule kind start len result walk.old walk.new }
+{
+    match kind {
+        Kind::Number(width) => match rule {
+            Rule::KnownFlags => skip_flags(walk, start, len),
+            _ => skip_number(walk, width, rule, start, len),
+        },
+        Kind::Octets(count) => skip_octets(walk, count, rule, start, len),
+        Kind::Name => skip_one_name(walk, rule, start, len),
+        Kind::CharacterString => match rule {
+            Rule::Letters => skip_letters(walk, start, len),
+            Rule::Tag => skip_tag(walk, start, len),
+            _ => skip_string(walk, rule, start, len),
+        },
+        Kind::CharacterStrings => skip_strings(walk, rule, start, len),
+        Kind::Rest => skip_rest(walk, rule, start, len),
+        Kind::Options => skip_options(walk, rule, start, len),
+        Kind::Parameters => skip_parameters(walk, start, len),
+        Kind::Bitmap => skip_bitmap(walk, rule, start, len),
+    }
+}
+
+#[inline]
+#[tactic(auto, using(crate::proofs::Skips::number_skips, crate::proofs::Skips::number_refused))]
+fn skip_number(
+    walk: &mut Walk<'_>,
+    width: u8,
+    rule: Rule,
+    start: usize,
+    len: usize,
+) -> Result<(), DecodeError>
+    requires { IsUnasked rule (Number width) }
+    ensures { Skips rule (Number width) start len result walk.old walk.new }
+{
+    match walk.read_slice(width as usize) {
+        Ok(_) => Ok(()),
+        Err(e) => Err(e),
+    }
+}
+
+// CSYNC's flags: they are taken, and then none of the bits 2 to 7 may be set (RFC 7477, 2.1.1.2).
+#[inline]
+#[tactic(auto, using(crate::proofs::Skips::flags_skip, crate::proofs::Skips::flags_refused, crate::proofs::Skips::flags_wrong))]
+fn skip_flags(walk: &mut Walk<'_>, start: usize, len: usize) -> Result<(), DecodeError>
+    ensures { Skips Rule.KnownFlags (Number 2) start len result walk.old walk.new }
+{
+    match walk.read_u16() {
+        Ok(flags) => {
+            if flags & 252 == 0 {
+                Ok(())
+            } else {
+                Err(DecodeError::UnrecognizedCsyncFlags(flags))
+            }
+        }
+        Err(e) => Err(e),
+    }
+}
+
+#[inline]
+fn step_of(rule: Rule) -> usize
+    ensures value { result ≡ octet_step rule }
+    ensures some { 0 < result }
+{
+    match rule {
+        Rule::Steps(n) => 1.max(n as usize),
+        _ => 1,
+    }
+}
+
+#[inline]
+#[tactic(auto, using(crate::proofs::Skips::octets_skip, crate::proofs::Skips::octets_refused))]
+fn skip_octets(
+    walk: &mut Walk<'_>,
+    count: u8,
+    rule: Rule,
+    start: usize,
+    len: usize,
+) -> Result<(), DecodeError>
+    ensures { Skips rule (Octets count) start len result walk.old walk.new }
+{
+    match walk.read_in_steps(count as usize, step_of(rule)) {
+        Ok(_) => Ok(()),
+        Err(e) => Err(e),
+    }
+}
+
+#[inline]
+#[tactic(auto, using(crate::proofs::Skips::name_skips, crate::proofs::Skips::name_refused))]
+fn skip_one_name(
+    walk: &mut Walk<'_>,
+    rule: Rule,
+    start: usize,
+    len: usize,
+) -> Result<(), DecodeError>
+    ensures { Skips rule Name start len result walk.old walk.new }
+{
+    match walk.skip_name() {
+        Ok(()) => Ok(()),
+        Err(e) => Err(e),
+    }
+}
+
+// Returns whether each octet is a digit or a letter of ASCII.
+#[inline]
+fn are_letters(octets: &[u8]) -> bool
+    ensures { result ≡ list_all is_ascii_alphanumeric octets.now }
+{
+    octets.iter().all(|c| c.is_ascii_alphanumeric())
+}
+
+#[inline]
+#[tactic(auto, using(crate::proofs::Skips::string_skips, crate::proofs::Skips::string_refused))]
+fn skip_string(walk: &mut Walk<'_>, rule: Rule, start: usize, len: usize) -> Result<(), DecodeError>
+    requires { IsUnasked rule CharacterString }
+    ensures { Skips rule CharacterString start len result walk.old walk.new }
+{
+    match walk.read_character_data() {
+        Ok(_) => Ok(()),
+        Err(e) => Err(e),
+    }
+}
+
+#[inline]
+#[tactic(auto, using(crate::proofs::Skips::letters_skip, crate::proofs::Skips::letters_refused, crate::proofs::Skips::letters_wrong))]
+fn skip_letters(walk: &mut Walk<'_>, start: usize, len: usize) -> Result<(), DecodeError>
+    ensures { Skips Rule.Letters CharacterString start len result walk.old walk.new }
+{
+    match walk.read_character_data() {
+        Ok(text) => {
+            if are_letters(text) {
+                Ok(())
+            } else {
+                Err(DecodeError::NaptrFlagsInvalid)
+            }
+        }
+        Err(e) => Err(e),
+    }
+}
+
+// Returns how many letters and digits of ASCII are in front.
+fn count_letters(octets: &[u8]) -> usize
+    ensures within { result ≤ length octets.now }
+    ensures letters { AreLetters (take result octets.now) }
+    ensures stops { result < length octets.now → is_ascii_alphanumeric (get_or octets.now result 0) ≡ false }
+{
+    let mut count = 0;
+    for octet in octets {
+        if !octet.is_ascii_alphanumeric() {
+            break;
+        }
+        count += 1;
+    }
+    count
+}
+
+// CAA's tag (RFC 8659, 4.1): its length is tested first, and then octet by octet.
+fn skip_tag(walk: &mut Walk<'_>, start: usize, len: usize) -> Result<(), DecodeError>
+    requires short { len < 65536 }
+    requires before { start ≤ walk.old.index }
+    ensures { Skips Rule.Tag CharacterString start len result walk.old walk.new }
+{
+    let size = match walk.read_u8() {
+        Ok(n) => n as usize,
+        Err(e) => return Err(e),
+    };
+    let used = walk.index() - start;
+    if len < size + used {
+        return Err(DecodeError::IncorrectRDataLengthRead {
+            read: len,
+            len: size + used,
+        });
+    }
+    if size == 0 || size > 15 {
+        return Err(DecodeError::CaaTagInvalid);
+    }
+    let left = walk.unread();
+    let there = &left[..size.min(left.len())];
+    let letters = count_letters(there);
+    if letters < there.len() {
+        match walk.read_slice(letters + 1) {
+            Ok(bad) => return Err(DecodeError::CaaTagInvalid),
+            Err(lack) => return Err(DecodeError::CaaTagInvalid),
+        }
+    }
+    match walk.read_in_steps(size, 1) {
+        Ok(_) => Ok(()),
+        Err(e) => Err(e),
+    }
+}
+
+#[inline]
+#[tactic(auto, using(crate::proofs::Strings::on_none, crate::proofs::Strings::on_more, crate::proofs::Strings::strings_skip, crate::proofs::Strings::strings_refused))]
+fn skip_strings(
+    walk: &mut Walk<'_>,
+    rule: Rule,
+    start: usize,
+    len: usize,
+) -> Result<(), DecodeError>
+    requires short { len < 65536 }
+    requires before { start ≤ walk.old.index }
+    ensures { Skips rule CharacterStrings start len result walk.old walk.new }
+{
+    // For the proof: brings in that the index is small.
+    let _index = walk.index();
+    let end = start + len;
+    'strings: while walk.index() < end {
+        if let Err(e) = walk.read_character_data() {
+            return Err(e);
+        }
+    }
+    Ok(())
+}
+
+#[inline]
+#[tactic(auto, using(crate::proofs::Skips::rest_skips, crate::proofs::Skips::rest_refused, crate::proofs::Skips::rest_passed))]
+fn skip_rest(walk: &mut Walk<'_>, rule: Rule, start: usize, len: usize) -> Result<(), DecodeError>
+    requires short { len < 65536 }
+    requires before { start ≤ walk.old.index }
+    ensures { Skips rule Rest start len result walk.old walk.new }
+{
+    let read = walk.index() - start;
+    if len < read {
+        return Err(DecodeError::IncorrectRDataLengthRead { read, len });
+    }
+    if let Rule::Some = rule
+        && len == read
+    {
+        return Err(DecodeError::IncorrectRDataLengthRead {
+            read: len,
+            len: len + 1,
+        });
+    }
+    match walk.read_slice(len - read) {
+        Ok(_) => Ok(()),
+        Err(e) => Err(e),
+    }
+}
+
+// CSYNC's types: the octets up to the end are taken, and then they must be blocks of a bitmap (RFC 4034, 4.1.2).
+#[inline]
+#[tactic(auto, using(crate::proofs::Skips::bitmap_skips, crate::proofs::Skips::bitmap_wrong, crate::proofs::Skips::bitmap_refused, crate::proofs::Skips::bitmap_passed))]
+fn skip_bitmap(walk: &mut Walk<'_>, rule: Rule, start: usize, len: usize) -> Result<(), DecodeError>
+    requires before { start ≤ walk.old.index }
+    ensures { Skips rule Bitmap start len result walk.old walk.new }
+{
+    let read = walk.index() - start;
+    if len < read {
+        return Err(DecodeError::IncorrectRDataLengthRead { read, len });
+    }
+    match walk.read_slice(len - read) {
+        Ok(octets) => match check_blocks(octets) {
+            Ok(()) => Ok(()),
+            Err(wrong) => Err(wrong),
+        },
+        Err(e) => Err(e),
+    }
+}
+
+// Returns how many octets the row asks of the RDATA before anything is read.
+#[inline]
+fn asked_length(row: &[Part]) -> usize
+    ensures { result ≡ row_asks row.now }
+{
+    match row.first() {
+        Some(part) => match part.rule {
+            Rule::AtLeast(n) => n as usize,
+            _ => 0,
+        },
+        None => 0,
+    }
+}
+
+/// Takes the fields of a row, of `len` octets of RDATA from the index of the decoder.
+///
+/// On error the decoder may be anywhere after the offset where the call began.
+pub fn skip_row(walk: &mut Walk<'_>, row: &[Part], len: usize) -> Result<(), DecodeError>
+    requires row { IsRowChecked row.now }
+    requires short { len < 65536 }
+    ensures { SkipsRow row.now len result walk.old walk.new }
+{
+    let asked = asked_length(row);
+    if len < asked {
+        return Err(DecodeError::IncorrectRDataLengthRead {
+            read: len,
+            len: asked,
+        });
+    }
+    let start = walk.index();
+    'fields: for part in row {
+        if let Err(e) = skip_field(walk, part.kind, part.rule, start, len) {
+            return Err(e);
+        }
+    }
+    Ok(())
+}

@@ -1,0 +1,158 @@
+//! A view of RDATA.
+
+ghost use Rattle.std.specs.Prelude.{◌≡◌, ◌+◌, ◌<◌, ◌≤◌, true, false, length, take, drop, IfOk, IfErr, OnOk};
+ghost use Rattle.dns_fields.specs.Fields.{canonical};
+ghost use Rattle.dns_names_wire.specs.Terms.{StaysBehind};
+ghost use Rattle.dns_rows.specs.Table.{kinds_of};
+ghost use Rattle.dns_view.specs.Rows.{HasRow, is_row};
+ghost use Rattle.dns_view.specs.{Putting.Put, Putting.all_form, Putting.ArePut};
+ghost use Rattle.dns_view.specs.Checks.{FillsRow, NoFill, IsRowError};
+
+use crate::canonical::put_row;
+use crate::check::check_data;
+use crate::field::{FieldRef, field_of};
+use crate::order::compare_rows;
+use crate::walk::Walk;
+use dns_rows::Part;
+use dns_types::{DecodeError, Restrict};
+use std::cmp::Ordering;
+
+/// RDATA that was checked, as it is encoded in a message: the message, the offset of the RDATA, RDLENGTH, and the row of its
+/// type. A copy is cheap, and nothing is allocated.
+#[derive(Clone, Copy)]
+pub struct RowView<'a> {
+    message: &'a [u8],
+    offset: usize,
+    len: usize,
+    row: &'static [Part],
+    ghost fills: { ∥ FillsRow message.now offset len row.now ∥₁ },
+    ghost checked: { is_row row.now ≡ true },
+    ghost inside: { offset + len ≤ length message.now },
+    ghost short: { len < 65536 },
+}
+
+impl<'a> RowView<'a> {
+    ghost use Rattle.std.specs.Prelude.{MatchOption};
+    ghost use Rattle.std.specs.{Cmp.Lexicographic.slice_cmp, Ordering.nat_cmp};
+    ghost use Rattle.dns_view.specs.{ViewOf.IsViewOf, Shown.ShowsAt};
+
+    /// Checks that the next `length` octets are RDATA of this row, and takes them. Allocates nothing.
+    ///
+    /// # Errors
+    ///
+    /// Those of [`check_data`].
+    #[inline]
+    pub fn read(
+        walk: &mut Walk<'a>,
+        row: &'static [Part],
+        length: Restrict<u16>,
+    ) -> Result<RowView<'a>, DecodeError>
+        requires row { is_row row.now ≡ true }
+        ensures found { IfOk result (λ r. IsViewOf walk.old length row.now r) }
+        ensures after { OnOk result (walk.new.index ≡ walk.old.index + length) }
+        ensures refused { IfErr result (λ e. NoFill walk.old.message walk.old.index length row.now) }
+        ensures why { IfErr result (λ e. IsRowError row.now length walk.old e walk.new) }
+        ensures behind { StaysBehind walk.old walk.new }
+    {
+        let message = walk.message();
+        let offset = walk.index();
+        let len = length.unverified() as usize;
+        match check_data(walk, row, len) {
+            Ok(()) => Ok(RowView {
+                message,
+                offset,
+                len,
+                row,
+            }),
+            Err(e) => Err(e),
+        }
+    }
+
+    /// The whole message.
+    #[inline]
+    pub fn message(&self) -> &'a [u8]
+        ensures { result.now ≡ self.now.message.now }
+    {
+        self.message
+    }
+
+    /// The offset of the RDATA in the message.
+    #[inline]
+    pub fn offset(&self) -> usize
+        ensures { result ≡ self.now.offset }
+    {
+        self.offset
+    }
+
+    /// RDLENGTH: how many octets the RDATA has.
+    #[inline]
+    pub fn len(&self) -> u16
+        ensures { result ≡ self.now.len }
+    {
+        self.len as u16
+    }
+
+    /// The octets of the RDATA, as they are encoded.
+    pub fn octets(&self) -> &'a [u8]
+        ensures { result.now ≡ take self.now.len (drop self.now.offset self.now.message.now) }
+    {
+        &self.message[self.offset..self.offset + self.len]
+    }
+
+    /// Writes the canonical octets at the front of a buffer, and returns how many they are: names uncompressed and lowercased
+    /// (RFC 4034, 6.2). Allocates nothing. Options, which would have to be sorted, are excluded.
+    ///
+    /// If they are more than the buffer has, its contents are not specified.
+    pub fn put_canonical(&self, out: &mut [u8]) -> usize
+        requires { ArePut true self.now.row.now }
+        ensures { (h : HasRow self.now.message.now self.now.offset self.now.row.now (self.now.offset + self.now.len)) →
+            Put out.old out.new 0 result (canonical (kinds_of self.now.row.now) h.values) }
+    {
+        match put_row(self.message, self.offset, self.row, self.len, true, out) {
+            Some(count) => count,
+            None => 0,
+        }
+    }
+
+    /// Writes the octets with names uncompressed and their case preserved at the front of a buffer, and returns how many they
+    /// are. Allocates nothing.
+    ///
+    /// If they are more than the buffer has, its contents are not specified.
+    pub fn put_uncompressed(&self, out: &mut [u8]) -> usize
+        ensures { (h : HasRow self.now.message.now self.now.offset self.now.row.now (self.now.offset + self.now.len)) →
+            Put out.old out.new 0 result (all_form false (kinds_of self.now.row.now) h.values) }
+    {
+        match put_row(self.message, self.offset, self.row, self.len, false, out) {
+            Some(count) => count,
+            None => 0,
+        }
+    }
+
+    /// The field of this index in the row, or `None` if the row has fewer fields. Allocates nothing.
+    pub fn field(&self, number: usize) -> Option<FieldRef<'a>>
+        ensures { (h : HasRow self.now.message.now self.now.offset self.now.row.now (self.now.offset + self.now.len)) →
+            MatchOption result (length self.now.row.now ≤ number) (λ f. ShowsAt number (kinds_of self.now.row.now) h.values f) }
+    {
+        field_of(self.message, self.offset, self.row, self.len, number)
+    }
+
+    /// Orders RDATA of one row by canonical octets (RFC 4034, 6.3). Allocates nothing. Options, which would have to be
+    /// sorted, are excluded.
+    pub fn compare(&self, other: &RowView<'_>) -> Ordering
+        requires { ArePut true self.now.row.now }
+        ensures { self.now.row.now ≡ other.now.row.now →
+            (h : HasRow self.now.message.now self.now.offset self.now.row.now (self.now.offset + self.now.len))
+            (k : HasRow other.now.message.now other.now.offset self.now.row.now (other.now.offset + other.now.len)) →
+            result ≡ slice_cmp nat_cmp (canonical (kinds_of self.now.row.now) h.values) (canonical (kinds_of self.now.row.now) k.values) }
+    {
+        compare_rows(
+            self.message,
+            self.offset,
+            self.len,
+            other.message,
+            other.offset,
+            other.len,
+            self.row,
+        )
+    }
+}
