@@ -1,4 +1,4 @@
-//! Fields whose canonical octets are made anew, compared by them (RFC 4034, 6.3).
+//! Fields whose canonical octets are made anew, compared by them.
 
 ghost use Rattle.std.specs.Prelude.{◌≡◌, ◌+◌, ◌-◌, ◌<◌, ◌≤◌, ℕ, List, ◌++◌, length, drop, IfSome, IfNone};
 ghost use Rattle.std.specs.{Cmp.Lexicographic.slice_cmp, Ordering.nat_cmp, Int.bytes_high_first};

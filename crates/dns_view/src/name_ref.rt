@@ -48,7 +48,7 @@ fn plain_octets(message: &[u8], offset: usize) -> Option<&[u8]>
     }
 }
 
-/// Orders two names in messages by canonical octets (RFC 4034, 6.2). Allocates nothing.
+/// Orders two names in messages by their uncompressed octets in lower case. Allocates nothing.
 pub fn compare_names(a: &[u8], x: usize, b: &[u8], y: usize) -> Ordering
     requires left { x ≤ length a.now }
     requires right { y ≤ length b.now }
@@ -103,7 +103,7 @@ impl<'a> NameRef<'a> {
         }
     }
 
-    /// Orders two names by canonical octets (RFC 4034, 6.2). Allocates nothing.
+    /// Orders two names by their uncompressed octets in lower case. Allocates nothing.
     pub fn compare(&self, other: &NameRef<'_>) -> Ordering
         ensures { (u : DomainName) (q : ℕ) (v : DomainName) (r : ℕ) → IsNameIn self.now.message.now self.now.offset u q →
             IsNameIn other.now.message.now other.now.offset v r → result ≡ slice_cmp nat_cmp (lowname u) (lowname v) }

@@ -1,4 +1,4 @@
-//! The order of RDATA by canonical octets (RFC 4034, 6.3).
+//! The order of RDATA by canonical octets, this library's own form and not that of DNSSEC.
 
 ghost use Rattle.std.specs.Prelude.{true, ◌≡◌, ◌+◌, ◌<◌, ◌≤◌, length};
 ghost use Rattle.std.specs.{Cmp.Lexicographic.slice_cmp, Ordering.nat_cmp};
@@ -14,7 +14,7 @@ use dns_fields::Kind;
 use dns_rows::Part;
 use std::cmp::Ordering;
 
-/// Orders RDATA of two records of one row by canonical octets (RFC 4034, 6.3): field by field, in the messages. Allocates
+/// Orders RDATA of two records of one row by canonical octets: field by field, in the messages. Allocates
 /// nothing.
 pub fn compare_rows(
     a: &[u8],

@@ -99,8 +99,9 @@ impl<'a> RowView<'a> {
         &self.message[self.offset..self.offset + self.len]
     }
 
-    /// Writes the canonical octets at the front of a buffer, and returns how many they are: names uncompressed and lowercased
-    /// (RFC 4034, 6.2). Allocates nothing. Options, which would have to be sorted, are excluded.
+    /// Writes the canonical octets at the front of a buffer, and returns how many they are: this library's own form for
+    /// equality and order, not that of DNSSEC. All names are uncompressed and lowercased. Allocates nothing. Options, which
+    /// would have to be sorted, are excluded.
     ///
     /// If they are more than the buffer has, its contents are not specified.
     pub fn put_canonical(&self, out: &mut [u8]) -> usize
@@ -136,7 +137,7 @@ impl<'a> RowView<'a> {
         field_of(self.message, self.offset, self.row, self.len, number)
     }
 
-    /// Orders RDATA of one row by canonical octets (RFC 4034, 6.3). Allocates nothing. Options, which would have to be
+    /// Orders RDATA of one row by canonical octets, this library's own form. Allocates nothing. Options, which would have to be
     /// sorted, are excluded.
     pub fn compare(&self, other: &RowView<'_>) -> Ordering
         requires { ArePut true self.now.row.now }
