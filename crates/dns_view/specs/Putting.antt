@@ -1,5 +1,5 @@
--- Octets of RDATA in one of two forms, written into a buffer: canonical, which is this library's own form and not that of
--- DNSSEC, or uncompressed with case preserved.
+-- Octets of RDATA in one of two forms, written into a buffer: canonical, which is this library's own form and not
+-- that of DNSSEC, or uncompressed with case preserved.
 use Rattle.std.specs.Prelude.{◌≡◌, ℕ, ◌+◌, ◌≤◌, Bool, true, false, List, [], ◌∷◌, ◌++◌, length, take, drop, map}
 use Rattle.std.specs.Char.{to_ascii_lowercase}
 use Rattle.dns_fields.specs.declared.Kind.{Kind}
