@@ -12,7 +12,8 @@
  *    octets that the data and the pointers of its names lead to are looked at.
  *  - Calls allocate by malloc, and free everything before they return. If malloc fails, the call returns DNS_RDATA_MEMORY, or
  *    its usual result if it can do without that memory. Calls that never allocate say so.
- *  - Calls keep no state: threads may call at the same time. Not for signal handlers.
+ *  - Calls keep no state: threads may call at the same time. Not for signal handlers. A stack of 24 KiB is enough, and of 96 KiB
+ *    for OPT of more than 8,195 octets.
  *  - The answer is a status, DNS_RDATA_OK or why not. From DNS_RDATA_REFUSED on, the octets are the data of no record of that
  *    type; from DNS_RDATA_NO_DATA_TEXT on, the text is of none. Neither is ever answered for octets or texts that are.
  *  - Where octets or a text do not fit into the buffer the answer is DNS_RDATA_BUFFER, and *count tells how many octets they
@@ -102,8 +103,8 @@ struct dns_rdata_refusal {
 
 /*
  * Checks whether the `length` octets at `place` of the message are the RDATA of a record of this type. Returns DNS_RDATA_OK exactly
- * if they are, unless memory runs out. Otherwise it returns the first reason why they are not and sets *why to the numbers of that
- * reason. DNS_RDATA_OK leaves *why as it was.
+ * if they are. Otherwise it returns the first reason why they are not and sets *why to the numbers of that reason. DNS_RDATA_OK
+ * leaves *why as it was. Does not allocate.
  *
  * The number of octets is tested before the record's own error, so damaged RDATA mostly gives DNS_RDATA_LENGTH. why->cause is the
  * record's own error: the status that would be returned if the number of octets were not tested. why->offset is where in the
@@ -119,7 +120,7 @@ struct dns_rdata_refusal {
  * With DNS_RDATA_LENGTH because of the number of octets, why->read is why->offset - place and why->len is `length`. If a part inside
  * RDATA of the right length has a wrong length, they are those of the part, and the cause is DNS_RDATA_LENGTH as well. With every
  * other status the cause is the status. If `place` is past the end of the message, nothing is read: the status and the cause are
- * DNS_RDATA_MISSING_OCTETS, and the offset is `place`. With DNS_RDATA_MEMORY the cause is DNS_RDATA_MEMORY, and all else is 0.
+ * DNS_RDATA_MISSING_OCTETS, and the offset is `place`.
  */
 DNS_RDATA_NONNULL dns_rdata_status dns_rdata_check(const uint8_t *message, size_t message_length, size_t place,
                                                    uint16_t length, uint16_t type, struct dns_rdata_refusal *why);
@@ -129,7 +130,7 @@ DNS_RDATA_NONNULL dns_rdata_status dns_rdata_check(const uint8_t *message, size_
  * and lowercased (those of SVCB, HTTPS and ANAME, too), the options of OPT are sorted, and the bitmap of CSYNC is minimal. RDATA of
  * one type is equal exactly if its canonical octets are the same, so they are a key: compare them with dns_rdata_compare_canonical,
  * and hash them with any hash. Read again (place 0, length *count) they give equal RDATA. With DNS_RDATA_BUFFER and
- * DNS_RDATA_TOO_LONG the buffer may hold anything.
+ * DNS_RDATA_TOO_LONG the buffer holds as many of them as fit. Does not allocate.
  *
  * NOT for DNSSEC: this is not the canonical form of RFC 4034, section 6.2. To sign or to validate, start from dns_rdata_wire and
  * lowercase the names of those types alone that RFC 4034 and RFC 6840, section 5.1, list.
@@ -140,7 +141,7 @@ DNS_RDATA_NONNULL dns_rdata_status dns_rdata_canonical(const uint8_t *message, s
 
 /*
  * Writes the uncompressed octets of the RDATA, names with their case preserved. They mean the same in every message, and a DNSSEC
- * signer or validator starts from them. The buffer is written with DNS_RDATA_OK alone.
+ * signer or validator starts from them. The buffer is written with DNS_RDATA_OK alone. Does not allocate.
  */
 DNS_RDATA_NONNULL dns_rdata_status dns_rdata_wire(const uint8_t *message, size_t message_length, size_t place,
                                                   uint16_t length, uint16_t type, uint8_t *out, size_t out_length,
@@ -150,7 +151,7 @@ DNS_RDATA_NONNULL dns_rdata_status dns_rdata_wire(const uint8_t *message, size_t
  * Writes one of the names in the RDATA, uncompressed and with its case preserved, and sets *begin to the offset of the name in the
  * message, where it may end with a compression pointer. Names are counted from 0 in the order of the fields: SOA has two, and the
  * other types have one or none. If there is no name with this index it returns DNS_RDATA_ABSENT. The buffer is written with DNS_RDATA_OK alone,
- * and *begin is set if *count is; 255 octets hold any name. Each call reads all of the RDATA.
+ * and *begin is set if *count is; 255 octets hold any name. Each call checks all of the RDATA. Does not allocate.
  */
 DNS_RDATA_NONNULL dns_rdata_status dns_rdata_name(const uint8_t *message, size_t message_length, size_t place,
                                                   uint16_t length, uint16_t type, size_t index, uint8_t *out,
@@ -209,7 +210,7 @@ DNS_RDATA_NONNULL dns_rdata_status dns_rdata_parts_next(const uint8_t *message, 
 /*
  * The order of the data of two records of one type, in two messages (or in one, twice): *order is -1, 0 or 1, the order of
  * their canonical octets. It is set with DNS_RDATA_OK alone. For sorting, take canonical octets once and sort those: this
- * call reads both values each time, and may need memory.
+ * call checks both RDATA each time. Does not allocate.
  */
 DNS_RDATA_NONNULL dns_rdata_status dns_rdata_compare(const uint8_t *message, size_t message_length, size_t place,
                                                      uint16_t length, const uint8_t *other, size_t other_message_length,
@@ -218,7 +219,7 @@ DNS_RDATA_NONNULL dns_rdata_status dns_rdata_compare(const uint8_t *message, siz
 
 /*
  * Whether the data of two records of one type, in two messages (or in one, twice), is equal: *equal is 1 where their
- * canonical octets are the same, and 0 otherwise. It is set with DNS_RDATA_OK alone.
+ * canonical octets are the same, and 0 otherwise. It is set with DNS_RDATA_OK alone. Does not allocate.
  */
 DNS_RDATA_NONNULL dns_rdata_status dns_rdata_equal(const uint8_t *message, size_t message_length, size_t place,
                                                    uint16_t length, const uint8_t *other, size_t other_message_length,

@@ -1,6 +1,6 @@
 /*
- * Four threads on small stacks make every call side by side, and each finds as much data as it would alone. RDATA of thousands of
- * options in no order needs no more stack.
+ * Four threads on small stacks make every call side by side, and each finds as much data as it would alone. RDATA of 2,048 options
+ * in no order needs no more stack. Four threads on larger stacks do the same with OPT of 65,532 octets.
  */
 #include "dns_rdata.h"
 
@@ -8,7 +8,7 @@
 #include <stdio.h>
 #include <string.h>
 
-enum { THREADS = 4, ROUNDS = 5000, STACK = 24 * 1024, SIZE = 60 };
+enum { THREADS = 4, ROUNDS = 5000, STACK = 24 * 1024, LARGE_STACK = 96 * 1024, SIZE = 60 };
 
 static const uint16_t types[] = {1, 5, 6, 13, 15, 16, 28, 33, 35, 37, 41, 62, 64, 65, 257};
 
@@ -67,7 +67,7 @@ static unsigned long many(const uint8_t *one, const uint8_t *other, uint16_t len
 static void *run(void *given) {
     struct work *work = (struct work *)given;
     uint8_t message[SIZE];
-    work->good += many(few[0], few[1], sizeof few[0], work->out) + many(most[0], most[1], sizeof most[0], work->out);
+    work->good += many(few[0], few[1], sizeof few[0], work->out);
     for (int round = 0; round < ROUNDS; round++) {
         for (int i = 0; i < SIZE; i++) {
             work->seed = work->seed * 6364136223846793005u + 1442695040888963407u;
@@ -80,29 +80,41 @@ static void *run(void *given) {
     return NULL;
 }
 
-int main(void) {
+static void *run_most(void *given) {
+    struct work *work = (struct work *)given;
+    work->good += many(most[0], most[1], sizeof most[0], work->out);
+    return NULL;
+}
+
+/* Four threads on stacks of this size, and each alone: 1 if one finds another number of results that are as wanted, else 0. */
+static int side_by_side(void *(*what)(void *), size_t stack) {
     static struct work works[THREADS], alone[THREADS];
     pthread_t threads[THREADS];
     pthread_attr_t attributes;
-    for (int turned = 0; turned < 2; turned++) {
-        fill(few[turned], FEW, turned);
-        fill(most[turned], MOST, turned);
-    }
     pthread_attr_init(&attributes);
-    if (pthread_attr_setstacksize(&attributes, STACK) != 0)
-        return 2;
+    if (pthread_attr_setstacksize(&attributes, stack) != 0)
+        return 1;
     for (int i = 0; i < THREADS; i++) {
         works[i].seed = alone[i].seed = (uint64_t)i + 1;
         works[i].good = alone[i].good = 0;
-        if (pthread_create(&threads[i], &attributes, run, &works[i]) != 0)
-            return 2;
+        if (pthread_create(&threads[i], &attributes, what, &works[i]) != 0)
+            return 1;
     }
     int failed = 0;
     for (int i = 0; i < THREADS; i++) {
         pthread_join(threads[i], NULL);
-        run(&alone[i]);
+        what(&alone[i]);
         printf("%lu calls are as wanted, %lu alone\n", works[i].good, alone[i].good);
-        failed |= works[i].good != alone[i].good;
+        failed |= works[i].good != alone[i].good || works[i].good == 0;
     }
     return failed;
+}
+
+int main(void) {
+    for (int turned = 0; turned < 2; turned++) {
+        fill(few[turned], FEW, turned);
+        fill(most[turned], MOST, turned);
+    }
+    int failed = side_by_side(run, STACK);
+    return side_by_side(run_most, LARGE_STACK) | failed;
 }

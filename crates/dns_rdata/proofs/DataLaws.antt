@@ -72,7 +72,7 @@ equal_same t v w m p n m' p' n' f g =
 octets_fit : (kinds : List Kind) (vs : Values kinds) → AllFit kinds vs → octets_of (record { kinds = kinds; values = vs }) ≡ canonical kinds vs
 octets_fit kinds vs h = rw (all_fit_emittable kinds vs h) refl
 
-filled_octets : {m : List ℕ} {p n : ℕ} {t : RecordType} {v : RData} (f : Fills m p n t v) → data_octets v ≡ canonical (shape t) f.values
+pub filled_octets : {m : List ℕ} {p n : ℕ} {t : RecordType} {v : RData} (f : Fills m p n t v) → data_octets v ≡ canonical (shape t) f.values
 filled_octets {m} {p} {n} {t} f = ap octets_of f.value.fields ∙ octets_fit (shape t) f.values (stands_fit m p (shape t) f.values (p + n) f.region.stands)
 
 pub fills_emittable : {m : List ℕ} {p n : ℕ} {t : RecordType} {v : RData} → Fills m p n t v → IsEmittable v

@@ -8,7 +8,7 @@ use Rattle.dns_types.specs.{declared.error.DecodeError.DecodeError, declared.rec
 use Rattle.dns_types.specs.declared.error.DecodeError.TheVariants as decode
 use Rattle.dns_types.specs.declared.record_type.RecordType.TheVariants as types
 use Rattle.dns_names_wire.specs.State.{Reading}
-use Rattle.dns_names_wire.specs.Terms.{StaysBehind, UnlessMemory, NoRegion, Took, TookRegion, RefusedRegion, ReadsIf, ReadsRegion}
+use Rattle.dns_names_wire.specs.Terms.{StaysBehind, UnlessMemory, NoRegion, TookRegion, RefusedRegion, ReadsIf, ReadsRegion}
 use Rattle.dns_names_wire.proofs.FieldReads.{stays, unless_all, unless_map}
 use Rattle.dns_rdata_base.specs.{declared.null.NULL.NULL, Counted.by_length}
 use Rattle.dns_rdata_options.proofs.OptionErrors.{opt_never}

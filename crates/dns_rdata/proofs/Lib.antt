@@ -12,3 +12,6 @@ pub mod RowErrors
 pub mod ListErrors
 pub mod OptionErrors
 pub mod Views
+pub mod OrderKeys
+pub mod ViewLists
+pub mod ViewFields

@@ -1,8 +1,8 @@
 -- Why the rows of CAA, CSYNC and SVCB are rejected is why these records are.
-use Rattle.std.proofs.Common.{◌≡◌, ℕ, ◌+◌, ◌-◌, ◌<◌, ◌≤◌, ◌⊎◌, inl, inr, List, [], ◌∷◌, refl, sym, arith, ap, ◌∙◌, length, subst}
+use Rattle.std.proofs.Common.{◌≡◌, ℕ, ◌+◌, ◌-◌, inl, inr, List, [], ◌∷◌, refl, sym, arith, ap, ◌∙◌, length, subst}
 use Rattle.dns_types.specs.declared.error.DecodeError.{DecodeError}
 use Rattle.dns_types.specs.declared.error.DecodeError.TheVariants as decode
-use Rattle.dns_fields.specs.declared.Kind.TheVariants.{Number, Name, CharacterString, Rest, Bitmap}
+use Rattle.dns_fields.specs.declared.Kind.TheVariants.{Number, Name, CharacterString}
 use Rattle.dns_fields.proofs.FieldLaws.{field_inside}
 use Rattle.dns_names_wire.specs.{State.Reading, Terms.Took, Terms.TookField}
 use Rattle.dns_names_wire.proofs.FieldReads.{took_last, took_then, took_number}
@@ -10,7 +10,7 @@ use Rattle.dns_rdata_base.specs.FieldErrors.{FirstLack}
 use Rattle.dns_rdata_caa_csync.specs as caa_csync
 use Rattle.dns_rdata_service.specs as service
 use Rattle.dns_rows.specs.declared.row.TheConstants as rows
-use Rattle.dns_view.specs.{Tags.IsTagError, Parts.EndFault, Parameters.LacksHead, Parameters.IsParameterError, Parameters.IsParametersError, Values.IsFormError, Values.IsKeyError}
+use Rattle.dns_view.specs.{Tags.IsTagError, Parameters.LacksHead, Parameters.IsParameterError, Parameters.IsParametersError, Values.IsFormError, Values.IsKeyError}
 use Rattle.dns_fields.specs.Bitmaps.{BitmapAt}
 use Rattle.dns_fields.specs.Tlvs.{form_for, ParameterForm, ParameterForm.Keys, ParameterForm.Names, ParameterForm.Nothing, ParameterForm.PortNumber}
 use Rattle.dns_fields.specs.Tlvs.{ParameterForm.Addresses4, ParameterForm.Addresses16, ParameterForm.AnyOctets}

@@ -1,17 +1,17 @@
 -- Why a row is rejected is why its record is.
-use Rattle.std.proofs.Common.{◌≡◌, ℕ, zero, suc, ◌+◌, ◌-◌, ◌/◌, ◌*◌, ◌<◌, ◌≤◌, ◌⊎◌, inl, inr, List, [], ◌∷◌, refl, arith, ap, ◌∙◌, length, subst, sym}
+use Rattle.std.proofs.Common.{◌≡◌, ℕ, zero, suc, ◌+◌, ◌≤◌, inl, inr, List, [], ◌∷◌, refl, arith, ap, ◌∙◌, length}
 use Rattle.dns_types.specs.declared.error.DecodeError.{DecodeError}
 use Rattle.dns_types.specs.declared.error.DecodeError.TheVariants as decode
 use Rattle.dns_fields.specs.declared.Kind.{Kind}
 use Rattle.dns_fields.specs.declared.Kind.TheVariants.{Number, Octets, Name, CharacterString, CharacterStrings, Rest, Options, Parameters, Bitmap}
 use Rattle.dns_fields.proofs.FieldLaws.{field_inside}
-use Rattle.dns_names_wire.specs.{State.Reading, Terms.Took}
+use Rattle.dns_names_wire.specs.{State.Reading}
 use Rattle.dns_names_wire.proofs.FieldReads.{took_last, took_then, took_number}
 use Rattle.dns_rdata_base.specs.FieldErrors.{FirstLack, IsLack}
 use Rattle.dns_rdata_base.specs as base
 use Rattle.dns_rdata_certs.specs as certs
 use Rattle.dns_rdata_certs.specs.Rests.{IsRestError}
-use Rattle.dns_rows.specs.declared.row.{Part.Part, Rule.Rule}
+use Rattle.dns_rows.specs.declared.row.{Part.Part}
 use Rattle.dns_rows.specs.declared.row.Rule.TheVariants as rules
 use Rattle.dns_rows.specs.declared.row.TheConstants as rows
 use Rattle.dns_view.specs.Rows.{RowFault, RowError, asked_length}

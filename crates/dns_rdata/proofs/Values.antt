@@ -122,6 +122,14 @@ read_value (rdata.Update0 t) h = absurd h
 read_value (rdata.Unknown code x) h = read_unknown code x h
 read_value v h = refl
 
+pub value_for-a : (vs : Values (shape types.A)) → value_for types.A vs ≡ rdata.A (record { 0 = record { octets = vs.0 } })
+unfolding value_for
+value_for-a vs = refl
+
+pub value_for-aaaa : (vs : Values (shape types.AAAA)) → value_for types.AAAA vs ≡ rdata.AAAA (record { 0 = record { segments = segments_of vs.0 } })
+unfolding value_for
+value_for-aaaa vs = refl
+
 -- a value of these fields is the one that is made of them
 pub value_is : (t : RecordType) (vs : Values (shape t)) (v : RData) → IsValue t vs v → v ≡ value_for t vs
 unfolding from_fields

@@ -1,21 +1,18 @@
 -- RDATA that is looked at is the RDATA of a value.
-use Rattle.std.proofs.Common.{◌≡◌, ◌≢◌, ℕ, ◌+◌, ◌-◌, ◌<◌, ◌≤◌, ◌⊎◌, inl, inr, true, false, List, [], ◌∷◌, ◌++◌, length, Option, Some, None, Result, Ok, Err, refl, sym, ap, ◌∙◌, arith, subst}
-use Rattle.std.specs.Result.{IfOk, IfErr}
-use Rattle.std.specs.Prelude.{IfSome, IfNone}
+use Rattle.std.proofs.Common.{◌≡◌, ◌≢◌, ℕ, ◌+◌, ◌-◌, ◌<◌, ◌≤◌, inl, inr, true, false, List, [], ◌∷◌, ◌++◌, length, Result, Ok, Err, ⊎_elim, refl, sym, ap, ◌∙◌, arith, subst}
+use Rattle.std.specs.{Result.IfOk, Result.IfErr, Result.OnOk, Cmp.Lexicographic.slice_cmp, Ordering.nat_cmp, Ordering.is_eq, declared.cmp.Ordering.Ordering}
 use Rattle.dns_types.specs.{declared.error.DecodeError.DecodeError, declared.record_type.RecordType.RecordType}
 use Rattle.dns_types.specs.declared.error.DecodeError.TheVariants as decode
 use Rattle.dns_types.specs.declared.record_type.RecordType.TheVariants as types
-use Rattle.dns_fields.specs.Fields.{Value, Values}
+use Rattle.dns_fields.specs.Fields.{Value, Values, canonical}
 use Rattle.dns_fields.specs.declared.Kind.{Kind}
 use Rattle.dns_fields.specs.declared.Kind.TheVariants.{Number, Octets, Name, CharacterString, CharacterStrings, Rest, Options, Parameters, Bitmap}
 use Rattle.dns_fields.specs.Tlvs.{form_for, ParameterForm, Keys, Names, Nothing, PortNumber, Addresses4, Addresses16, AnyOctets}
 use Rattle.dns_names_wire.specs.{State.Reading, Terms.TookField, Terms.LacksOctets, Terms.StaysBehind}
 use Rattle.dns_names_wire.proofs.FieldReads.{unless_all}
-use Rattle.dns_rows.specs.{declared.row.Part.Part, declared.row.Rule.Rule, declared.row.Row.Row, Rules.MeetsRow}
+use Rattle.dns_rows.specs.{declared.row.Part.Part, declared.row.Rule.Rule, Rules.MeetsRow}
 use Rattle.dns_rows.specs.declared.row.Rule.TheVariants as rules
-use Rattle.dns_rows.specs.declared.row.Row.TheVariants as code
-use Rattle.dns_rows.specs.Table.{TypeRow, fields as row, unread, formatless, table, kinds_of, row_value}
-use Rattle.dns_rows.specs.declared.row.TheConstants as rows
+use Rattle.dns_rows.specs.Table.{TypeRow, fields as row, unread, formatless, table, kinds_of}
 use Rattle.dns_view.specs.{Checks.FillsRow, Checks.NoFill, Checks.IsRowError, Rows.RowFault, Rows.RowError, Rows.RowReached, Rows.SkipsRow, Rows.is_row}
 use Rattle.dns_view.specs.Parts.{Ends, KindFault, NumberFault, StringFault, EndFault, RestFault}
 use Rattle.dns_view.specs.{Tags.IsTagError, Values.IsFormError, Values.IsKeyError, Parameters.IsParametersError}
@@ -23,12 +20,17 @@ use Rattle.dns_view.specs.{Options.IsSubnetError, Options.IsTlvError, Options.Is
 use Rattle.dns_view.specs.ViewOf as row_view
 use Rattle.dns_view.specs.declared.view.RowView.{RowView}
 use Rattle.dns_rdata.specs.Views.{IsViewOf}
+use Rattle.dns_rdata.specs.{Data.data_octets, Data.type_of, Equal.equal, Equal.types_equal, Keys.variant_keys, Order.rdata_cmp, Ties.rdata_ties}
+use Rattle.dns_rdata.proofs.OrderReads.{orders_read}
+use Rattle.dns_types.proofs.RecordTypeLaws.{code_of-Decides}
+use Rattle.std.proofs.lemmas.Bool.{cases_Bool}
 use Rattle.dns_view.specs.{Putting.form_octets, Putting.all_form, Rows.HasRow}
 use Rattle.dns_rdata.specs.WholeOctets.{whole_octets, all_whole, whole_data}
 use Rattle.dns_rdata.specs.{declared.record_data.RData.RData, declared.view.RDataRef.RDataRef}
 use Rattle.dns_rdata.specs.Data.{parts_of, MeetsRule, IsNever, IsNeverRead, HasValue, NoValue, FieldsOf, Fills, shape}
-use Rattle.dns_rdata.specs.ReadErrors.{OwnError, IsReadError, Stopped, Reached, rejects_of}
-use Rattle.dns_rdata.proofs.DataLaws.{each_region}
+use Rattle.dns_rdata.specs.ReadErrors.{OwnError, OwnResult, IsReadError, Stopped, Reached, rejects_of}
+use Rattle.dns_fields.specs.Octets.{AreOctets}
+use Rattle.dns_rdata.proofs.DataLaws.{each_region, filled_octets}
 use Rattle.dns_rdata.proofs.RowErrors.{Rejects, straight_rejects, rest_rejects, a_rejects, aaaa_rejects, cert_rejects, hinfo_rejects, null_rejects}
 use Rattle.dns_rdata.proofs.{RowErrors.txt_rejects, RowErrors.naptr_rejects, ListErrors.caa_rejects, ListErrors.csync_rejects, ListErrors.svcb_rejects}
 use Rattle.dns_rdata.proofs.OptionErrors.{opt_rejects}
@@ -44,7 +46,7 @@ meets_rule (row parts) vs read h = h
 meets_rule unread vs read h = absurd (read tt)
 meets_rule formatless vs read h = tt
 
-meets_row : (r : TypeRow) (vs : Values (kinds_of (parts_of r))) → MeetsRule r vs → MeetsRow (parts_of r) vs
+pub meets_row : (r : TypeRow) (vs : Values (kinds_of (parts_of r))) → MeetsRule r vs → MeetsRow (parts_of r) vs
 meets_row (row parts) vs h = h
 meets_row unread vs h = absurd h
 meets_row formatless vs h = tt
@@ -236,25 +238,25 @@ abbrev error_of : Result (Unit {0}) DecodeError → DecodeError
 error_of (Ok x) = decode.InsufficientBytes
 error_of (Err e) = e
 
+abbrev pub RowGives : RecordType → ℕ → Result (Unit {0}) DecodeError → Reading → Reading → Type 0
+RowGives t n own old new = SkipsRow (parts_of (table t)) n own old new
+
+pub row_own : (t : RecordType) (n : ℕ) (old new : Reading) (own : Result (Unit {0}) DecodeError) → (IsNeverRead t → ⊥) → old.index ≤ length old.message
+    → RowGives t n own old new → OwnResult t n old new own
+row_own t n old new (Ok x) read inside s = record {
+  values = s.fields.values;
+  took = record { message = s.behind.message; stands = s.fields.stands };
+  holds = meets_rule (table t) s.fields.values read s.fields.meets;
+  reached = row_reached (parts_of (table t)) n old new s.reached;
+}
+row_own t n old new (Err e) read inside s = unless_all e (rejected t read n old e new inside s.error)
+
 stopped : (t : RecordType) (n : ℕ) (old new : Reading) (own : Result (Unit {0}) DecodeError) → (IsNeverRead t → ⊥) → old.index ≤ length old.message
-    → SkipsRow (parts_of (table t)) n own old new → Stopped t n old new
-stopped t n old new (Ok x) read inside s = record {
-  own = Ok x;
-  is_own = record {
-    values = s.fields.values;
-    took = record { message = s.behind.message; stands = s.fields.stands };
-    holds = meets_rule (table t) s.fields.values read s.fields.meets;
-    reached = row_reached (parts_of (table t)) n old new s.reached;
-  };
-  some = λ q. cc q;
-  read = read;
-}
-stopped t n old new (Err e) read inside s = record {
-  own = Err e;
-  is_own = unless_all e (rejected t read n old e new inside s.error);
-  some = λ q. (row_known (parts_of (table t)) n old e new s.error).0 (ap error_of q);
-  read = read;
-}
+    → RowGives t n own old new → Stopped t n old new
+stopped t n old new own read inside s = record { own = own; is_own = row_own t n old new own read inside s; some = some own s; read = read } where
+  some : (own : Result (Unit {0}) DecodeError) → RowGives t n own old new → own ≢ Err decode.Memory
+  some (Ok x) s q = cc q
+  some (Err e) s q = (row_known (parts_of (table t)) n old e new s.error).0 (ap error_of q)
 
 error_read : (t : RecordType) (n : ℕ) (old new : Reading) (e : DecodeError) → new.index ≡ old.index + n → OwnError t n old new e → Known e → IsReadError t n old new e
 error_read t n old new decode.Memory i own k = absurd (k.0 refl)
@@ -335,6 +337,40 @@ view_why t n old d walk new e parts same is read inside at w = row_why t n old n
     (subst (λ (x : Reading). IsRowError (parts_of (table t)) n old e x) (sym at)
     (subst (λ (x : List Part). IsRowError x n old e walk) is (subst (λ (x : Reading). IsRowError parts n x e walk) same w)))
 
+-- ---- the record's own result
+
+-- where the walk is
+pub walked : (parts : List Part) (n : ℕ) (own : Result (Unit {0}) DecodeError) (old new : Reading) → SkipsRow parts n own old new → StaysBehind old new
+walked parts n (Ok x) old new s = s.behind
+walked parts n (Err e) old new s = s.behind
+
+-- the same walk, by the decoder
+pub row_as : (t : RecordType) (n : ℕ) (own : Result (Unit {0}) DecodeError) (parts : List Part) (old d walk new : Reading) → d ≡ old → parts ≡ parts_of (table t)
+    → new ≡ walk → SkipsRow parts n own d walk → RowGives t n own old new
+row_as t n own parts old d walk new same is at s =
+    subst (λ (x : Reading). SkipsRow (parts_of (table t)) n own old x) (sym at)
+    (subst (λ (x : List Part). SkipsRow x n own old walk) is (subst (λ (x : Reading). SkipsRow parts n own x walk) same s))
+
+pub row_whole : (t : RecordType) (n : ℕ) (old new : Reading) (own : Result (Unit {0}) DecodeError) → (IsNeverRead t → ⊥) → AreOctets old.message → n < 65536
+    → new.index ≤ length old.message → RowGives t n own old new → OnOk own (new.index ≡ old.index + n → HasValue old.message old.index n t)
+row_whole t n old new (Ok x) read octets short within s = λ here. row_value_is old.message old.index n t read
+    (record { octets = octets; short = short; within = omega (arith, within, here); has = s.here here })
+row_whole t n old new (Err e) read octets short within s = tt
+
+pub row_elsewhere : (t : RecordType) (n : ℕ) (old new : Reading) (own : Result (Unit {0}) DecodeError) → RowGives t n own old new
+    → OnOk own (new.index ≢ old.index + n → NoValue old.message old.index n t)
+row_elsewhere t n old new (Ok x) s = λ there. row_none old.message old.index n t (record { none = λ f. (s.elsewhere there).none f.has })
+row_elsewhere t n old new (Err e) s = tt
+
+pub row_refused : (t : RecordType) (n : ℕ) (old new : Reading) (own : Result (Unit {0}) DecodeError) → RowGives t n own old new
+    → IfErr own (λ e. NoValue old.message old.index n t)
+row_refused t n old new (Ok x) s = tt
+row_refused t n old new (Err e) s = row_none old.message old.index n t (record { none = λ f. s.none.none f.has })
+
+pub row_no_memory : (t : RecordType) (n : ℕ) (old new : Reading) (own : Result (Unit {0}) DecodeError) → RowGives t n own old new → IfErr own (λ e. e ≢ decode.Memory)
+row_no_memory t n old new (Ok x) s = tt
+row_no_memory t n old new (Err e) s = (row_known (parts_of (table t)) n old e new s.error).0
+
 -- ---- octets that are written
 
 form_whole : (k : Kind) (v : Value k) → form_octets false k v ≡ whole_octets k v
@@ -346,20 +382,61 @@ forms_whole [] vs = refl
 forms_whole (k ∷ kinds) vs =
     ap (λ (o : List ℕ). o ++ all_form false kinds vs.1) (form_whole k vs.0) ∙ ap (λ (o : List ℕ). whole_octets k vs.0 ++ o) (forms_whole kinds vs.1)
 
--- whatever fields fill the row, these are their octets
-abbrev pub Writes : (List ℕ → Type 0) → List ℕ → ℕ → ℕ → List Part → Type 0
-Writes P m p n parts = (h : HasRow m p parts (p + n)) → P (all_form false (kinds_of parts) h.values)
+-- P holds of what G gives for the fields that fill the row
+abbrev pub Gives : ((kinds : List Kind) → Values kinds → List ℕ) → (List ℕ → Type 0) → List ℕ → ℕ → ℕ → List Part → Type 0
+Gives G P m p n parts = (h : HasRow m p parts (p + n)) → P (G (kinds_of parts) h.values)
 
-writes_as : (P : List ℕ → Type 0) {m l : List ℕ} {p q n k : ℕ} {parts others : List Part} → m ≡ l → p ≡ q → n ≡ k → parts ≡ others → Writes P m p n parts
-    → Writes P l q k others
-writes_as P {m} {l} {p} {q} {n} {k} {parts} {others} a b c d f =
-    subst (λ (x : List ℕ). Writes P x q k others) a
-    (subst (λ (x : ℕ). Writes P m x k others) b (subst (λ (x : ℕ). Writes P m p x others) c (subst (λ (x : List Part). Writes P m p n x) d f)))
+gives_as : (G : (kinds : List Kind) → Values kinds → List ℕ) (P : List ℕ → Type 0) {m l : List ℕ} {p q n k : ℕ} {parts others : List Part} → m ≡ l → p ≡ q → n ≡ k
+    → parts ≡ others → Gives G P m p n parts → Gives G P l q k others
+gives_as G P {m} {l} {p} {q} {n} {k} {parts} {others} a b c d f =
+    subst (λ (x : List ℕ). Gives G P x q k others) a
+    (subst (λ (x : ℕ). Gives G P m x k others) b (subst (λ (x : ℕ). Gives G P m p x others) c (subst (λ (x : List Part). Gives G P m p n x) d f)))
+
+-- of a view: P holds of what G gives for the fields of the value
+view_gives : (G : (kinds : List Kind) → Values kinds → List ℕ) (P : List ℕ → Type 0) (m : List ℕ) (p n : ℕ) (t : RecordType) (v : RData) (r : RDataRef)
+    → IsViewOf m p n t r → (f : Fills m p n t v) → Gives G P r.view.message.now r.view.offset r.view.len r.view.row.now → P (G (shape t) f.values)
+view_gives G P m p n t v r is f w = gives_as G P is.view.message is.view.offset is.view.len is.view.row w
+    (record { values = f.values; stands = f.region.stands; meets = meets_row (table t) f.values f.region.holds })
 
 pub view_writes : (P : List ℕ → Type 0) (m : List ℕ) (p n : ℕ) (t : RecordType) (v : RData) (r : RDataRef) → IsViewOf m p n t r → Fills m p n t v
-    → Writes P r.view.message.now r.view.offset r.view.len r.view.row.now → P (whole_data v)
+    → Gives (all_form false) P r.view.message.now r.view.offset r.view.len r.view.row.now → P (whole_data v)
 view_writes P m p n t v r is f w =
     let whole : all_form false (shape t) f.values ≡ whole_data v =
     forms_whole (shape t) f.values ∙ sym (ap (λ (x : FieldsOf). all_whole x.kinds x.values) f.value.fields) in
-    subst P whole (writes_as P is.view.message is.view.offset is.view.len is.view.row w
-    (record { values = f.values; stands = f.region.stands; meets = meets_row (table t) f.values f.region.holds }))
+    subst P whole (view_gives (all_form false) P m p n t v r is f w)
+
+pub view_canonical : (P : List ℕ → Type 0) (m : List ℕ) (p n : ℕ) (t : RecordType) (v : RData) (r : RDataRef) → IsViewOf m p n t r → Fills m p n t v
+    → Gives canonical P r.view.message.now r.view.offset r.view.len r.view.row.now → P (data_octets v)
+view_canonical P m p n t v r is f w = subst P (sym (filled_octets f)) (view_gives canonical P m p n t v r is f w)
+
+-- ---- two views
+
+same_rows : {l m : List ℕ} {q k p n : ℕ} {t u : RecordType} {r s : RDataRef} → IsViewOf m p n t r → IsViewOf l q k u s → t ≡ u → r.view.row.now ≡ s.view.row.now
+same_rows a b e = a.view.row ∙ ap (λ (t : RecordType). parts_of (table t)) e ∙ sym b.view.row
+
+-- views of one type compare as the values
+pub view_compared : (m l : List ℕ) (p n q k : ℕ) (t u : RecordType) (v w : RData) (r s : RDataRef) (o : Ordering) → IsViewOf m p n t r → Fills m p n t v
+    → IsViewOf l q k u s → Fills l q k u w → t ≡ u
+    → (r.view.row.now ≡ s.view.row.now → (h : HasRow r.view.message.now r.view.offset r.view.row.now (r.view.offset + r.view.len))
+    (j : HasRow s.view.message.now s.view.offset r.view.row.now (s.view.offset + s.view.len))
+    → o ≡ slice_cmp nat_cmp (canonical (kinds_of r.view.row.now) h.values) (canonical (kinds_of r.view.row.now) j.values))
+    → o ≡ rdata_cmp v w
+view_compared m l p n q k t u v w r s o a f b g e told =
+    let f' : Fills m p n u v = subst (λ (x : RecordType). Fills m p n x v) e f in
+    let rows = same_rows a b e in
+    let second : (z : List ℕ) → Gives canonical (λ x. o ≡ slice_cmp nat_cmp z x) s.view.message.now s.view.offset s.view.len s.view.row.now
+    → o ≡ slice_cmp nat_cmp z (data_octets w) = λ z. view_canonical (λ x. o ≡ slice_cmp nat_cmp z x) l q k u w s b g in
+    let both : o ≡ slice_cmp nat_cmp (data_octets v) (data_octets w) =
+    view_canonical (λ z. o ≡ slice_cmp nat_cmp z (data_octets w)) m p n t v r a f (λ h. second (canonical (kinds_of r.view.row.now) h.values)
+    (subst (λ (x : List Part). Gives canonical (λ y. o ≡ slice_cmp nat_cmp (canonical (kinds_of r.view.row.now) h.values) y) s.view.message.now s.view.offset s.view.len x)
+    rows (told rows h))) in
+    both ∙ sym (orders_read v w u m p n l q k f' g)
+
+-- values of one type that compare equal are equal, and values of two types are not
+pub view_equal : (v w : RData) (o : Ordering) → o ≡ rdata_cmp v w → is_eq o ≡ equal v w
+view_equal v w o is = ap is_eq is ∙ sym (rdata_ties v w)
+
+pub view_apart : {m l : List ℕ} {p n q k : ℕ} {t u : RecordType} (v w : RData) → Fills m p n t v → Fills l q k u w → t ≢ u → false ≡ equal v w
+view_apart v w f g ne = ⊎_elim
+    (λ (h : equal v w ≡ true). absurd (ne (sym f.value.type ∙ (code_of-Decides (type_of v) (type_of w)).0 (types_equal variant_keys v w h) ∙ g.value.type)))
+    (λ (h : equal v w ≡ false). sym h) (cases_Bool (equal v w))

@@ -6,6 +6,9 @@ use Rattle.dns_names_wire.specs.{State.Writing, Terms.Region}
 use Rattle.dns_fields.specs.{Fields.Values, Labels.DomainName}
 use Rattle.dns_rdata.specs.{declared.record_data.RData.RData, Data.shape, Data.MeetsCondition, Data.Fills, Data.data_octets, Data.type_of, Equal.equal}
 use Rattle.dns_rdata.specs.declared.record_data.RData.TheVariants as rdata
+use Rattle.dns_rdata.specs.Order.{rdata_cmp}
+use Rattle.dns_view.specs.Putting.{key_of}
+use Rattle.std.specs.declared.cmp.Ordering.TheVariants.{Less}
 
 -- octets are the RDATA of at most one value of a type
 abbrev pub OneValue : Type 0
@@ -73,3 +76,8 @@ pub record HoldsOnly {A : Type 0} (values : VariantOf A) (t : RecordType) : Type
   pub exactly : (v : RData) (x : A) → (values.borrowed v ≡ Some x) ↔ (values.wrapped x ≡ v)
   pub type : (x : A) → type_of (values.wrapped x) ≡ t
   pub no_update : (x : A) → IsUpdate (values.wrapped x) → ⊥
+
+-- Of two values of one type that were read, the one with the lesser key comes first.
+abbrev pub KeysTell : Type 0
+KeysTell = (t : RecordType) (m : List ℕ) (p n : ℕ) (l : List ℕ) (q k : ℕ) (v w : RData) → Fills m p n t v → Fills l q k t w
+    → key_of (data_octets v) < key_of (data_octets w) → rdata_cmp v w ≡ Less

@@ -12,6 +12,8 @@ pub mod ReadErrors
 pub mod Texts
 pub mod WholeOctets
 pub mod Views
+pub mod ViewLists
+pub mod ViewFields
 pub use Rattle.dns_fields.specs.Octets
 pub use Rattle.dns_fields.specs.Labels
 pub use Rattle.dns_fields.specs.Names

@@ -2,6 +2,7 @@
 
 ghost use Rattle.std.specs.Prelude.{◌≡◌, ◌↔◌, ℕ, IsTrue, [], if◌then◌else◌, slice_get};
 ghost use Rattle.dns_canonical.specs.{Steps.GivesStep};
+ghost use Rattle.dns_view.specs.Putting.{key_of};
 ghost use Rattle.dns_rdata.specs.Data.{data_octets, IsEmittable};
 ghost use Rattle.dns_rdata.specs.Cursor.{can_emit, data_left, data_windows, data_options, data_course, IsUncounted, DataAt};
 
@@ -136,6 +137,17 @@ impl RData {
             left -= 1;
         }
         None
+    }
+
+    /// The first eight canonical octets as a number, high octet first; octets that are missing are 0. Of two values of one
+    /// type that were read, the one with the lesser key comes first in `cmp`. So records are sorted by their keys, and
+    /// `cmp` is only asked where two keys are the same. Allocates nothing.
+    pub fn order_key(&self) -> u64
+        ensures { result ≡ key_of (data_octets self.now) }
+    {
+        let mut front = [0; 8];
+        let _count = self.canonical_octets().copy_to(&mut front);
+        u64::from_be_bytes(front)
     }
 }
 

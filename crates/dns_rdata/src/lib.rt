@@ -8,6 +8,7 @@ pub mod record_data;
 mod tokens;
 pub mod traits;
 pub mod view;
+pub mod view_fields;
 
 pub use canonical::CanonicalOctets;
 pub use dns_names_wire::{
@@ -26,9 +27,11 @@ pub use dns_rdata_service::{HTTPS, Items, SVCB, https, items, svcb};
 pub use dns_text::{Lexer, Token};
 pub use dns_tokens::{FromTokens, TokenList};
 pub use dns_types::Strings;
+pub use dns_view::{FieldRef, Labels, NameRef, StringsRef, Tlv, Tlvs};
 pub use record_data::RData;
 pub use traits::RecordData;
 pub use view::RDataRef;
+pub use view_fields::{Fields, Names};
 
 // Modules of records that share their file with functions for this crate alone.
 

@@ -1,18 +1,22 @@
 //! RDATA as it is encoded in a message.
 
-ghost use Rattle.std.specs.Prelude.{◌≡◌, ◌≢◌, ◌+◌, ℕ, List, take, drop, IfOk, IfErr, IfSome, IfNone, OnOk};
+ghost use Rattle.std.specs.Prelude.{◌≡◌, ◌≢◌, ◌+◌, ℕ, List, length, Some, take, drop, IfOk, IfErr, IfSome, IfNone, OnOk};
+ghost use Rattle.std.specs.{Net.Addr.ipv4_octets, Net.Addr.ipv6_octets, declared.net.ip_addr.IpAddr.TheVariants.V4, declared.net.ip_addr.IpAddr.TheVariants.V6};
 ghost use Rattle.dns_types.specs.RecordTypes.{number_of};
 ghost use Rattle.dns_rows.specs.Table.{table};
 ghost use Rattle.dns_view.specs.Rows.{is_row};
 ghost use Rattle.dns_names_wire.specs.Terms.{StaysBehind};
-ghost use Rattle.dns_rdata.specs.{Data.parts_of, Data.Fills, Data.NoValue, Data.IsNeverRead, ReadErrors.IsReadError};
+ghost use Rattle.dns_rdata.specs.{Data.parts_of, Data.Fills, Data.HasValue, Data.NoValue, Data.IsNeverRead, ReadErrors.IsReadError, ReadErrors.OwnResult};
 
 use crate::record_data::RData;
 use dns_names_wire::{BinDecoder, DecodeError, RecordType, Restrict};
 use dns_rows::row::NULL;
 use dns_rows::{Part, Row, row_of};
-use dns_view::{RowView, Walk};
+use dns_view::skip::skip_row;
+use dns_view::{FieldRef, NameRef, RowView, StringsRef, Tlvs, Walk};
 use std::alloc::{AllocError, Global};
+use std::cmp::Ordering;
+use std::net::{IpAddr, Ipv4Addr, Ipv6Addr};
 
 /// RDATA that was checked, as it is encoded in a message: the value of a record that was not built.
 ///
@@ -38,10 +42,37 @@ fn parts_of_type(record_type: RecordType) -> Option<&'static [Part]>
     }
 }
 
+// The IPv4 address of four octets.
+#[inline]
+fn ipv4_of(octets: &[u8]) -> Option<IpAddr>
+    ensures { (a : Ipv4Addr) → length octets.now ≡ 4 → octets.now ≡ ipv4_octets a → result ≡ Some (V4 a) }
+{
+    match octets.as_array::<4>() {
+        Some(octets) => Some(IpAddr::V4(Ipv4Addr::from(*octets))),
+        None => None,
+    }
+}
+
+// The IPv6 address of sixteen octets.
+#[inline]
+fn ipv6_of(octets: &[u8]) -> Option<IpAddr>
+    ensures { (a : Ipv6Addr) → length octets.now ≡ 16 → octets.now ≡ ipv6_octets a → result ≡ Some (V6 a) }
+{
+    match octets.as_array::<16>() {
+        Some(octets) => Some(IpAddr::V6(Ipv6Addr::from(*octets))),
+        None => None,
+    }
+}
+
 impl<'a> RDataRef<'a> {
     ghost use Rattle.dns_rdata.specs.Views.{IsViewOf};
-    ghost use Rattle.dns_view.specs.Putting.{Put};
-    ghost use Rattle.dns_rdata.specs.{WholeOctets.whole_data, declared.record_data.RData.RData};
+    ghost use Rattle.dns_view.specs.Putting.{Put, key_of};
+    ghost use Rattle.dns_rdata.specs.{WholeOctets.whole_data, Data.data_octets, Equal.equal, declared.record_data.RData.RData};
+    ghost use Rattle.dns_rdata.specs.Views.{ComparesAs};
+    ghost use Rattle.std.specs.Prelude.{◌≤◌, MatchOption};
+    ghost use Rattle.dns_view.specs.{Shown.ShowsAt, NameFields.names_in, NameFields.ShowsNameAt};
+    ghost use Rattle.dns_rdata.specs.{Data.fields_of, Laws.address_of, ViewLists.strings_in, ViewLists.options_in, ViewLists.parameters_in};
+    ghost use Rattle.dns_fields.specs.Tlvs.{AllHeld, OptionHeld, ParameterHeld};
 
     /// Checks that the next `length` octets are the RDATA of a record of this type. The decoder is then at their end.
     /// Allocates nothing.
@@ -79,6 +110,40 @@ impl<'a> RDataRef<'a> {
         }
     }
 
+    /// The record's own result for RDATA of this type, before its octets are counted: that of
+    /// [`RData::own_result`], but never [`Memory`](DecodeError::Memory). Allocates nothing.
+    ///
+    /// # Errors
+    ///
+    /// Those of [`RData::own_result`], and the decoder is where that leaves it.
+    pub fn own_result(
+        decoder: &mut BinDecoder<'a>,
+        record_type: RecordType,
+        length: Restrict<u16>,
+    ) -> Result<(), DecodeError>
+        // The record's own value or error, and where its reader stops.
+        ensures own { OwnResult record_type length decoder.old decoder.new result }
+        // If the reader stops at the end of the region, there is a value. If it stops elsewhere, there is none.
+        ensures whole { OnOk result (decoder.new.index ≡ decoder.old.index + length →
+            HasValue decoder.old.message decoder.old.index length record_type) }
+        ensures elsewhere { OnOk result (decoder.new.index ≢ decoder.old.index + length →
+            NoValue decoder.old.message decoder.old.index length record_type) }
+        ensures refused { IfErr result (λ e. NoValue decoder.old.message decoder.old.index length record_type) }
+        ensures allocates_nothing { IfErr result (λ e. e ≢ DecodeError.Memory) }
+        ensures never { IsNeverRead record_type → (decoder.new ≡ decoder.old)
+            × (result ≡ Err (DecodeError.UnknownRecordTypeValue (number_of record_type))) }
+        ensures behind { StaysBehind decoder.old decoder.new }
+    {
+        let start = decoder.index();
+        let Some(parts) = parts_of_type(record_type) else {
+            return Err(DecodeError::UnknownRecordTypeValue(record_type.into()));
+        };
+        let mut walk = Walk::at(decoder.message(), start);
+        let own = skip_row(&mut walk, parts, length.unverified() as usize);
+        let _taken = decoder.read_slice(walk.index() - start);
+        own
+    }
+
     /// The type of the record.
     #[inline]
     pub fn record_type(&self) -> RecordType
@@ -98,11 +163,55 @@ impl<'a> RDataRef<'a> {
     /// Writes the uncompressed octets at the front of a buffer, and returns how many they are: names uncompressed with
     /// case preserved, options in their order. They are what `emit_whole` appends for the value.
     ///
-    /// If they are more than the buffer has, its contents are not specified. Allocates nothing.
+    /// If they are more than the buffer has, as many as fit are written, and the number is still theirs. Allocates nothing.
     pub fn put_whole(&self, out: &mut [u8]) -> usize
         ensures { (m : List ℕ) (p n : ℕ) (t : RecordType) (v : RData) → IsViewOf m p n t self.now → Fills m p n t v → Put out.old out.new 0 result (whole_data v) }
     {
         self.view.put_uncompressed(out)
+    }
+
+    /// Writes the canonical octets at the front of a buffer, and returns how many they are: this library's own form for
+    /// equality, order and hashing, and not that of DNSSEC. They are those of the value
+    /// ([`RData::canonical_octets`]): names uncompressed and lowercased, options sorted.
+    ///
+    /// If they are more than the buffer has, as many as fit are written, and the number is still theirs. Allocates nothing.
+    pub fn put_canonical(&self, out: &mut [u8]) -> usize
+        ensures { (m : List ℕ) (p n : ℕ) (t : RecordType) (v : RData) → IsViewOf m p n t self.now → Fills m p n t v → Put out.old out.new 0 result (data_octets v) }
+    {
+        self.view.put_canonical(out)
+    }
+
+    /// The first eight canonical octets as a number, high octet first; octets that are missing are 0. It is
+    /// [`RData::order_key`] of the value: of two records of one type, the one with the lesser key comes first, and where
+    /// the keys are the same [`compare`](RDataRef::compare) tells. Allocates nothing.
+    pub fn order_key(&self) -> u64
+        ensures { (m : List ℕ) (p n : ℕ) (t : RecordType) (v : RData) → IsViewOf m p n t self.now → Fills m p n t v → result ≡ key_of (data_octets v) }
+    {
+        self.view.order_key()
+    }
+
+    /// Orders the RDATA of two records of one type as `cmp` orders their values: by canonical octets. `None` if the types
+    /// differ. Allocates nothing.
+    pub fn compare(&self, other: &RDataRef<'_>) -> Option<Ordering>
+        ensures { (m : List ℕ) (p n : ℕ) (t : RecordType) (v : RData) (l : List ℕ) (q k : ℕ) (u : RecordType) (w : RData) →
+            IsViewOf m p n t self.now → Fills m p n t v → IsViewOf l q k u other.now → Fills l q k u w → ComparesAs t u v w result }
+    {
+        if self.record_type == other.record_type {
+            return Some(self.view.compare(&other.view));
+        }
+        None
+    }
+
+    /// Returns whether the values of two records are equal: the types are the same, and the canonical octets. Allocates
+    /// nothing.
+    pub fn equals(&self, other: &RDataRef<'_>) -> bool
+        ensures { (m : List ℕ) (p n : ℕ) (t : RecordType) (v : RData) (l : List ℕ) (q k : ℕ) (u : RecordType) (w : RData) →
+            IsViewOf m p n t self.now → Fills m p n t v → IsViewOf l q k u other.now → Fills l q k u w → result ≡ equal v w }
+    {
+        match self.compare(other) {
+            Some(order) => order.is_eq(),
+            None => false,
+        }
     }
 
     /// Makes the value of the record. Fails only if memory runs out, for what [`RData::read`] allocates.
@@ -120,6 +229,72 @@ impl<'a> RDataRef<'a> {
         ) {
             Ok(value) => Ok(value),
             Err(_) => Err(AllocError),
+        }
+    }
+
+    /// The field of this index, or `None` if the type has fewer fields. Allocates nothing.
+    pub fn field(&self, index: usize) -> Option<FieldRef<'a>>
+        ensures { (m : List ℕ) (p n : ℕ) (t : RecordType) (v : RData) → IsViewOf m p n t self.now → Fills m p n t v →
+            MatchOption result (length (fields_of v).kinds ≤ index) (λ f. ShowsAt index (fields_of v).kinds (fields_of v).values f) }
+    {
+        self.view.field(index)
+    }
+
+    /// The name of this index among the fields that are names, or `None` if the type has fewer names. Allocates nothing.
+    ///
+    /// SOA has two names, MNAME and RNAME (RFC 1035, 3.3.13); the other types have one or none.
+    pub fn name(&self, index: usize) -> Option<NameRef<'a>>
+        ensures { (m : List ℕ) (p n : ℕ) (t : RecordType) (v : RData) → IsViewOf m p n t self.now → Fills m p n t v →
+            MatchOption result (names_in (fields_of v).kinds ≤ index)
+            (λ r. ShowsNameAt m p (fields_of v).kinds (fields_of v).values index r) }
+    {
+        self.view.name(index)
+    }
+
+    /// The character strings of TXT (RFC 1035, 3.3.14), each without its length octet. Other types have none. Allocates
+    /// nothing.
+    pub fn strings(&self) -> StringsRef<'a>
+        ensures { (m : List ℕ) (p n : ℕ) (t : RecordType) (v : RData) → IsViewOf m p n t self.now → Fills m p n t v → result ≡ strings_in v }
+    {
+        match self.record_type {
+            RecordType::TXT => StringsRef::of(self.octets()),
+            _ => StringsRef::of(&[]),
+        }
+    }
+
+    /// The options of OPT in their order (RFC 6891, 6.1.2), each with its code and its octets. Truncated options have none,
+    /// as in [`RData::read`], and other types have none. Allocates nothing.
+    pub fn options(&self) -> Tlvs<'a>
+        ensures { (m : List ℕ) (p n : ℕ) (t : RecordType) (v : RData) → IsViewOf m p n t self.now → Fills m p n t v → AllHeld OptionHeld result (options_in v) }
+    {
+        match self.record_type {
+            RecordType::OPT => Tlvs::of_options(self.octets()),
+            _ => Tlvs::of(&[]),
+        }
+    }
+
+    /// The parameters of SVCB and HTTPS in rising order (RFC 9460, 2.2), each with its key and its octets. Other types have
+    /// none. Allocates nothing.
+    pub fn params(&self) -> Tlvs<'a>
+        ensures { (m : List ℕ) (p n : ℕ) (t : RecordType) (v : RData) → IsViewOf m p n t self.now → Fills m p n t v → AllHeld ParameterHeld result (parameters_in v) }
+    {
+        match self.field(2) {
+            Some(field) => match field {
+                FieldRef::Parameters(octets) => Tlvs::of(octets),
+                _ => Tlvs::of(&[]),
+            },
+            None => Tlvs::of(&[]),
+        }
+    }
+
+    /// The address of A and AAAA, as [`RData::ip_addr`]; `None` for other types. Allocates nothing.
+    pub fn ip_addr(&self) -> Option<IpAddr>
+        ensures { (m : List ℕ) (p n : ℕ) (t : RecordType) (v : RData) → IsViewOf m p n t self.now → Fills m p n t v → result ≡ address_of v }
+    {
+        match self.record_type {
+            RecordType::A => ipv4_of(self.octets()),
+            RecordType::AAAA => ipv6_of(self.octets()),
+            _ => None,
         }
     }
 }

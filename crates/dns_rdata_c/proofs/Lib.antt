@@ -1,10 +1,6 @@
-pub mod Equalities
 pub mod Whole
-pub mod NameSpans
-pub mod LabelsWritten
-pub mod NamesPut
+pub mod ViewCalls
 pub mod Readings
-pub mod NameOffsets
 pub mod NameWalks
 pub mod TlvWalks
 pub mod Walking
@@ -13,8 +9,3 @@ pub mod PartCursor
 pub mod NamesStand
 pub mod PartTies
 pub mod ZoneReads
-pub mod Lengths
-pub mod PartOctets
-pub mod FieldOffsets
-pub mod FieldRegions
-pub mod ValueRegions

@@ -130,12 +130,6 @@ pub record HasOrder (t : RecordType) (m : List ℕ) (p n : ℕ) (m' : List ℕ) 
 abbrev pub TellsSame : List ℕ → List ℕ → ℤ → Type 0
 TellsSame a b answer = ((answer ≡ pos 1) × (a ≡ b)) ⊎ ((answer ≡ pos 0) × ¬ (a ≡ b))
 
--- of two values that were read under one type, the number tells whether their canonical octets are the same
-abbrev pub TellsEqual : RData → RData → ℤ → Type 0
-TellsEqual v w answer =
-    (t : RecordType) (m : List ℕ) (p n : ℕ) (m' : List ℕ) (p' n' : ℕ) → Fills m p n t v → Fills m' p' n' t w
-    → TellsSame (data_octets v) (data_octets w) answer
-
 -- values fill the octets in both messages, and the number tells whether their canonical octets are the same
 pub record HasEquality (t : RecordType) (m : List ℕ) (p n : ℕ) (m' : List ℕ) (p' n' : ℕ) (answer : ℤ) : Type 0 where
   pub value : RData

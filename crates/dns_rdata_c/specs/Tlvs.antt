@@ -1,6 +1,5 @@
 -- Options or parameters that follow each other: each is a number, a length and so many octets.
 use Rattle.std.specs.Prelude.{◌≡◌, ℕ, ◌+◌, ◌<◌, ◌⊎◌, List, ◌++◌, length, take, drop, Some, slice_get}
-use Rattle.std.specs.List.{AllByRecursion}
 use Rattle.dns_fields.specs.Tlvs.{Numbered, tlv, tlvs, IsTlv, AreTlvs}
 
 -- the octets begin with no such tlv
@@ -50,12 +49,3 @@ pub record IsTlvAt (s : List ℕ) (at end number begin count : ℕ) : Type 0 whe
 -- no such tlv is there, or the offsets are not in order or not in the octets
 abbrev pub LacksTlvAt : List ℕ → ℕ → ℕ → Type 0
 LacksTlvAt s at end = HasNoTlv (drop at (take end s)) ⊎ ((length s < end) ⊎ (end < at))
-
--- each tlv of this number has so many octets
-abbrev pub AreAsLong : ℕ → ℕ → List (Numbered (List ℕ)) → Type 0
-AreAsLong number count read = AllByRecursion (λ x. x.0 ≡ number → length x.1 ≡ count) read
-
--- whatever tlvs the octets are
-abbrev pub HoldAsLong : List ℕ → ℕ → ℕ → Type 0
-HoldAsLong s number count =
-    (read : List (Numbered (List ℕ))) → AreTlvs read → s ≡ tlvs read → AreAsLong number count read

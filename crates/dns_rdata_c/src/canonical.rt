@@ -5,15 +5,16 @@ ghost use Rattle.dns_types.specs.RecordTypes.{record_type_of};
 ghost use Rattle.dns_rdata.specs.{Data.NoValue, Data.data_octets, Laws.ReadsCanonical};
 ghost use Rattle.dns_rdata_c.specs.{Reading.HasData, Reading.IsRejected, Buffers.IsPut};
 
-use crate::canonical_put::put_canonical;
-use crate::reading::{octets_at, read_at};
-use crate::status::{BUFFER, MEMORY, OK, REFUSED, TOO_LONG};
+use crate::putting::told;
+use crate::reading::view_at;
+use crate::status::{BUFFER, OK, REFUSED, TOO_LONG};
 use std::alloc::Global;
 
 /// Puts the canonical octets of the RDATA into a buffer, and sets `count` to their number. They are this library's own form, for
 /// equality, order and hashing: names uncompressed and lowercased (of SVCB, HTTPS and ANAME, too), the options of OPT sorted, the
 /// bitmap of CSYNC minimal. Values of one type are equal exactly if these octets are the same, and are ordered as they are. They are
-/// not for DNSSEC: a signer starts from `dns_rdata_wire`. With `BUFFER` and `TOO_LONG` the buffer may hold anything.
+/// not for DNSSEC: a signer starts from `dns_rdata_wire`. With `BUFFER` and `TOO_LONG` the buffer holds as many as fit.
+/// Allocates nothing.
 #[unsafe(no_mangle)]
 pub extern "C" fn dns_rdata_canonical(
     alloc: Global,
@@ -31,15 +32,12 @@ pub extern "C" fn dns_rdata_canonical(
     ensures too_long { result ≡ TOO_LONG → HasData message.now offset length (record_type_of type_number) (λ v. 65535 < size (data_octets v)) }
     ensures refused { REFUSED ≤ result → NoValue message.now offset length (record_type_of type_number) }
     ensures cause { REFUSED ≤ result → IsRejected message.now offset length (record_type_of type_number) result }
-    ensures status { (result ≡ OK) ⊎ (result ≡ MEMORY) ⊎ (result ≡ BUFFER) ⊎ (result ≡ TOO_LONG) ⊎ (REFUSED ≤ result) }
+    ensures status { (result ≡ OK) ⊎ (result ≡ BUFFER) ⊎ (result ≡ TOO_LONG) ⊎ (REFUSED ≤ result) }
     ensures kept { result ≢ OK → result ≢ BUFFER → result ≢ TOO_LONG → out.new ≡ out.old }
     ensures untold { result ≢ OK → result ≢ BUFFER → count.new ≡ count.old }
 {
-    match read_at(alloc, message, offset, length, type_number) {
+    match view_at(alloc, message, offset, length, type_number) {
         Err(status) => status,
-        Ok(value) => {
-            let octets = octets_at(message, offset, length);
-            put_canonical(alloc, octets, &value, out, count)
-        }
+        Ok(data) => told(data.put_canonical(out), out.len(), count),
     }
 }

@@ -2,13 +2,12 @@
 
 ghost use Rattle.std.specs.Prelude.{◌≡◌, ◌≢◌, ◌≤◌, ◌⊎◌, IfErr, OnOk};
 ghost use Rattle.dns_types.specs.RecordTypes.{record_type_of};
-ghost use Rattle.dns_names_wire.specs.Terms.{UnlessMemory};
 ghost use Rattle.dns_rdata.specs.Data.{HasValue, NoValue};
 ghost use Rattle.dns_rdata_c.specs.{Reading.HasData, Reading.IsCauseAt, Calls.IsWhy, Calls.numbers_of};
 ghost use Rattle.dns_rdata_c.specs.Calls.{own_number, own_status};
 
-use crate::status::{MEMORY, OK, REFUSED, status_of};
-use dns_rdata::{BinDecoder, DecodeError, RData, RecordType, Restrict};
+use crate::status::{OK, REFUSED, status_of};
+use dns_rdata::{BinDecoder, DecodeError, RDataRef, RecordType, Restrict};
 use dns_rdata_base::counted::by_length;
 use std::alloc::Global;
 
@@ -80,7 +79,7 @@ fn status_in(own: Result<(), DecodeError>) -> u32
     }
 }
 
-// Reads the octets as RDATA of the type and keeps no value.
+// Checks the octets as RDATA of the type. Allocates nothing.
 fn check_at(
     alloc: Global,
     message: &[u8],
@@ -89,7 +88,8 @@ fn check_at(
     record_type: RecordType,
 ) -> Result<(), Cause>
     ensures found { OnOk result (HasValue message.now start length record_type) }
-    ensures refused { IfErr result (λ c. UnlessMemory c.error (NoValue message.now start length record_type)) }
+    ensures refused { IfErr result (λ c. NoValue message.now start length record_type) }
+    ensures allocates_nothing { IfErr result (λ c. c.error ≢ DecodeError.Memory) }
     ensures cause { IfErr result (λ c. IsCauseAt message.now start length record_type c.error c.own c.offset) }
 {
     let Ok(mut decoder) = BinDecoder::at(alloc, message, start) else {
@@ -101,7 +101,7 @@ fn check_at(
         });
     };
     let length = Restrict::new(length);
-    let own = RData::own_result(&mut decoder, record_type, length);
+    let own = RDataRef::own_result(&mut decoder, record_type, length);
     let offset = decoder.index();
     match by_length(own, &decoder, start, length) {
         Ok(()) => Ok(()),
@@ -111,6 +111,7 @@ fn check_at(
 
 /// Tells whether the `length` octets from an offset of the message are RDATA of a record of the type of this number, and,
 /// if they are not, the first reason with its numbers, the record's own error, and the offset where reading stopped.
+/// Allocates nothing.
 #[unsafe(no_mangle)]
 pub extern "C" fn dns_rdata_check(
     alloc: Global,
@@ -125,7 +126,7 @@ pub extern "C" fn dns_rdata_check(
     // None does.
     ensures refused { REFUSED ≤ result → NoValue message.now offset length (record_type_of type_number) }
     ensures why { result ≢ OK → IsWhy message.now offset length (record_type_of type_number) result why.new }
-    ensures status { (result ≡ OK) ⊎ (result ≡ MEMORY) ⊎ (REFUSED ≤ result) }
+    ensures status { (result ≡ OK) ⊎ (REFUSED ≤ result) }
     ensures untold { result ≡ OK → why.new ≡ why.old }
 {
     match check_at(

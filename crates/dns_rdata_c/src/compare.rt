@@ -1,14 +1,15 @@
 //! The order of record data, and whether it is equal.
 
-ghost use Rattle.std.specs.Prelude.{◌≡◌, ◌≢◌, ◌≤◌, ◌⊎◌};
+ghost use Rattle.std.specs.Prelude.{◌≡◌, ◌≢◌, ◌≤◌, ◌⊎◌, ℕ, List};
 ghost use Rattle.dns_types.specs.RecordTypes.{record_type_of};
-ghost use Rattle.dns_rdata.specs.Data.{NoValue};
+ghost use Rattle.dns_types.specs.declared.record_type.RecordType.{RecordType};
+ghost use Rattle.dns_rdata.specs.{Data.NoValue, Views.IsViewOf};
 ghost use Rattle.dns_rdata_c.specs.Reading.{IsRejected};
-ghost use Rattle.dns_rdata_c.specs.Calls.{HasOrder, HasEquality, TellsEqual, order_number, octets_order};
+ghost use Rattle.dns_rdata_c.specs.Calls.{HasOrder, HasEquality, order_number, octets_order};
 
-use crate::reading::read_at;
-use crate::status::{MEMORY, OK, REFUSED};
-use dns_rdata::RData;
+use crate::reading::view_at;
+use crate::status::{OK, REFUSED};
+use dns_rdata::RDataRef;
 use std::alloc::Global;
 use std::cmp::Ordering;
 
@@ -23,7 +24,19 @@ fn number_of(order: Ordering) -> i32
     }
 }
 
-/// Tells the order of the data of two records of one type, in two messages: -1, 0 or 1, by their canonical octets.
+// The order of two records of one type.
+fn order_of(view: &RDataRef<'_>, other: &RDataRef<'_>) -> Ordering
+    ensures { (t : RecordType) (m : List ℕ) (p n : ℕ) (l : List ℕ) (q k : ℕ) → IsViewOf m p n t view.now → IsViewOf l q k t other.now →
+        HasOrder t m p n l q k (order_number result) }
+{
+    match view.compare(other) {
+        Some(order) => order,
+        None => Ordering::Equal,
+    }
+}
+
+/// Tells the order of the data of two records of one type, in two messages: -1, 0 or 1, by their canonical octets. Allocates
+/// nothing.
 #[unsafe(no_mangle)]
 pub extern "C" fn dns_rdata_compare(
     alloc: Global,
@@ -41,31 +54,32 @@ pub extern "C" fn dns_rdata_compare(
         ⊎ NoValue other.now other_offset other_length (record_type_of type_number) }
     ensures cause { REFUSED ≤ result → IsRejected message.now offset length (record_type_of type_number) result
         ⊎ IsRejected other.now other_offset other_length (record_type_of type_number) result }
-    ensures status { (result ≡ OK) ⊎ (result ≡ MEMORY) ⊎ (REFUSED ≤ result) }
+    ensures status { (result ≡ OK) ⊎ (REFUSED ≤ result) }
     ensures untold { result ≢ OK → order.new ≡ order.old }
 {
-    let value = match read_at(alloc, message, offset, length, type_number) {
-        Ok(value) => value,
+    let data = match view_at(alloc, message, offset, length, type_number) {
+        Ok(data) => data,
         Err(status) => return status,
     };
-    match read_at(alloc, other, other_offset, other_length, type_number) {
+    match view_at(alloc, other, other_offset, other_length, type_number) {
         Err(status) => status,
         Ok(other) => {
-            *order = number_of(value.cmp(&other));
+            *order = number_of(order_of(&data, &other));
             OK
         }
     }
 }
 
-// Whether two values are equal: 1 or 0.
-fn equality_of(value: &RData, other: &RData) -> i32
-    ensures { TellsEqual value.now other.now result }
+// Whether the values of two records of one type are equal: 1 or 0.
+fn equality_of(view: &RDataRef<'_>, other: &RDataRef<'_>) -> i32
+    ensures { (t : RecordType) (m : List ℕ) (p n : ℕ) (l : List ℕ) (q k : ℕ) → IsViewOf m p n t view.now → IsViewOf l q k t other.now →
+        HasEquality t m p n l q k result }
 {
-    if value == other { 1 } else { 0 }
+    if view.equals(other) { 1 } else { 0 }
 }
 
 /// Tells whether the data of two records of one type, in two messages, is equal: 1 where their canonical octets are the same,
-/// and 0 otherwise.
+/// and 0 otherwise. Allocates nothing.
 #[unsafe(no_mangle)]
 pub extern "C" fn dns_rdata_equal(
     alloc: Global,
@@ -83,17 +97,17 @@ pub extern "C" fn dns_rdata_equal(
         ⊎ NoValue other.now other_offset other_length (record_type_of type_number) }
     ensures cause { REFUSED ≤ result → IsRejected message.now offset length (record_type_of type_number) result
         ⊎ IsRejected other.now other_offset other_length (record_type_of type_number) result }
-    ensures status { (result ≡ OK) ⊎ (result ≡ MEMORY) ⊎ (REFUSED ≤ result) }
+    ensures status { (result ≡ OK) ⊎ (REFUSED ≤ result) }
     ensures untold { result ≢ OK → equal.new ≡ equal.old }
 {
-    let value = match read_at(alloc, message, offset, length, type_number) {
-        Ok(value) => value,
+    let data = match view_at(alloc, message, offset, length, type_number) {
+        Ok(data) => data,
         Err(status) => return status,
     };
-    match read_at(alloc, other, other_offset, other_length, type_number) {
+    match view_at(alloc, other, other_offset, other_length, type_number) {
         Err(status) => status,
         Ok(other) => {
-            *equal = equality_of(&value, &other);
+            *equal = equality_of(&data, &other);
             OK
         }
     }

@@ -1,11 +1,11 @@
 //! The uncompressed octets of a value, case preserved.
 
 ghost use Rattle.std.specs.Prelude.{◌≡◌, [], IfErr, OnOk, IfOk};
-ghost use Rattle.dns_rdata.specs.WholeOctets.{name_octets, whole_data};
+ghost use Rattle.dns_rdata.specs.WholeOctets.{whole_data};
 ghost use Rattle.dns_rdata_c.specs.Calls.{IsUnwritten, IsWire, IsUnmade};
 
 use crate::status::{MEMORY, TOO_LONG, UNFIT};
-use dns_rdata::{BinEncodable, BinEncoder, Name, ProtoError, RData, RDataEncoding};
+use dns_rdata::{BinEncoder, ProtoError, RData};
 use std::alloc::Global;
 
 // The greatest RDLENGTH (RFC 1035, section 3.2.1).
@@ -48,29 +48,4 @@ pub fn whole_octets(alloc: Global, value: &RData) -> Result<Vec<u8>, u32>
         Err(ProtoError::MaxBufferSizeExceeded) => Err(TOO_LONG),
         Err(_) => Err(UNFIT),
     }
-}
-
-// The most octets of a name (RFC 1035, 3.1).
-const MAX_NAME: usize = 255;
-
-// Writes the octets of a name to an empty vector.
-#[tactic(auto, using(crate::proofs::Whole::name_whole))]
-fn emit_name(alloc: Global, octets: &mut Vec<u8>, name: &Name) -> Result<(), ProtoError>
-    requires { octets.old.items ≡ [] }
-    ensures { OnOk result (octets.new.items ≡ name_octets name.now) }
-{
-    let mut encoder = BinEncoder::new(alloc, octets);
-    encoder.with_rdata_behavior(RDataEncoding::Other);
-    let outcome = name.emit(&mut encoder);
-    let _written = encoder.into_bytes();
-    outcome
-}
-
-/// The octets of a name, uncompressed and case preserved (RFC 1035, section 3.1).
-pub fn octets_of_name(alloc: Global, name: &Name) -> Result<Vec<u8>, ProtoError>
-    ensures { IfOk result (λ octets. octets.items ≡ name_octets name.now) }
-{
-    let mut octets = Vec::with_capacity(alloc, MAX_NAME)?;
-    emit_name(alloc, &mut octets, name)?;
-    Ok(octets)
 }

@@ -6,13 +6,10 @@
 #![tactic(auto)]
 
 pub mod canonical;
-mod canonical_put;
 pub mod check;
 pub mod compare;
 pub mod display_text;
 mod emitting;
-mod labels;
-mod lowercased;
 mod name_ends;
 pub mod names;
 pub mod parse;
@@ -25,6 +22,5 @@ pub mod status;
 pub mod text;
 mod tlvs;
 pub mod types;
-mod uncompressed;
 mod values;
 pub mod wire;

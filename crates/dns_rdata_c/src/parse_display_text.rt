@@ -9,10 +9,10 @@ ghost use Rattle.dns_rdata_c.specs.Calls.{HasTextData, IsNoOrigin, IsRefusedText
 
 use crate::emitting::whole_octets;
 use crate::putting::put_octets;
-use crate::reading::decode_at;
+use crate::reading::view_at;
 use crate::status::{BUFFER, MEMORY, NO_DATA_TEXT, NOT_UTF8, OK, ORIGIN, TOO_LONG, UNFIT, UNREAD};
 use crate::values::{origin_of, read_text};
-use dns_rdata::{DecodeError, RData, RecordType};
+use dns_rdata::{RData, RecordType};
 use std::alloc::Global;
 
 // Whether octets are RDATA of the type of this number.
@@ -20,13 +20,11 @@ fn reads_again(alloc: Global, octets: &[u8], type_number: u16) -> u32
     requires { size octets.now < 65536 }
     ensures ok { result ≡ OK → HasData octets.now 0 (size octets.now) (record_type_of type_number) (λ _. Unit {0}) }
     ensures unread { result ≡ UNREAD → NoValue octets.now 0 (size octets.now) (record_type_of type_number) }
-    ensures status { (result ≡ OK) ⊎ (result ≡ MEMORY) ⊎ (result ≡ UNREAD) }
+    ensures status { (result ≡ OK) ⊎ (result ≡ UNREAD) }
 {
-    let kind = RecordType::from(type_number);
-    match decode_at(alloc, octets, 0, octets.len() as u16, kind) {
-        Ok(_) => return OK,
-        Err(DecodeError::Memory) => return MEMORY,
-        Err(_) => return UNREAD,
+    match view_at(alloc, octets, 0, octets.len() as u16, type_number) {
+        Ok(_) => OK,
+        Err(_) => UNREAD,
     }
 }
 

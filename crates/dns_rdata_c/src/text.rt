@@ -2,39 +2,26 @@
 
 ghost use Rattle.std.specs.Prelude.{◌≡◌, ◌≢◌, ◌<◌, ◌≤◌, ◌⊎◌, length as size, IfOk, string_bytes};
 ghost use Rattle.dns_types.specs.RecordTypes.{record_type_of};
-ghost use Rattle.dns_rdata.specs.{Data.NoValue, Data.IsEmittable, WholeOctets.whole_data};
+ghost use Rattle.dns_rdata.specs.{Data.NoValue, WholeOctets.whole_data};
 ghost use Rattle.dns_rdata_zone.specs.ZoneTexts.{zone_text};
-ghost use Rattle.dns_rdata_c.specs.{Reading.HasData, Reading.IsRejected, Buffers.IsTextPut, Buffers.IsTextTooLong, NameSpans.AreOf};
+ghost use Rattle.dns_rdata_c.specs.{Reading.HasData, Reading.IsRejected, Buffers.IsTextPut, Buffers.IsTextTooLong};
 
 use crate::putting::put_text;
-use crate::reading::{octets_at, read_at};
+use crate::reading::view_at;
 use crate::status::{BUFFER, MEMORY, OK, REFUSED, TOO_LONG};
-use crate::wire::put_read;
+use crate::wire::whole_len;
 use dns_rdata::RData;
 use dns_rdata_zone::ZoneText;
 use std::alloc::{AllocError, Global};
+
+// The greatest RDLENGTH (RFC 1035, section 3.2.1).
+const MAX_OCTETS: usize = 65535;
 
 // The text of a value in a zone file.
 fn zone_text_of(alloc: Global, value: &RData) -> Result<String, AllocError>
     ensures { IfOk result (λ text. zone_text value.now ≡ string_bytes text) }
 {
     ZoneText::new(value).to_string(alloc)
-}
-
-// Whether the uncompressed RDATA of a value that was read has at most 65535 octets: OK, or the status of the error. It allocates
-// only for CSYNC, OPT, and a service binding with surplus octets in its port.
-fn fits_record(alloc: Global, octets: &[u8], value: &RData) -> u32
-    requires emittable { IsEmittable value.now }
-    requires stand { AreOf octets.now value.now }
-    requires short { size octets.now ≤ 65535 }
-    ensures ok { result ≡ OK → size (whole_data value.now) ≤ 65535 }
-    ensures too_long { result ≡ TOO_LONG → 65535 < size (whole_data value.now) }
-    ensures status { (result ≡ OK) ⊎ (result ≡ MEMORY) ⊎ (result ≡ TOO_LONG) }
-{
-    let mut room = [0; 1];
-    let mut needed = 0;
-    let status = put_read(alloc, octets, value, &mut room, &mut needed);
-    if status == BUFFER { OK } else { status }
 }
 
 // Puts the zone file text of a value into a buffer.
@@ -74,13 +61,15 @@ pub extern "C" fn dns_rdata_text(
     ensures kept { result ≢ OK → out.new ≡ out.old }
     ensures untold { result ≢ OK → result ≢ BUFFER → count.new ≡ count.old }
 {
-    let value = match read_at(alloc, message, offset, length, type_number) {
-        Ok(value) => value,
+    let data = match view_at(alloc, message, offset, length, type_number) {
+        Ok(data) => data,
         Err(status) => return status,
     };
-    let fits = fits_record(alloc, octets_at(message, offset, length), &value);
-    if fits != OK {
-        return fits;
+    if whole_len(&data) > MAX_OCTETS {
+        return TOO_LONG;
     }
-    put_zone_text(alloc, &value, out, count)
+    match data.to_rdata(alloc) {
+        Err(_) => MEMORY,
+        Ok(value) => put_zone_text(alloc, &value, out, count),
+    }
 }

@@ -4,7 +4,7 @@
 ghost use Rattle.std.specs.Prelude.{◌≡◌, ◌↔◌, ◌+◌, ◌≤◌, length as size, take, drop, MatchOption, IsTrue};
 ghost use Rattle.std.specs.Int.{bytes_high_first};
 ghost use Rattle.dns_fields.specs.Tlvs.{IsTruncated};
-ghost use Rattle.dns_rdata_c.specs.Tlvs.{HasNoTlv, IsTlvLength, AreCounted, HoldsTlvs, IsTlvOf, HoldAsLong, IsTlvAt, LacksTlvAt};
+ghost use Rattle.dns_rdata_c.specs.Tlvs.{HasNoTlv, IsTlvLength, AreCounted, HoldsTlvs, IsTlvOf, IsTlvAt, LacksTlvAt};
 
 /// A tlv: its code or key, where its octets begin, and how many they are.
 #[derive(Clone, Copy)]
@@ -50,24 +50,6 @@ pub fn count_tlvs(octets: &[u8]) -> (usize, usize)
             None => return (count, end),
             Some(length) => {
                 count += 1;
-                end += length;
-            }
-        }
-    }
-}
-
-/// Whether each tlv of this number has so many octets.
-pub fn are_as_long(octets: &[u8], number: u16, count: usize) -> bool
-    ensures { IsTrue result → HoldAsLong octets.now number count }
-{
-    let mut end = 0usize;
-    'tlvs: loop {
-        match tlv_length(octets, end) {
-            None => return true,
-            Some(length) => {
-                if number_at(octets, end) == number && length - 4 != count {
-                    return false;
-                }
                 end += length;
             }
         }

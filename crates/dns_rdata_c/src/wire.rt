@@ -1,16 +1,16 @@
 //! Uncompressed RDATA.
 
-ghost use Rattle.std.specs.Prelude.{◌≡◌, ◌≢◌, ◌<◌, ◌≤◌, ◌⊎◌, length as size};
+ghost use Rattle.std.specs.Prelude.{◌≡◌, ◌≢◌, ◌<◌, ◌≤◌, ◌⊎◌, ℕ, List, length as size};
 ghost use Rattle.dns_types.specs.RecordTypes.{record_type_of};
-ghost use Rattle.dns_rdata.specs.{Data.NoValue, Data.IsEmittable, WholeOctets.whole_data};
-ghost use Rattle.dns_rdata_c.specs.{Reading.HasData, Reading.IsRejected, Calls.PutsWire, Calls.LacksRoomForWire, NameSpans.AreOf};
+ghost use Rattle.dns_types.specs.declared.record_type.RecordType.{RecordType};
+ghost use Rattle.dns_rdata.specs.{Data.Fills, Data.NoValue, Data.IsEmittable, WholeOctets.whole_data, Views.IsViewOf};
+ghost use Rattle.dns_rdata_c.specs.{Reading.HasData, Reading.IsRejected, Buffers.Puts, Calls.PutsWire, Calls.LacksRoomForWire};
 
 use crate::emitting::whole_octets;
-use crate::putting::put_octets;
-use crate::reading::{octets_at, read_at};
+use crate::putting::{put_octets, told};
+use crate::reading::view_at;
 use crate::status::{BUFFER, MEMORY, OK, REFUSED, TOO_LONG, UNFIT};
-use crate::uncompressed::put_uncompressed;
-use dns_rdata::RData;
+use dns_rdata::{RData, RDataRef};
 use std::alloc::Global;
 
 /// Writes the uncompressed octets of a value to a buffer, and sets the count of octets.
@@ -29,33 +29,31 @@ pub fn put_wire(alloc: Global, value: &RData, out: &mut [u8], count: &mut usize)
     }
 }
 
-/// Puts the uncompressed octets of a value that was read into a buffer: those from which it was read, if they serve
-/// (`put_uncompressed`), and otherwise those that `emit_whole` appends.
-pub fn put_read(
-    alloc: Global,
-    octets: &[u8],
-    value: &RData,
-    out: &mut [u8],
-    count: &mut usize,
-) -> u32
-    requires emittable { IsEmittable value.now }
-    requires stand { AreOf octets.now value.now }
-    requires short { size octets.now ≤ 65535 }
-    ensures ok { result ≡ OK → PutsWire value.now out.old out.new count.new }
-    ensures buffer { result ≡ BUFFER → LacksRoomForWire value.now out.old out.new count.new }
-    ensures too_long { result ≡ TOO_LONG → 65535 < size (whole_data value.now) }
-    ensures status { (result ≡ OK) ⊎ (result ≡ MEMORY) ⊎ (result ≡ BUFFER) ⊎ (result ≡ TOO_LONG) }
+// Writes the uncompressed octets of RDATA to a buffer if they fit, and sets their number.
+fn put_whole(view: &RDataRef<'_>, out: &mut [u8], count: &mut usize) -> u32
+    ensures told { (m : List ℕ) (p n : ℕ) (t : RecordType) (v : RData) → IsViewOf m p n t view.now → Fills m p n t v →
+        Puts (whole_data v) out.old out.new count.old count.new result }
+    ensures status { (result ≡ OK) ⊎ (result ≡ BUFFER) ⊎ (result ≡ TOO_LONG) }
     ensures kept { result ≢ OK → out.new ≡ out.old }
     ensures untold { result ≢ OK → result ≢ BUFFER → count.new ≡ count.old }
 {
-    match put_uncompressed(octets, value, out, count) {
-        Some(status) => status,
-        None => put_wire(alloc, value, out, count),
+    let status = told(whole_len(view), out.len(), count);
+    if status != OK {
+        return status;
     }
+    let _len = view.put_whole(out);
+    OK
+}
+
+/// How many octets RDATA has with names uncompressed.
+pub fn whole_len(view: &RDataRef<'_>) -> usize
+    ensures { (m : List ℕ) (p n : ℕ) (t : RecordType) (v : RData) → IsViewOf m p n t view.now → Fills m p n t v → result ≡ size (whole_data v) }
+{
+    view.put_whole(&mut [])
 }
 
 /// Puts the uncompressed RDATA into a buffer, names with their case preserved, and sets `count` to the number of octets. These
-/// octets mean the same in every message. A DNSSEC signer or validator starts from them.
+/// octets mean the same in every message. A DNSSEC signer or validator starts from them. Allocates nothing.
 #[unsafe(no_mangle)]
 pub extern "C" fn dns_rdata_wire(
     alloc: Global,
@@ -71,15 +69,12 @@ pub extern "C" fn dns_rdata_wire(
     ensures too_long { result ≡ TOO_LONG → HasData message.now offset length (record_type_of type_number) (λ v. 65535 < size (whole_data v)) }
     ensures refused { REFUSED ≤ result → NoValue message.now offset length (record_type_of type_number) }
     ensures cause { REFUSED ≤ result → IsRejected message.now offset length (record_type_of type_number) result }
-    ensures status { (result ≡ OK) ⊎ (result ≡ MEMORY) ⊎ (result ≡ BUFFER) ⊎ (result ≡ TOO_LONG) ⊎ (REFUSED ≤ result) }
+    ensures status { (result ≡ OK) ⊎ (result ≡ BUFFER) ⊎ (result ≡ TOO_LONG) ⊎ (REFUSED ≤ result) }
     ensures kept { result ≢ OK → out.new ≡ out.old }
     ensures untold { result ≢ OK → result ≢ BUFFER → count.new ≡ count.old }
 {
-    match read_at(alloc, message, offset, length, type_number) {
+    match view_at(alloc, message, offset, length, type_number) {
         Err(status) => status,
-        Ok(value) => {
-            let octets = octets_at(message, offset, length);
-            put_read(alloc, octets, &value, out, count)
-        }
+        Ok(data) => put_whole(&data, out, count),
     }
 }

@@ -2,7 +2,7 @@
 //! values. A program does not call them.
 #![tactic(auto)]
 
-ghost use Rattle.dns_rdata.specs.Laws.{OneValue, EachRegion};
+ghost use Rattle.dns_rdata.specs.Laws.{OneValue, EachRegion, KeysTell};
 
 pub use dns_fields::{comparing_holds, fields_hold};
 pub use dns_labels::laws::{names_hold, texts_hold as name_texts_hold};
@@ -16,4 +16,10 @@ pub fn regions_hold()
     ensures one { OneValue }
     // They are the RDATA of one if the fields of the type fill them.
     ensures each { EachRegion }
+{}
+
+/// The first eight canonical octets as a number ([`order_key`](dns_rdata::RData::order_key)).
+pub fn keys_hold()
+    // Of two values of one type that were read, the one with the lesser key comes first.
+    ensures { KeysTell }
 {}

@@ -3,20 +3,17 @@ use Rattle.std.proofs.Common.{◌≡◌, ℕ, suc, ◌+◌, ◌-◌, ◌≤◌, 
 use Rattle.dns_types.specs.declared.error.DecodeError.{DecodeError}
 use Rattle.dns_fields.specs.declared.Kind.{Kind}
 use Rattle.dns_fields.specs.declared.Kind.TheVariants.{Options, Parameters, Bitmap}
-use Rattle.dns_fields.specs.{Octets.At, Tlvs.IsTruncated, Fields.IsField}
-use Rattle.std.proofs.Common.{inl, inr, ap}
-use Rattle.std.proofs.lemmas.List.{take_all}
 use Rattle.dns_fields.specs.declared.Kind.TheVariants.{Number, Octets, Name, CharacterString, CharacterStrings, Rest}
 use Rattle.dns_fields.specs.{Names.IsNameIn, Fields.Value, Fields.Field, Fields.Stands}
 use Rattle.dns_fields.proofs.FieldLaws.{field_inside, field_same, field_end}
 use Rattle.dns_names_wire.specs.{State.Reading, Terms.TookField, Terms.LacksField}
-use Rattle.dns_rows.specs.declared.row.{Part.Part}
+use Rattle.dns_rows.specs.declared.row.{Part.Part, Rule.Rule}
 use Rattle.dns_names_wire.proofs.Strings.{at_rest}
 use Rattle.dns_view.specs.declared.name_ref.NameRef.{NameRef}
 use Rattle.dns_view.specs.declared.field.FieldRef.{FieldRef}
 use Rattle.dns_view.specs.declared.field.FieldRef.TheVariants as shown
 use Rattle.dns_rows.specs.{Table.kinds_of, Rules.MeetsRow}
-use Rattle.dns_view.specs.{Parts.IsCovered, Parts.Skips, Rows.AreCovered, Rows.IsRow, Rows.HasRow, Shown.Shows, Shown.ShowsAt}
+use Rattle.dns_view.specs.{Parts.IsCovered, Parts.Skips, Parts.FieldThere, NameEnds.IsNamed, Rows.AreCovered, Rows.IsRow, Rows.HasRow, Shown.Shows, Shown.ShowsAt}
 use Rattle.dns_view.proofs.{RowLoop.behind_row, RowLoop.field_reaches, PutLoop.stood_skipped, Alone.between_is, Alone.bitmap_alone, Alone.parameters_alone}
 use Rattle.dns_view.proofs.{Alone.options_alone, Asked.asks_split}
 
@@ -194,3 +191,14 @@ no_such_field {m} {p} {row} {n} {e} {now} {next} {number} {index} d so l skips h
     skips.is.none.none w.values.0 w.stands.0 (subst (λ (t : List ℕ). Field t now.index part.kind w.values.0 w.stands.0) (sym here.same) w.stands.1)
     (asks_split part.rule part.kind w.values.0 (MeetsRow (drop (suc index) row) w.values.1) w.meets).0
     (field_reaches m part (drop (suc index) row) w.stands.0 (p + n) w.values.1 here.ordered w.stands.2)
+
+-- ---- a field that was gone over is there
+
+pub field_there : {rule : Rule} {k : Kind} {start n : ℕ} {m : List ℕ} {now next : Reading} → now.message ≡ m → Skips rule k start n (Ok tt) now next
+    → FieldThere m now.index k next.index
+field_there is s = let w = stood_skipped is s in record { value = w.value; field = w.field }
+
+pub name_there : {m : List ℕ} {p q : ℕ} {k : Kind} → k ≡ Name → FieldThere m p k q → IsNamed m p
+name_there {m} {p} {q} kind f =
+    let w = subst (λ (k : Kind). FieldThere m p k q) kind f in
+    record { name = w.value; end = q; is = w.field.is }

@@ -1,10 +1,9 @@
 -- The lowered form is the canonical one.
-use Rattle.std.proofs.Common.{◌≡◌, true, false, List, [], ◌∷◌, refl}
+use Rattle.std.proofs.Common.{◌≡◌, true, List, [], ◌∷◌, refl}
 use Rattle.dns_fields.specs.declared.Kind.{Kind}
 use Rattle.dns_fields.specs.declared.Kind.TheVariants.{Number, Octets, Name, CharacterString, CharacterStrings, Rest, Options, Parameters, Bitmap}
 use Rattle.dns_fields.specs.Fields.{Value, Values, field_octets, canonical}
-use Rattle.dns_rows.specs.declared.row.Part.{Part}
-use Rattle.dns_view.specs.Putting.{form_octets, all_form, IsPut, ArePut}
+use Rattle.dns_view.specs.Putting.{form_octets, all_form}
 
 pub form_field : (k : Kind) (v : Value k) → form_octets true k v ≡ field_octets k v
 unfolding field_octets
@@ -21,12 +20,3 @@ form_field Bitmap v = refl
 pub form_canonical : (kinds : List Kind) (vs : Values kinds) → all_form true kinds vs ≡ canonical kinds vs
 form_canonical [] vs = refl
 form_canonical (k ∷ kinds) vs = rw (form_field k vs.0, form_canonical kinds vs.1) refl
-
--- in the other form all fields can be written
-pub all_put : (row : List Part) → ArePut false row
-all_put [] = tt
-all_put (p ∷ row) = (one p.kind, all_put row)
-  where
-    one : (k : Kind) → IsPut k false
-    one Options = tt
-    one k = tt

@@ -25,4 +25,13 @@ pub mod PutWindows
 pub mod Alone
 pub mod ParameterOrder
 pub mod TlvParts
-pub mod PutOptionParts
+pub mod OptionOwn
+pub mod OptionsListed
+pub mod OptionSorts
+pub mod OrderKeys
+pub mod StringSteps
+pub mod Yielding
+pub mod TlvSteps
+pub mod LabelSteps
+pub mod NamesShown
+pub mod NameFields

@@ -6,7 +6,7 @@ use Rattle.dns_fields.specs.{Labels.DomainName, Labels.wire, Labels.lowname, Nam
 use Rattle.dns_labels.specs.{Labels.name_of, Reading.IsNameAt}
 use Rattle.dns_labels.proofs.{ReadingRuns.first_run, ReadingRuns.no_more, Found.name_found, Found.octets_found, Lowered.compared}
 use Rattle.dns_view.specs.NameEnds.{SkipsRun, IsPlainName}
-use Rattle.dns_view.proofs.{NameSteps.adds_run, Puts.run_octets}
+use Rattle.dns_view.proofs.{NameSteps.adds_run, Puts.run_octets, Puts.put_fits}
 use Rattle.dns_fields.proofs.NameLaws.{name_same}
 use Rattle.dns_view.specs.Putting.{Put, PutName, name_form}
 
@@ -21,7 +21,7 @@ pub put_front : {m : List ℕ} {p end q : ℕ} {old new : List ℕ} {behind : �
     → take behind new ≡ lowname x
 put_front {old = old} {new} {behind} x n room is =
     let w = put_same x n is in
-    ap (take behind) (w.written room) ∙ take_at (lowname x) (drop behind old) behind (omega (arith, w.ends))
+    ap (take behind) (put_fits w room) ∙ take_at (lowname x) (drop behind old) behind (omega (arith, w.ends))
 
 -- ---- names that stand whole
 

@@ -16,7 +16,7 @@ use Rattle.dns_names_wire.proofs.{FieldReads.took_number, FieldReads.stays, Stri
 use Rattle.dns_rows.specs.declared.row.Rule.{Rule}
 use Rattle.dns_rows.specs.declared.row.Rule.TheVariants as rules
 use Rattle.dns_view.specs.Parts.{IsUnasked, Skips}
-use Rattle.dns_view.specs.Options.{OptionsLeft, NoneLeft, TookTlv, TookCut, RefusedTlv, IsTlvError, HasOption, NoOption, IsSubnetError, IsNextError}
+use Rattle.dns_view.specs.Options.{OptionsLeft, NoneLeft, TookTlv, TookCut, RefusedTlv, IsTlvError, HasOption, IsSubnetError, IsNextError}
 use Rattle.dns_view.proofs.{Asked.unasked, Splits.all_append, Subnets.subnet_none}
 
 -- ---- what begins the rest

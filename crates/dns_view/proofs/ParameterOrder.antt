@@ -9,7 +9,7 @@ use Rattle.dns_fields.specs.Tlvs.{Numbered, ParameterValue, ParameterHeld, IsTlv
 use Rattle.dns_fields.proofs.{Numbers.length-bytes, Numbers.same_number, Tlvs.tlv_before, Tlvs.length-tlv, Tlvs.parts, ParameterLaws.parameter_fit}
 use Rattle.dns_canonical.proofs.{Fronts.front_then, Comparing.then_kept}
 use Rattle.dns_view.specs.Parameters.{IsTlvAt}
-use Rattle.dns_view.proofs.{ParameterLists.StandEach, ParameterLists.OneOf, ParameterLists.one_long, ParameterLists.parameters_each, Splits.at_split}
+use Rattle.dns_view.proofs.{ParameterLists.StandEach, ParameterLists.OneOf, ParameterLists.parameters_each, Splits.at_split}
 use Rattle.dns_view.proofs.{Alone.between_is}
 
 -- the length of a part that is encoded there

@@ -1,5 +1,5 @@
 -- How the octets of a row are put.
-use Rattle.std.proofs.Common.{true, false, ◌≡◌, ℕ, suc, ◌+◌, ◌-◌, ◌*◌, ◌≤◌, ◌<◌, Bool, List, [], ◌∷◌, ◌++◌, length, take, drop, get_or, drop-cons, refl, sym}
+use Rattle.std.proofs.Common.{◌≡◌, ℕ, suc, ◌+◌, ◌-◌, ◌*◌, ◌≤◌, ◌<◌, Bool, List, [], ◌∷◌, ◌++◌, length, take, drop, get_or, drop-cons, refl, sym}
 use Rattle.std.proofs.Common.{ap, ◌∙◌, arith}
 use Rattle.std.proofs.Common.{subst, append_assoc, Ok, Err}
 use Rattle.std.proofs.lemmas.List.{length-take, drop_all, append-nil}
@@ -11,10 +11,10 @@ use Rattle.dns_fields.proofs.FieldLaws.{field_inside, field_same, field_end}
 use Rattle.dns_names_wire.specs.{State.Reading}
 use Rattle.dns_names_wire.proofs.Strings.{at_then}
 use Rattle.dns_rows.specs.declared.row.{Part.Part, Rule.Rule}
-use Rattle.dns_view.specs.Parts.{Reaches, IsCovered, Skips}
+use Rattle.dns_view.specs.Parts.{Reaches, IsCovered, Skips, Ends}
 use Rattle.dns_rows.specs.{Table.kinds_of, Rules.MeetsRow}
 use Rattle.dns_view.specs.Rows.{AreCovered, IsRow, HasRow}
-use Rattle.dns_view.specs.Putting.{Put, PutName, IsCopied, IsRecoded, IsPut, ArePut, form_octets, all_form}
+use Rattle.dns_view.specs.Putting.{Put, PutName, IsCopied, IsRecoded, form_octets, all_form}
 use Rattle.dns_view.proofs.{RowLoop.behind_row, RowLoop.field_reaches, Puts.put_then, Puts.put_none, Asked.asks_split, Alone.recoded_alone}
 
 -- ---- one field
@@ -66,7 +66,6 @@ pub record PutSo (low : Bool) (m : List ℕ) (p : ℕ) (row left : List Part) (n
   pub same : now.message ≡ m
   pub ordered : IsRow left
   pub covered : AreCovered left
-  pub plain : ArePut low left
   pub before : p ≤ from
   pub further : from ≤ now.index
   pub done : List ℕ
@@ -76,14 +75,13 @@ pub record PutSo (low : Bool) (m : List ℕ) (p : ℕ) (row left : List Part) (n
   pub only : (h : HasRow m p row (p + n)) → Left low m now.index row left (p + n) (done ++ pending) h.values
   pub small : at + (now.index - from) ≤ (now.index - p) + 9000 * index
 
-none_put : (low : Bool) (m : List ℕ) (p : ℕ) (row : List Part) (n : ℕ) (now : Reading) (old : List ℕ) → IsRow row → AreCovered row → ArePut low row
+none_put : (low : Bool) (m : List ℕ) (p : ℕ) (row : List Part) (n : ℕ) (now : Reading) (old : List ℕ) → IsRow row → AreCovered row
     → p ≤ length m
     → now ≡ record { message = m; index = p } → PutSo low m p row row n now old old 0 p 0
-none_put low m p row n now old ordered covered plain inside is = record {
+none_put low m p row n now old ordered covered inside is = record {
   same = ap (λ (r : Reading). r.message) is;
   ordered = ordered;
   covered = covered;
-  plain = plain;
   before = omega arith;
   further = omega (arith, here);
   done = [];
@@ -145,7 +143,6 @@ name_put low m p row part left n now next old one two new at mid behind from ind
       same = is;
       ordered = behind_row part left so.ordered;
       covered = so.covered.1;
-      plain = so.plain.1;
       before = omega (arith, so.before, so.further, inside.0);
       further = omega arith;
       done = (so.done ++ so.pending) ++ form;
@@ -170,7 +167,6 @@ plain_put low m p row part left n now next old new at from index s so c is =
       same = is;
       ordered = behind_row part left so.ordered;
       covered = so.covered.1;
-      plain = so.plain.1;
       before = so.before;
       further = omega (arith, so.further, inside.0);
       done = so.done;
@@ -198,10 +194,10 @@ row_put low m p row n now old one new at end from index so flush h =
 pub record AtPut (low : Bool) (m : List ℕ) (p : ℕ) (row : List Part) (n : ℕ) (now : Reading) (old new : List ℕ) (at from index : ℕ) : Type 0 where
   pub so : PutSo low m p row (drop index row) n now old new at from index
 
-pub at_put_first : {low : Bool} {m : List ℕ} {p : ℕ} {row : List Part} (n : ℕ) {now : Reading} {old : List ℕ} → IsRow row → AreCovered row → ArePut low row
+pub at_put_first : {low : Bool} {m : List ℕ} {p : ℕ} {row : List Part} (n : ℕ) {now : Reading} {old : List ℕ} → IsRow row → AreCovered row
     → p ≤ length m
     → now ≡ record { message = m; index = p } → AtPut low m p row n now old old 0 p 0
-at_put_first {low} {m} {p} {row} n {now} {old} ordered covered plain inside is = record { so = none_put low m p row n now old ordered covered plain inside is }
+at_put_first {low} {m} {p} {row} n {now} {old} ordered covered inside is = record { so = none_put low m p row n now old ordered covered inside is }
 
 here_put : (low : Bool) (m : List ℕ) (p : ℕ) (row : List Part) (n : ℕ) (now : Reading) (old new : List ℕ) (at from index : ℕ) (d : Part) → index < length row
     → AtPut low m p row n now old new at from index → PutSo low m p row (get_or row index d ∷ drop (suc index) row) n now old new at from index
@@ -257,17 +253,6 @@ pub coded_as : (low : Bool) {k l : Kind} {s old new : List ℕ} {at end : ℕ} �
     → ((v : Value l) → Field s 0 l v (length s) → Put old new at end (form_octets low l v)) → PutsCoded low k s old new at end
 coded_as low {k} {l} {s} {old} {new} {at} {end} e h = subst (λ (x : Kind). PutsCoded low x s old new at end) (sym e) (λ v r f. h v f)
 
--- options are put in their order alone
-in_order : (low : Bool) → IsPut Options low → low ≡ false
-in_order true p = absurd p
-in_order false p = refl
-
-pub options_coded : (low : Bool) {k : Kind} {s old new : List ℕ} {at end : ℕ} → k ≡ Options → IsPut k low
-    → ((v : Value Options) → Field s 0 Options v (length s) → Put old new at end (form_octets false Options v)) → PutsCoded low k s old new at end
-options_coded low {k} {s} {old} {new} {at} {end} e p h =
-    let f : low ≡ false = in_order low (subst (λ (x : Kind). IsPut x low) e p) in
-    subst (λ (b : Bool). PutsCoded b k s old new at end) (sym f) (coded_as false e h)
-
 -- a field that is made anew was written
 pub at_coded : {low : Bool} {m : List ℕ} {p : ℕ} {row : List Part} {n : ℕ} {now next : Reading} {old one two new : List ℕ} {at mid behind from index : ℕ}
     (d : Part)
@@ -290,9 +275,12 @@ at_coded {low} {m} {p} {row} {n} {now} {next} {old} {one} {two} {new} {at} {mid}
           (skips.is.took.message ∙ here.same));
     }
 
-pub put_allowed : {low : Bool} {m : List ℕ} {p : ℕ} {row : List Part} {n : ℕ} {now : Reading} {old new : List ℕ} {at from index : ℕ} (d : Part)
-    → AtPut low m p row n now old new at from index → index < length row → IsPut (get_or row index d).kind low
-put_allowed {low} {m} {p} {row} {n} {now} {old} {new} {at} {from} {index} d so l = (here_put low m p row n now old new at from index d l so).plain.0
+-- options end with the RDATA
+pub options_short : {rule : Rule} {k : Kind} {p n : ℕ} {now next : Reading} → p ≤ now.index → n < 65536 → Skips rule k p n (Ok tt) now next → k ≡ Options
+    → next.index - now.index < 65536
+options_short {rule} {k} {p} {n} {now} {next} before short s e =
+    let ends : next.index ≡ p + n = subst (λ (x : Kind). Ends x rule (p + n) next.index → next.index ≡ p + n) (sym e) (λ (h : Ends Options rule (p + n) next.index). h) s.is.ends in
+    omega (arith, before, short, ends)
 
 -- a field that does not stand
 pub no_field : {low : Bool} {m : List ℕ} {p : ℕ} {row : List Part} {n : ℕ} {e : DecodeError} {now next : Reading} {old new : List ℕ} {at from index : ℕ}

@@ -1,13 +1,13 @@
 -- How the canonical octets of parameters are written.
-use Rattle.std.proofs.Common.{◌≡◌, ◌≢◌, ℕ, zero, suc, ◌+◌, ◌-◌, ◌^◌, ◌≤◌, ◌<◌, ◌==◌, Bool, true, false, List, [], ◌∷◌, ◌++◌, length, take, drop, get_or, map}
+use Rattle.std.proofs.Common.{◌≡◌, ℕ, ◌+◌, ◌-◌, ◌^◌, ◌≤◌, ◌<◌, ◌==◌, Bool, true, false, List, [], ◌∷◌, ◌++◌, length, take, drop, get_or}
 use Rattle.std.proofs.Common.{refl, sym, ap, ◌∙◌, arith, subst, append_assoc, if◌then◌else◌}
-use Rattle.std.proofs.lemmas.List.{append-nil, length-take, length-drop, length-append, take_at, drop_at, nil_from_length, take-append-drop, get_or-drop}
+use Rattle.std.proofs.lemmas.List.{append-nil, length-append, take_at, drop_at, nil_from_length, take-append-drop, get_or-drop}
 use Rattle.std.proofs.lemmas.Bool.Decides.{nat_tests}
 use Rattle.std.proofs.lemmas.Nat.{from_be_bytes-to_be_bytes_2}
-use Rattle.std.specs.{List.flat_map, Int.bytes_high_first, Int.from_be_bytes, Int.w16}
-use Rattle.dns_fields.specs.{Octets.At, Fields.Value, Fields.Field, Fields.field_octets, Fields.parameter_tlvs, declared.Kind.TheVariants.Parameters}
+use Rattle.std.specs.{Int.bytes_high_first, Int.from_be_bytes, Int.w16}
+use Rattle.dns_fields.specs.{Fields.Value, Fields.Field, Fields.field_octets, Fields.parameter_tlvs, declared.Kind.TheVariants.Parameters}
 use Rattle.dns_fields.specs.Tlvs.{Numbered, ParameterValue, Mandatory, Alpn, NoDefaultAlpn, Port, Ipv4Hint, Ipv6Hint, Opaque, ParameterHeld, IsTlv, tlv, tlvs}
-use Rattle.dns_fields.specs.Tlvs.{parameter_octets, ParameterForm, Keys, Names, Nothing, PortNumber, Addresses4, Addresses16, AnyOctets, form_for, form_of}
+use Rattle.dns_fields.specs.Tlvs.{parameter_octets, Keys, Names, Nothing, PortNumber, Addresses4, Addresses16, AnyOctets, form_for}
 use Rattle.dns_fields.proofs.{Numbers.length-bytes, Tlvs.number_first, Tlvs.length-tlv}
 use Rattle.dns_view.specs.Putting.{Put}
 use Rattle.dns_view.proofs.{Puts.put_then, Puts.put_none, ParameterLists.StandEach, ParameterLists.OneOf, ParameterLists.one_long}

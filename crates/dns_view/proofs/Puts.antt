@@ -1,7 +1,8 @@
 -- How octets are put behind each other.
-use Rattle.std.proofs.Common.{◌≡◌, ℕ, ◌+◌, ◌-◌, ◌≤◌, ◌<◌, Bool, true, false, List, [], ◌∷◌, ◌++◌, length, take, drop, Option, Some, None, refl, sym, ap, ◌∙◌}
+use Rattle.std.proofs.Common.{◌≡◌, ℕ, ◌+◌, ◌-◌, ◌≤◌, ◌<◌, Bool, true, false, List, [], ◌∷◌, ◌++◌, length, take, drop, Option, Some, None, ⊎_elim, refl, sym, ap, ◌∙◌}
 use Rattle.std.proofs.Common.{arith, subst, append_assoc, length-append}
-use Rattle.std.proofs.lemmas.List.{length-map, map-append, drop-drop, take_at, drop_at, take-append-drop, length-take, length-drop}
+use Rattle.std.proofs.lemmas.List.{length-map, map-append, drop-drop, take_at, take_all, drop_at, drop_all, take-append-drop, take-append-le, append-nil, length-take, length-drop}
+use Rattle.std.proofs.{lemmas.Bool.cases_lt, Math.Seq.take-append-add}
 use Rattle.std.specs.Char.{to_ascii_lowercase}
 use borrow.Rule.Slice.PartMut.{put_mid}
 use Rattle.dns_fields.specs.{Labels.wire}
@@ -18,58 +19,135 @@ pub cased_append : (low : Bool) (x y : List ℕ) → cased low (x ++ y) ≡ case
 cased_append true x y = map-append to_ascii_lowercase x y
 cased_append false x y = refl
 
+-- ---- as many octets as there is room for
+
+pub put_size : {old new octets : List ℕ} {start end : ℕ} → Put old new start end octets → length new ≡ length old
+put_size {old} {new} {octets} {start} {end} p =
+    let all = take start old ++ (octets ++ drop end old) in
+    omega (
+      arith,
+      ap length p.written,
+      length-take (length old) all,
+      length-append (take start old) (octets ++ drop end old),
+      length-append octets (drop end old),
+      length-take start old,
+      length-drop end old,
+      p.ends,
+    )
+
+-- octets that all fit
+pub put_fits : {old new octets : List ℕ} {start end : ℕ} → Put old new start end octets → end ≤ length old → new ≡ take start old ++ (octets ++ drop end old)
+put_fits {old} {new} {octets} {start} {end} p room =
+    let all = take start old ++ (octets ++ drop end old) in
+    p.written ∙ take_all (length old) all (omega (
+      arith,
+      room,
+      length-append (take start old) (octets ++ drop end old),
+      length-append octets (drop end old),
+      length-take start old,
+      length-drop end old,
+      p.ends,
+    ))
+
+put_all : {old new octets : List ℕ} {start end : ℕ} → end ≡ start + length octets → end ≤ length old → new ≡ take start old ++ (octets ++ drop end old)
+    → Put old new start end octets
+put_all {old} {new} {octets} {start} {end} e room same =
+    let all = take start old ++ (octets ++ drop end old) in
+    let short : length all ≤ length old = omega (
+      arith,
+      room,
+      e,
+      length-append (take start old) (octets ++ drop end old),
+      length-append octets (drop end old),
+      length-take start old,
+      length-drop end old,
+    ) in
+    record { ends = e; written = same ∙ sym (take_all (length old) all short) }
+
+-- the first of the octets fit
+put_first : {old new octets : List ℕ} {start end : ℕ} → end ≡ start + length octets → start ≤ length old → length old ≤ end
+    → new ≡ take start old ++ take (length old - start) octets → Put old new start end octets
+put_first {old} {new} {octets} {start} {end} e inside past same =
+    let front = take start old in
+    let long : length front ≡ start = omega (arith, length-take start old, inside) in
+    let n : length front + (length old - start) ≡ length old = omega (arith, long, inside) in
+    let cut : take (length old - start) (octets ++ drop end old) ≡ take (length old - start) octets =
+    take-append-le (length old - start) octets (drop end old) (omega (arith, e, past)) in
+    record {
+      ends = e;
+      written = same ∙ ap (λ (s : List ℕ). front ++ s) (sym cut) ∙ sym (take-append-add front (octets ++ drop end old) (length old - start))
+          ∙ ap (λ (k : ℕ). take k (front ++ (octets ++ drop end old))) n;
+    }
+
 -- octets that were copied into a part of the buffer
 pub put_here : {old : List ℕ} {start end : ℕ} (octets : List ℕ) {part : List ℕ} → end ≡ start + length octets → end ≤ length old → part ≡ octets
     → Put old (put_mid start (end - start) old part) start end octets
 put_here {old} {start} {end} octets {part} e room same =
-    let k : end - start ≡ length octets = omega (arith, e) in
     let d : drop (end - start) (drop start old) ≡ drop end old = drop-drop (end - start) start old ∙ ap (λ (n : ℕ). drop n old) (omega (arith, e)) in
-    let whole : put_mid start (end - start) old part ≡ take start old ++ (octets ++ drop end old) = rw (same, d) refl in
+    put_all e room (rw (same, d) refl)
+
+-- the same up to the end of the buffer
+pub put_cut : {old : List ℕ} {start end : ℕ} (octets : List ℕ) {part : List ℕ} → end ≡ start + length octets → start ≤ length old → length old ≤ end
+    → part ≡ take (length old - start) octets → Put old (put_mid start (length old - start) old part) start end octets
+put_cut {old} {start} {end} octets {part} e inside past same =
+    let d : drop (length old - start) (drop start old) ≡ [] = drop-drop (length old - start) start old
+    ∙ drop_all (start + (length old - start)) old (omega (arith, inside)) in
+    put_first e inside past (rw (same, d) (ap (λ (s : List ℕ). take start old ++ s) (append-nil (take (length old - start) octets))))
+
+-- octets of which none fits
+pub put_past : {old : List ℕ} {start end : ℕ} (octets : List ℕ) → end ≡ start + length octets → length old ≤ start → Put old old start end octets
+put_past {old} {start} {end} octets e past =
+    let front : take start old ≡ old = take_all start old past in
     record {
       ends = e;
-      size = ap length whole
-          ∙ omega (
-            arith,
-            length-append (take start old) (octets ++ drop end old),
-            length-append octets
-                (drop end old),
-            length-take start old,
-            length-drop end old,
-            e,
-          );
-      written = λ h. whole;
+      written = sym (ap (λ (s : List ℕ). take (length old) (s ++ (octets ++ drop end old))) front ∙ take-append-le (length old) old (octets ++ drop end old) (omega arith)
+          ∙ take_all (length old) old (omega arith));
     }
 
--- octets that do not fit
-pub put_past : {old : List ℕ} {start end : ℕ} (octets : List ℕ) → end ≡ start + length octets → length old < end → Put old old start end octets
-put_past octets e full = record { ends = e; size = refl; written = λ h. absurd (omega arith) }
-
 pub put_none : (old : List ℕ) (start : ℕ) → Put old old start start []
-put_none old start = record { ends = omega arith; size = refl; written = λ h. sym (take-append-drop start old) }
+put_none old start = record {
+  ends = omega arith;
+  written = sym (ap (take (length old)) (take-append-drop start old) ∙ take_all (length old) old (omega arith));
+}
 
--- one behind the other
+-- one after the other
 pub put_then : {old mid new : List ℕ} {s a e : ℕ} {x y : List ℕ} → Put old mid s a x → Put mid new a e y → Put old new s e (x ++ y)
 put_then {old} {mid} {new} {s} {a} {e} {x} {y} p q = record {
   ends = omega (arith, p.ends, q.ends, length-append x y);
-  size = q.size ∙ p.size;
-  written = λ h. joined_put old mid new s a e x y p q h;
+  written = ⊎_elim (λ (past : length old < a). full past) (λ (room : a ≤ length old). both room) (cases_lt (length old) a);
 }
   where
-    joined_put : (old mid new : List ℕ) (s a e : ℕ) (x y : List ℕ) → Put old mid s a x → Put mid new a e y → e ≤ length old
-        → new ≡ take s old ++ ((x ++ y) ++ drop e old)
-    joined_put old mid new s a e x y p q h =
-        let one : mid ≡ take s old ++ (x ++ drop a old) = p.written (omega (arith, q.ends)) in
-        let grouped : mid ≡ (take s old ++ x) ++ drop a old = one ∙ sym (append_assoc (take s old) x (drop a old)) in
-        let long : length (take s old ++ x) ≡ a = omega (arith, length-append (take s old) x, length-take s old, p.ends, q.ends) in
-        let front : take a mid ≡ take s old ++ x = ap (take a) grouped ∙ take_at (take s old ++ x) (drop a old) a long in
-        let rest : drop a mid ≡ drop a old = ap (drop a) grouped ∙ drop_at (take s old ++ x) (drop a old) a long in
-        let n : (e - a) + a ≡ e = omega (arith, q.ends) in
-        let m : a + (e - a) ≡ e = omega (arith, q.ends) in
-        let back : drop e mid ≡ drop e old = ap (λ (k : ℕ). drop k mid) (sym m) ∙ sym (drop-drop (e - a) a mid) ∙ ap (drop (e - a)) rest
-        ∙ drop-drop (e - a) a old ∙ ap (λ (k : ℕ). drop k old) m in
-        let two : new ≡ take a mid ++ (y ++ drop e mid) = q.written (omega (arith, p.size)) in
-        two ∙ ap (λ (t : List ℕ). t ++ (y ++ drop e mid)) front ∙ ap (λ (t : List ℕ). (take s old ++ x) ++ (y ++ t)) back
-        ∙ append_assoc (take s old) x (y ++ drop e old) ∙ ap (λ (t : List ℕ). take s old ++ t) (sym (append_assoc x y (drop e old)))
+    all : List ℕ
+    all = take s old ++ ((x ++ y) ++ drop e old)
+
+    grouped : all ≡ (take s old ++ x) ++ (y ++ drop e old)
+    grouped = ap (λ (t : List ℕ). take s old ++ t) (append_assoc x y (drop e old)) ∙ sym (append_assoc (take s old) x (y ++ drop e old))
+
+    size : length mid ≡ length old
+    size = put_size p
+
+    -- the first octets fill the buffer
+    full : length old < a → new ≡ take (length old) all
+    full past =
+        let kept : new ≡ mid = q.written ∙ ap (λ (t : List ℕ). take (length mid) (t ++ (y ++ drop e mid))) (take_all a mid (omega (arith, size, past)))
+        ∙ take-append-le (length mid) mid (y ++ drop e mid) (omega arith) ∙ take_all (length mid) mid (omega arith) in
+        let long : length old ≤ length (take s old ++ x) = omega (arith, past, p.ends, length-append (take s old) x, length-take s old) in
+        let front : take (length old) (take s old ++ (x ++ drop a old)) ≡ take (length old) (take s old ++ x) =
+        ap (take (length old)) (sym (append_assoc (take s old) x (drop a old))) ∙ take-append-le (length old) (take s old ++ x) (drop a old) long in
+        kept ∙ p.written ∙ front ∙ sym (ap (take (length old)) grouped ∙ take-append-le (length old) (take s old ++ x) (y ++ drop e old) long)
+
+    both : a ≤ length old → new ≡ take (length old) all
+    both room =
+        let one : mid ≡ (take s old ++ x) ++ drop a old = put_fits p room ∙ sym (append_assoc (take s old) x (drop a old)) in
+        let long : length (take s old ++ x) ≡ a = omega (arith, length-append (take s old) x, length-take s old, p.ends, room) in
+        let front : take a mid ≡ take s old ++ x = ap (take a) one ∙ take_at (take s old ++ x) (drop a old) a long in
+        let rest : drop a mid ≡ drop a old = ap (drop a) one ∙ drop_at (take s old ++ x) (drop a old) a long in
+        let n : a + (e - a) ≡ e = omega (arith, q.ends) in
+        let back : drop e mid ≡ drop e old = ap (λ (k : ℕ). drop k mid) (sym n) ∙ sym (drop-drop (e - a) a mid) ∙ ap (drop (e - a)) rest
+        ∙ drop-drop (e - a) a old ∙ ap (λ (k : ℕ). drop k old) n in
+        q.written ∙ ap (λ (k : ℕ). take k (take a mid ++ (y ++ drop e mid))) size
+        ∙ ap (λ (t : List ℕ). take (length old) (t ++ (y ++ drop e mid))) front ∙ ap (λ (t : List ℕ). take (length old) ((take s old ++ x) ++ (y ++ t))) back
+        ∙ ap (take (length old)) (sym grouped)
 
 -- ---- names
 

@@ -7,7 +7,7 @@ use Rattle.std.specs.declared.cmp.Ordering.TheVariants.{Equal}
 use Rattle.dns_types.specs.declared.error.DecodeError.{DecodeError}
 use Rattle.dns_fields.specs.declared.Kind.{Kind}
 use Rattle.dns_fields.specs.declared.Kind.TheVariants.{Number, Octets, Name, CharacterString, CharacterStrings, Rest, Options, Parameters, Bitmap}
-use Rattle.dns_fields.specs.{Octets.At, Labels.DomainName, Labels.lowname, Names.IsNameIn, Fields.Value, Fields.Values, Fields.Field, Fields.Stands}
+use Rattle.dns_fields.specs.{Labels.DomainName, Labels.lowname, Names.IsNameIn, Fields.Value, Fields.Values, Fields.Field, Fields.Stands}
 use Rattle.dns_fields.specs.{Fields.field_octets, Fields.canonical}
 use Rattle.dns_fields.proofs.{FieldLaws.field_same, FieldLaws.field_inside, Stays.labels_stand}
 use Rattle.dns_names_wire.specs.State.{Reading}
@@ -16,9 +16,9 @@ use Rattle.dns_canonical.proofs.{Fronts.fields_decide, Comparing.then_kept, Comp
 use Rattle.dns_rows.specs.declared.row.{Part.Part, Rule.Rule}
 use Rattle.dns_view.specs.Parts.{IsCovered, Skips}
 use Rattle.dns_rows.specs.{Table.kinds_of, Rules.MeetsRow}
-use Rattle.dns_view.specs.{Rows.AreCovered, Rows.IsRow, Rows.HasRow, Putting.IsCopied, Putting.IsRecoded, Putting.IsPut, Putting.ArePut, Putting.Put}
+use Rattle.dns_view.specs.{Rows.AreCovered, Rows.IsRow, Rows.HasRow, Putting.IsCopied, Putting.IsRecoded, Putting.Put}
 use Rattle.dns_view.proofs.{RowLoop.behind_row, RowLoop.field_reaches, PutLoop.Stood, PutLoop.stood_skipped, PutLoop.copied, Forms.form_field, Asked.asks_split}
-use Rattle.dns_view.proofs.{Alone.between_is, Alone.recoded_alone}
+use Rattle.dns_view.proofs.{Alone.between_is, Alone.recoded_alone, Puts.put_fits}
 
 -- ---- one field of each
 
@@ -51,15 +51,15 @@ coded_compared {a} {b} {s} {t} {i} {p} {j} {q} {o} {k} {l} e coded first second 
     subst (λ (x : Kind). (u v : Value x) → Field a i x u p → Field b j x v q → o ≡ slice_cmp nat_cmp (field_octets x u) (field_octets x v)) (sym e)
     (λ u v f g. h u v (recoded_alone l u coded first f) (recoded_alone l v coded second g))
 
-pub copied_of : (k : Kind) → IsPut k true → (k ≡ Parameters → ⊥) → (k ≡ Bitmap → ⊥) → IsCopied k
-copied_of Options p m n = absurd p
+pub copied_of : (k : Kind) → (k ≡ Options → ⊥) → (k ≡ Parameters → ⊥) → (k ≡ Bitmap → ⊥) → IsCopied k
+copied_of Options p m n = absurd (p refl)
 copied_of Parameters p m n = absurd (m refl)
 copied_of Bitmap p m n = absurd (n refl)
 copied_of k p m n = tt
 
 -- octets that were written at the front of a buffer
 pub put_front : {old new s : List ℕ} {end : ℕ} → Put old new 0 end s → end ≤ length old → take end new ≡ s
-put_front {old} {new} {s} {end} w room = ap (take end) (w.written room) ∙ take_at s (drop end old) end (omega (arith, w.ends))
+put_front {old} {new} {s} {end} w room = ap (take end) (put_fits w room) ∙ take_at s (drop end old) end (omega (arith, w.ends))
 
 alike : (rule : Rule) (k : Kind) (left : List Part) {a b : List ℕ} {i p j q : ℕ} (u v : Value k) → IsRow (record { kind = k; rule = rule } ∷ left)
     → Field a i k u p → Field b j k v q
@@ -113,7 +113,6 @@ pub record Tied (a : List ℕ) (x long : ℕ) (b : List ℕ) (y other : ℕ) (ro
   pub before_too : y ≤ far.index
   pub ordered : IsRow left
   pub covered : AreCovered left
-  pub plain : ArePut true left
   pub only : (h : HasRow a x row (x + long)) (k : HasRow b y row (y + other))
       → TwoLeft a now.index b far.index row left (x + long) (y + other) h.values k.values
 
@@ -163,7 +162,6 @@ tied_more a x long b y other row part left now far next after s t so tie m n = r
   before_too = omega (arith, so.before_too, (field_inside t.field).0);
   ordered = behind_row part left so.ordered;
   covered = so.covered.1;
-  plain = so.plain.1;
   only = λ h k.
       let z = two_on a now.index next.index b far.index after.index row part left (x + long) (y + other) h.values k.values so.ordered s t (so.only h k) in
       record { first = z.0; second = z.1; same = z.2 ∙ ap (λ (o : Ordering). ordering_then o (canonical_cmp (kinds_of left) z.0.values z.1.values)) tie };
@@ -184,26 +182,24 @@ differ a x long b y other row part left now far next after o s t so is ne h k =
 pub record AtTied (a : List ℕ) (x long : ℕ) (b : List ℕ) (y other : ℕ) (row : List Part) (index : ℕ) (now far : Reading) : Type 0 where
   pub so : Tied a x long b y other row (drop index row) now far
 
-none_tied : (a : List ℕ) (x long : ℕ) (b : List ℕ) (y other : ℕ) (row : List Part) → IsRow row → AreCovered row → ArePut true row
+none_tied : (a : List ℕ) (x long : ℕ) (b : List ℕ) (y other : ℕ) (row : List Part) → IsRow row → AreCovered row
     → Tied a x long b y other row row (record { message = a; index = x }) (record { message = b; index = y })
-none_tied a x long b y other row ordered covered plain = record {
+none_tied a x long b y other row ordered covered = record {
   message = refl;
   messages = refl;
   before = omega arith;
   before_too = omega arith;
   ordered = ordered;
   covered = covered;
-  plain = plain;
   only = λ h k. record { first = h; second = k; same = refl };
 }
 
 pub at_tied_first : {a : List ℕ} {x : ℕ} (long : ℕ) {b : List ℕ} {y : ℕ} (other : ℕ) {row : List Part} {now far : Reading} → IsRow row → AreCovered row
-    → ArePut true row
     → now ≡ record { message = a; index = x } → far ≡ record { message = b; index = y } → AtTied a x long b y other row 0 now far
-at_tied_first {a} {x} long {b} {y} other {row} {now} {far} ordered covered plain e f = record {
+at_tied_first {a} {x} long {b} {y} other {row} {now} {far} ordered covered e f = record {
   so = subst (λ (n : Reading). Tied a x long b y other row row n far) (sym e)
       (subst (λ (n : Reading). Tied a x long b y other row row (record { message = a; index = x }) n) (sym f)
-      (none_tied a x long b y other row ordered covered plain));
+      (none_tied a x long b y other row ordered covered));
 }
 
 here_tied : (a : List ℕ) (x long : ℕ) (b : List ℕ) (y other : ℕ) (row : List Part) (index : ℕ) (now far : Reading) (d : Part) → index < length row
@@ -287,7 +283,3 @@ no_right {a} {x} {long} {b} {y} {other} {row} {index} {now} {far} {after} {e} d 
 pub skipped_inside : {rule : Rule} {k : Kind} {start n : ℕ} {m : List ℕ} {now next : Reading} → now.message ≡ m → Skips rule k start n (Ok tt) now next
     → (now.index ≤ next.index) × (next.index ≤ length m)
 skipped_inside is s = field_inside (stood_skipped is s).field
-
-pub tied_copied : {a : List ℕ} {x long : ℕ} {b : List ℕ} {y other : ℕ} {row : List Part} {index : ℕ} {now far : Reading} (d : Part)
-    → AtTied a x long b y other row index now far → index < length row → IsPut (get_or row index d).kind true
-tied_copied {a} {x} {long} {b} {y} {other} {row} {index} {now} {far} d so l = (here_tied a x long b y other row index now far d l so).plain.0

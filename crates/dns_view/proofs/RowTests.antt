@@ -3,7 +3,7 @@ use Rattle.std.proofs.Common.{◌≡◌, ℕ, ◌≤◌, ◌⊎◌, inl, inr, Bo
 use Rattle.std.proofs.lemmas.Bool.Decides.{nat_tests}
 use Rattle.dns_fields.specs.declared.Kind.{Kind}
 use Rattle.dns_fields.specs.declared.Kind.TheVariants.{Number, Octets, Name, CharacterString}
-use Rattle.dns_fields.specs.declared.Kind.TheVariants.{Options, Parameters}
+use Rattle.dns_fields.specs.declared.Kind.TheVariants.{Parameters}
 use Rattle.dns_fields.specs.Fields.{EndsItself}
 use Rattle.dns_rows.specs.declared.row.{Part.Part, Rule.Rule}
 use Rattle.dns_rows.specs.declared.row.Rule.TheVariants as rules

@@ -1,14 +1,14 @@
 -- The client subnet that begins octets, and why none does.
 use Rattle.std.proofs.lemmas.List.{length-append, length-take-le, length-drop, take-append-drop}
-use Rattle.std.proofs.{Common.refl, Common.sym, Common.ap, Common.◌∙◌, Common.arith, Common.subst, Common.append_assoc, lemmas.Bool.Decides.nat_tests}
+use Rattle.std.proofs.{Common.refl, Common.sym, Common.ap, Common.◌∙◌, Common.arith, Common.subst, Common.append_assoc}
 use Rattle.std.proofs.lemmas.Nat.{be_bytes_2}
-use Rattle.std.proofs.Common.{◌≡◌, ◌≢◌, ◌⊎◌, inl, inr, ℕ, zero, suc, ◌+◌, ◌-◌, ◌<◌, ◌≤◌, ◌^◌, List, [], ◌∷◌, ◌++◌, length, take, drop, get_or}
+use Rattle.std.proofs.Common.{◌≡◌, ◌≢◌, ◌⊎◌, inl, inr, ℕ, zero, suc, ◌-◌, ◌<◌, ◌≤◌, ◌^◌, List, [], ◌∷◌, ◌++◌, length, take, drop, get_or}
 use Rattle.std.specs.{Int.w16, Int.from_be_bytes, Int.bytes_high_first}
 use Rattle.dns_types.specs.declared.error.DecodeError.{DecodeError}
 use Rattle.dns_fields.specs.Tlvs.{OptionValue, Subnet, OpaqueOption, option_octets, IsAddress, OptionHeld}
 use Rattle.dns_fields.proofs.{Numbers.length-bytes, Tlvs.number_first}
-use Rattle.dns_view.specs.Options.{HasOption, NoOption, IsFamily, prefix_octets, family_octets, SubnetHead, LacksFamily, UnknownFamily, LacksPrefixes}
-use Rattle.dns_view.specs.Options.{LongPrefix, LacksAddress, IsSubnetError}
+use Rattle.dns_view.specs.Options.{HasOption, NoOption, IsFamily, prefix_octets, family_octets, SubnetHead}
+use Rattle.dns_view.specs.Options.{IsSubnetError}
 
 -- octets as numbers of eight bits, as code knows them
 abbrev pub Eights : List ℕ → Type 0

@@ -1,11 +1,10 @@
 -- Keys or codes, each with a length and so many octets, that fill octets.
 use Rattle.std.proofs.Common.{◌≡◌, ℕ, zero, suc, ◌+◌, ◌^◌, ◌<◌, ◌≤◌, List, [], ◌∷◌, ◌++◌, length, take, drop, get_or, drop-cons, add-one}
 use Rattle.std.proofs.Common.{refl, sym, ap, ◌∙◌, arith, subst}
-use Rattle.std.proofs.lemmas.List.{length-take, length-drop, length-append, append-nil}
+use Rattle.std.proofs.lemmas.List.{length-take, length-drop, append-nil}
 use Rattle.std.proofs.lemmas.{Nat.be_bytes_2, Grind.flat_map-append}
 use Rattle.std.specs.Int.{bytes_high_first, from_be_bytes, w16}
 use Rattle.dns_fields.specs.{Octets.At, Tlvs.Numbered, Tlvs.tlv, Tlvs.tlvs, Tlvs.IsTlv, Tlvs.AreTlvs}
-use Rattle.dns_fields.proofs.Tlvs.{length-tlv}
 use Rattle.dns_names_wire.proofs.Strings.{at_front, at_rest, at_then}
 use Rattle.dns_view.specs.{Parameters.IsTlvAt, Tlvs.TlvThere, Tlvs.AreComplete}
 use Rattle.dns_view.proofs.Splits.{all_append}

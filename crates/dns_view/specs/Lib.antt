@@ -3,6 +3,7 @@ pub mod Tags
 pub mod Blocks
 pub mod Values
 pub mod Options
+pub mod OptionOctets
 pub mod Parameters
 pub mod Parts
 pub mod Rows
@@ -12,3 +13,8 @@ pub mod Shown
 pub mod ViewOf
 pub mod Windows
 pub mod Tlvs
+pub mod StringList
+pub mod TlvList
+pub mod LabelList
+pub mod NamesShown
+pub mod NameFields

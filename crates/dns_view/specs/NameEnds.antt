@@ -19,3 +19,9 @@ pub record NameEnds (message : List ℕ) (offset end : ℕ) : Type 0 where
 pub record IsPlainName (message : List ℕ) (offset : ℕ) (octets : List ℕ) : Type 0 where
   pub end : ℕ
   pub is : IsNameAt message offset octets end
+
+-- a name is encoded at the offset
+pub record IsNamed (message : List ℕ) (offset : ℕ) : Type 0 where
+  pub name : DomainName
+  pub end : ℕ
+  pub is : IsNameIn message offset name end

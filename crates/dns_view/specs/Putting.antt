@@ -1,12 +1,11 @@
 -- Octets of RDATA in one of two forms, written into a buffer: canonical, which is this library's own form and not
 -- that of DNSSEC, or uncompressed with case preserved.
-use Rattle.std.specs.Prelude.{◌≡◌, ℕ, ◌+◌, ◌≤◌, Bool, true, false, List, [], ◌∷◌, ◌++◌, length, take, drop, map}
-use Rattle.std.specs.Char.{to_ascii_lowercase}
+use Rattle.std.specs.Prelude.{◌≡◌, ℕ, ◌+◌, Bool, true, false, List, [], ◌∷◌, ◌++◌, length, take, drop, map, zero, suc}
+use Rattle.std.specs.{Char.to_ascii_lowercase, Int.from_be_bytes, Int.w64}
 use Rattle.dns_fields.specs.declared.Kind.{Kind}
 use Rattle.dns_fields.specs.declared.Kind.TheVariants.{Name, Options, Parameters, Bitmap}
 use Rattle.dns_fields.specs.{Labels.DomainName, Labels.wire, Labels.lowname, Names.IsNameIn}
 use Rattle.dns_fields.specs.{Fields.Value, Fields.Values, Fields.field_octets, Fields.option_tlvs, Tlvs.tlvs}
-use Rattle.dns_rows.specs.declared.row.Part.{Part}
 
 -- with A to Z lowercased, or with case preserved
 abbrev pub cased : Bool → List ℕ → List ℕ
@@ -44,24 +43,23 @@ IsRecoded Parameters = Unit {0}
 IsRecoded Bitmap = Unit {0}
 IsRecoded k = ⊥
 
--- Fields whose octets can be written in a form: in the canonical one all but options, which it sorts.
-abbrev pub IsPut : Kind → Bool → Type 0
-IsPut Options true = ⊥
-IsPut k low = Unit {0}
-
-abbrev pub ArePut : Bool → List Part → Type 0
-ArePut low [] = Unit {0}
-ArePut low (p ∷ row) = IsPut p.kind low × ArePut low row
-
--- Octets were written into the buffer from start to end. If they pass the end of the buffer, its contents are not
--- specified.
+-- Octets were written into the buffer from start to end, as many as it has room for.
 pub record Put (old new : List ℕ) (start end : ℕ) (octets : List ℕ) : Type 0 where
   pub ends : end ≡ start + length octets
-  pub size : length new ≡ length old
-  pub written : end ≤ length old → new ≡ take start old ++ (octets ++ drop end old)
+  pub written : new ≡ take (length old) (take start old ++ (octets ++ drop end old))
 
 -- a name is encoded in the message from the offset to the end, and its octets were written
 pub record PutName (message : List ℕ) (offset end : ℕ) (low : Bool) (old new : List ℕ) (start behind : ℕ) : Type 0 where
   pub name : DomainName
   pub is : IsNameIn message offset name end
   pub put : Put old new start behind (name_form low name)
+
+-- the first octets, so many; those that are missing are 0
+abbrev pub padded : ℕ → List ℕ → List ℕ
+padded zero octets = []
+padded (suc n) [] = 0 ∷ padded n []
+padded (suc n) (x ∷ octets) = x ∷ padded n octets
+
+-- the first eight octets as a number, high octet first
+abbrev pub key_of : List ℕ → ℕ
+key_of octets = from_be_bytes w64 (padded 8 octets)

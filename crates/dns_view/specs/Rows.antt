@@ -5,7 +5,7 @@ use Rattle.dns_types.specs.declared.error.DecodeError.{DecodeError}
 use Rattle.dns_types.specs.declared.error.DecodeError.TheVariants as decode
 use Rattle.dns_fields.specs.declared.Kind.{Kind}
 use Rattle.dns_fields.specs.declared.Kind.TheVariants.{Number, Octets, Name, CharacterString, Rest}
-use Rattle.dns_fields.specs.declared.Kind.TheVariants.{Options, Parameters}
+use Rattle.dns_fields.specs.declared.Kind.TheVariants.{Parameters}
 use Rattle.dns_fields.specs.Fields.{Value, Values, Stands, EndsItself}
 use Rattle.dns_names_wire.specs.{State.Reading, Terms.TookField, Terms.StaysBehind}
 use Rattle.dns_rows.specs.declared.row.{Part.Part, Rule.Rule}

@@ -1,7 +1,7 @@
 -- The octets of a bitmap's window (RFC 4034, 4.1.2).
 use Rattle.std.specs.Prelude.{◌≡◌, ℕ, ◌<◌, List, length, map, bit_or, slice_index_or}
 use Rattle.std.specs.List.{range_with_len}
-use Rattle.dns_fields.specs.Bitmaps.{BitmapAt, types_octet, trimmed}
+use Rattle.dns_fields.specs.Bitmaps.{BitmapAt, types_octet}
 
 -- all 32 octets of window k
 abbrev pub window_octets : List ℕ → ℕ → List ℕ

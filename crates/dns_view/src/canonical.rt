@@ -4,7 +4,8 @@ ghost use Rattle.std.specs.Prelude.{◌≡◌, ◌+◌, ◌<◌, ◌≤◌, ◌-
 ghost use Rattle.dns_rows.specs.Table.{kinds_of};
 ghost use Rattle.dns_fields.specs.Fields.{Value, Field};
 ghost use Rattle.dns_view.specs.{Rows.IsRowChecked, Rows.HasRow};
-ghost use Rattle.dns_view.specs.Putting.{ArePut, IsPut, IsRecoded, IsCopied, Put, form_octets, all_form};
+ghost use Rattle.dns_view.specs.Putting.{IsRecoded, IsCopied, Put, form_octets, all_form};
+ghost use Rattle.dns_fields.specs.declared.Kind.TheVariants.{Options};
 
 use crate::put::{put_name, put_octets};
 use crate::put_bitmap::put_bitmap;
@@ -39,7 +40,7 @@ fn put_recoded(
     here: usize,
     end: usize,
 ) -> usize
-    requires put { IsPut kind low }
+    requires short { kind ≡ Options → end - here < 65536 }
     requires field { (here ≤ end) × (end ≤ length message.now) }
     requires room { at + (end - here) + 8704 < 2 ^ 64 }
     ensures put { (v : Value kind) → IsRecoded kind →
@@ -49,7 +50,7 @@ fn put_recoded(
 {
     let octets = &message[here..end];
     match kind {
-        Kind::Options => put_options(out, at, octets),
+        Kind::Options => put_options(out, at, octets, low),
         Kind::Parameters => put_parameters(out, at, octets),
         Kind::Bitmap => put_bitmap(out, at, octets),
         _ => at,
@@ -59,8 +60,7 @@ fn put_recoded(
 /// Writes the octets of RDATA at the front of a buffer, with names uncompressed, and lowercased if `low` is set, and returns
 /// how many they are; or `None` if no fields of the row fill the RDATA. Allocates nothing.
 ///
-/// If the octets are more than the buffer has, its contents are not specified, and the number is still the number of
-/// octets.
+/// If the octets are more than the buffer has, as many as fit are written, and the number is still theirs.
 pub fn put_row(
     message: &[u8],
     offset: usize,
@@ -71,7 +71,6 @@ pub fn put_row(
 ) -> Option<usize>
     requires inside { offset ≤ length message.now }
     requires row { IsRowChecked row.now }
-    requires put { ArePut low row.now }
     requires short { len < 65536 }
     ensures { (h : HasRow message.now offset row.now (offset + len)) →
         MatchOption result ⊥ (λ end. Put out.old out.new 0 end (all_form low (kinds_of row.now) h.values)) }

@@ -4,7 +4,8 @@ ghost use Rattle.std.specs.Prelude.{◌≡◌, ◌+◌, ◌<◌, ◌≤◌, ◌�
 ghost use Rattle.dns_fields.specs.{Fields.Field, Fields.Value, declared.Kind.TheVariants.Number};
 ghost use Rattle.dns_names_wire.specs.Terms.{TookField, LacksField};
 ghost use Rattle.dns_rows.specs.Table.{kinds_of};
-ghost use Rattle.dns_view.specs.{Parts.IsCovered, Parts.IsWidth, Rows.IsRowChecked, Rows.HasRow, Shown.Shows, Shown.ShowsAt};
+ghost use Rattle.dns_view.specs.{Parts.FieldThere, Parts.IsCovered, Parts.IsWidth, Rows.IsRowChecked, Rows.HasRow, Shown.Shows, Shown.ShowsAt};
+ghost use Rattle.dns_view.specs.NameFields.{names_in, ShowsNameAt};
 
 use crate::name_ref::NameRef;
 use crate::skip::skip_field;
@@ -70,6 +71,7 @@ fn show_field<'a>(
     requires covered { IsCovered kind rule }
     requires before { here ≤ end }
     requires within { end ≤ length message.now }
+    requires there { FieldThere message.now here kind end }
     ensures { (v : Value kind) → Field message.now here kind v end → Shows result kind v }
 {
     let octets = &message[here..end];
@@ -121,6 +123,38 @@ pub fn field_of<'a>(
         }
         if at == number {
             return Some(show_field(message, here, walk.index(), part.kind, part.rule));
+        }
+    }
+    None
+}
+
+/// The name of this index among the fields that are names, or `None` if the row has fewer names. Allocates nothing.
+pub fn name_field_of<'a>(
+    message: &'a [u8],
+    offset: usize,
+    row: &[Part],
+    len: usize,
+    number: usize,
+) -> Option<NameRef<'a>>
+    requires inside { offset ≤ length message.now }
+    requires row { IsRowChecked row.now }
+    requires short { len < 65536 }
+    ensures { (h : HasRow message.now offset row.now (offset + len)) → MatchOption result (names_in (kinds_of row.now) ≤ number)
+        (λ r. ShowsNameAt message.now offset (kinds_of row.now) h.values number r) }
+{
+    let mut walk = Walk::at(message, offset);
+    let mut left = number;
+    'fields: for part in row {
+        let here = walk.index();
+        match skip_field(&mut walk, part.kind, part.rule, offset, len) {
+            Ok(()) => {}
+            Err(_) => return None,
+        }
+        if let Kind::Name = part.kind {
+            if left == 0 {
+                return Some(NameRef::at(message, here));
+            }
+            left -= 1;
         }
     }
     None

@@ -3,7 +3,8 @@
 //! - [`Walk`] is a decoder without an allocator; [`check::check_data`] checks RDATA by a row, [`row_of`] returns a
 //!   type's.
 //! - [`RowView`] is RDATA that was checked: its fields, its canonical and uncompressed octets, its order.
-//! - [`FieldRef`] and [`NameRef`] are a field and a name, lent from the message.
+//! - [`FieldRef`] and [`NameRef`] are a field and a name, lent from the message. [`Labels`] iterates over the labels of a
+//!   name, [`StringsRef`] over character strings, [`Tlvs`] over options or parameters.
 #![tactic(auto)]
 
 pub mod blocks;
@@ -11,8 +12,11 @@ pub mod canonical;
 pub mod check;
 pub mod coded_order;
 pub mod field;
+pub mod label_list;
 pub mod name_ref;
 pub mod names;
+pub mod option_order;
+mod option_parts;
 mod options;
 pub mod order;
 mod parameters;
@@ -22,13 +26,18 @@ pub mod put_options;
 pub mod put_params;
 pub mod row;
 pub mod skip;
+pub mod string_list;
 mod tlv;
+pub mod tlv_list;
 pub mod values;
 pub mod view;
 pub mod walk;
 
 pub use field::FieldRef;
+pub use label_list::Labels;
 pub use name_ref::NameRef;
 pub use row::row_of;
+pub use string_list::StringsRef;
+pub use tlv_list::{Tlv, Tlvs};
 pub use view::RowView;
 pub use walk::Walk;

@@ -3,22 +3,30 @@
 ghost use Rattle.std.specs.Prelude.{◌≡◌, ◌+◌, ◌≤◌, ℕ, true, false, length, take, drop, IfOk, IfSome};
 ghost use Rattle.std.specs.{Cmp.Lexicographic.slice_cmp, Ordering.nat_cmp};
 ghost use Rattle.dns_fields.specs.{Labels.DomainName, Labels.lowname, Names.IsNameIn};
-ghost use Rattle.dns_view.specs.{NameEnds.NameEnds, NameEnds.IsPlainName, Putting.Put, Putting.name_form};
+ghost use Rattle.dns_view.specs.{NameEnds.NameEnds, NameEnds.IsPlainName, NameEnds.IsNamed, Putting.Put, Putting.name_form, LabelList.low_octets};
 
+use crate::label_list::Labels;
 use crate::names::skip_run;
 use crate::put::put_name;
 use dns_labels::comparing::compare_lowered;
+use dns_names_wire::{BinDecodable, BinDecoder, Name};
+use std::alloc::{AllocError, Global};
 use std::cmp::Ordering;
+use std::hash::{Hash, Hasher};
 
 // The most octets that a name has (RFC 1035, 3.1).
 const NAME_OCTETS: usize = 255;
 
-/// A name that is encoded at an offset of a message, perhaps with compression pointers.
+/// A name that is encoded at an offset of a message, perhaps with compression pointers. A copy is cheap.
+///
+/// Names are compared and hashed without ASCII case, by their uncompressed octets with A to Z lowercased. Nothing here
+/// allocates.
 #[derive(Clone, Copy)]
 pub struct NameRef<'a> {
     pub(crate) message: &'a [u8],
     pub(crate) offset: usize,
     ghost inside: { offset ≤ length message.now },
+    ghost named: { ∥ IsNamed message.now offset ∥₁ },
 }
 
 // Writes the canonical octets of a name at the front of a buffer, and returns how many they are.
@@ -31,6 +39,16 @@ fn lowered_octets(message: &[u8], offset: usize, out: &mut [u8; 255]) -> usize
         Some((_, count)) => count,
         None => 0,
     }
+}
+
+// The same of a name that is encoded there.
+fn low_octets_of(message: &[u8], offset: usize, out: &mut [u8; 255]) -> usize
+    requires inside { offset ≤ length message.now }
+    requires named { ∥ IsNamed message.now offset ∥₁ }
+    ensures octets { take result out.new ≡ low_octets message.now offset }
+    ensures few { result ≤ 255 }
+{
+    lowered_octets(message, offset, out)
 }
 
 // The octets of a name without the 0 at its end, or `None` if a compression pointer ends its labels.
@@ -79,20 +97,41 @@ fn compare_any_names(a: &[u8], x: usize, b: &[u8], y: usize) -> Ordering
 }
 
 impl<'a> NameRef<'a> {
+    ghost use Rattle.dns_view.specs.LabelList.{labels_at};
+
     /// The name at an offset of a message.
     #[inline]
     pub fn at(message: &'a [u8], offset: usize) -> NameRef<'a>
-        requires { offset ≤ length message.now }
+        requires inside { offset ≤ length message.now }
+        requires named { IsNamed message.now offset }
         ensures message { result.message.now ≡ message.now }
         ensures offset { result.offset ≡ offset }
     {
         NameRef { message, offset }
     }
 
+    /// The offset in the message where the name is encoded.
+    #[inline]
+    pub fn offset(&self) -> usize
+        ensures { result ≡ self.now.offset }
+    {
+        self.offset
+    }
+
+    /// The labels of the name, from the first to the last one before the root, each without its length octet and lent from
+    /// the message. Compression pointers are followed. Allocates nothing.
+    #[inline]
+    pub fn labels(&self) -> Labels<'a>
+        ensures all { result ≡ labels_at self.now.message.now self.now.offset }
+        ensures name { (x : DomainName) (q : ℕ) → IsNameIn self.now.message.now self.now.offset x q → result ≡ x.labels }
+    {
+        Labels::at(self.message, self.offset)
+    }
+
     /// Writes the name's octets, uncompressed, at the front of a buffer, with A to Z lowercased if `low` is set, and returns
     /// how many they are. Allocates nothing.
     ///
-    /// If they are more than the buffer has, its contents are not specified.
+    /// If they are more than the buffer has, as many as fit are written, and the number is still theirs.
     pub fn put(&self, low: bool, out: &mut [u8]) -> usize
         ensures { (x : DomainName) (q : ℕ) → IsNameIn self.now.message.now self.now.offset x q →
             Put out.old out.new 0 result (name_form low x) }
@@ -103,11 +142,108 @@ impl<'a> NameRef<'a> {
         }
     }
 
+    /// Makes the name, with case preserved. Allocates once if it has more than 32 octets, and fails only if that fails.
+    pub fn to_name(&self, alloc: Global) -> Result<Name, AllocError>
+        ensures { (x : DomainName) (q : ℕ) → IsNameIn self.now.message.now self.now.offset x q → IfOk result (λ name. name ≡ x) }
+    {
+        let Ok(mut decoder) = BinDecoder::at(alloc, self.message, self.offset) else {
+            // Unreachable: the offset is inside the message.
+            return Err(AllocError);
+        };
+        match Name::read(&mut decoder) {
+            Ok(name) => Ok(name),
+            Err(_) => Err(AllocError),
+        }
+    }
+
     /// Orders two names by their uncompressed octets in lower case. Allocates nothing.
     pub fn compare(&self, other: &NameRef<'_>) -> Ordering
-        ensures { (u : DomainName) (q : ℕ) (v : DomainName) (r : ℕ) → IsNameIn self.now.message.now self.now.offset u q →
+        ensures names { (u : DomainName) (q : ℕ) (v : DomainName) (r : ℕ) → IsNameIn self.now.message.now self.now.offset u q →
             IsNameIn other.now.message.now other.now.offset v r → result ≡ slice_cmp nat_cmp (lowname u) (lowname v) }
+        ensures octets { result ≡ slice_cmp nat_cmp (low_octets self.now.message.now self.now.offset) (low_octets other.now.message.now other.now.offset) }
     {
         compare_names(self.message, self.offset, other.message, other.offset)
+    }
+}
+
+impl<'a> PartialEq for NameRef<'a> {
+    ghost use Rattle.std.specs.Prelude.{◌≡◌, ◌==◌, ◌↔◌, IsTrue};
+    ghost use Rattle.std.specs.{Cmp.Lexicographic.pointwise, Cmp.Rules.comparing, Ordering.on};
+    ghost use Rattle.std.proofs.Common.{rules};
+    ghost use Rattle.dns_view.specs.NamesShown.{octets_shown};
+
+    ghost eq = { on octets_shown (pointwise ◌==◌) };
+
+    ghost laws = { Prim.search (comparing, rules) };
+
+    /// Whether both have the same labels, without ASCII case. Allocates nothing.
+    #[inline]
+    fn eq(&self, other: &NameRef<'a>) -> bool
+        ensures value { result ≡ pointwise ◌==◌ (octets_shown self.now) (octets_shown other.now) }
+        ensures exact { IsTrue result ↔ (octets_shown self.now ≡ octets_shown other.now) }
+    {
+        self.compare(other).is_eq()
+    }
+}
+
+impl<'a> Eq for NameRef<'a> {
+    ghost use Rattle.std.specs.Cmp.Rules.{comparing};
+    ghost use Rattle.std.proofs.Common.{rules};
+
+    ghost laws = { Prim.search (comparing, rules) };
+}
+
+impl<'a> PartialOrd for NameRef<'a> {
+    ghost use Rattle.std.specs.{Cmp.Lexicographic.slice_cmp, Cmp.Rules.comparing, Cmp.partial_order_from_own_ties};
+    ghost use Rattle.std.specs.Ordering.{nat_cmp, on, as_partial_cmp};
+    ghost use Rattle.std.proofs.Common.{rules};
+    ghost use Rattle.dns_view.specs.NamesShown.{octets_shown};
+
+    ghost partial_cmp = { as_partial_cmp (on octets_shown (slice_cmp nat_cmp)) };
+
+    ghost laws = { partial_order_from_own_ties (Prim.search (comparing, rules)) (Prim.search (comparing, rules)) };
+
+    #[inline]
+    fn partial_cmp(&self, other: &NameRef<'a>) -> Option<Ordering> {
+        Some(self.cmp(other))
+    }
+}
+
+impl<'a> Ord for NameRef<'a> {
+    ghost use Rattle.std.specs.{Cmp.Lexicographic.slice_cmp, Cmp.Rules.comparing};
+    ghost use Rattle.std.specs.Ordering.{nat_cmp, on};
+    ghost use Rattle.std.proofs.Common.{rules};
+    ghost use Rattle.dns_view.specs.NamesShown.{octets_shown};
+
+    ghost cmp = { on octets_shown (slice_cmp nat_cmp) };
+
+    ghost total = { Prim.search (comparing, rules) };
+
+    ghost matches_partial_cmp = { Prim.search (comparing, rules) };
+
+    ghost matches_eq = { Prim.search (comparing, rules) };
+
+    /// By the first difference of the uncompressed octets in lower case. Allocates nothing.
+    #[inline]
+    fn cmp(&self, other: &NameRef<'a>) -> Ordering {
+        self.compare(other)
+    }
+}
+
+impl<'a> Hash for NameRef<'a> {
+    ghost use Rattle.std.specs.Prelude.{◌∷◌, []};
+    ghost use Rattle.std.specs.Cmp.Rules.{hashing};
+    ghost use Rattle.std.proofs.Common.{rules};
+    ghost use Rattle.dns_view.specs.NamesShown.{octets_shown};
+
+    ghost hash_input = { λ r. octets_shown r ∷ [] };
+
+    ghost respects_eq = { Prim.search (hashing, rules) };
+
+    /// Feeds the uncompressed octets in lower case at once. Allocates nothing.
+    fn hash<H: Hasher>(&self, state: &mut H) {
+        let mut octets = [0; NAME_OCTETS];
+        let count = low_octets_of(self.message, self.offset, &mut octets);
+        state.write(&octets[..count]);
     }
 }

@@ -1,13 +1,14 @@
 //! The order of RDATA by canonical octets, this library's own form and not that of DNSSEC.
 
-ghost use Rattle.std.specs.Prelude.{true, ◌≡◌, ◌+◌, ◌<◌, ◌≤◌, length};
+ghost use Rattle.std.specs.Prelude.{◌≡◌, ◌+◌, ◌-◌, ◌<◌, ◌≤◌, length};
 ghost use Rattle.std.specs.{Cmp.Lexicographic.slice_cmp, Ordering.nat_cmp};
-ghost use Rattle.dns_fields.specs.Fields.{canonical, field_octets, Field, Value};
+ghost use Rattle.dns_fields.specs.{Fields.canonical, Fields.field_octets, Fields.Field, Fields.Value, declared.Kind.TheVariants.Options};
 ghost use Rattle.dns_rows.specs.Table.{kinds_of};
-ghost use Rattle.dns_view.specs.{Rows.IsRowChecked, Rows.HasRow, Putting.IsPut, Putting.ArePut};
+ghost use Rattle.dns_view.specs.Rows.{IsRowChecked, HasRow};
 
 use crate::coded_order::{compare_bitmaps, compare_parameters};
 use crate::name_ref::compare_names;
+use crate::option_order::compare_options;
 use crate::skip::skip_field;
 use crate::walk::Walk;
 use dns_fields::Kind;
@@ -28,7 +29,6 @@ pub fn compare_rows(
     requires left { x ≤ length a.now }
     requires right { y ≤ length b.now }
     requires row { IsRowChecked row.now }
-    requires copied { ArePut true row.now }
     requires short_left { long < 65536 }
     requires short_right { other < 65536 }
     ensures { (h : HasRow a.now x row.now (x + long)) (k : HasRow b.now y row.now (y + other)) →
@@ -67,14 +67,16 @@ fn compare_fields(
     j: usize,
     q: usize,
 ) -> Ordering
-    requires put { IsPut kind true }
     requires left { (i ≤ p) × (p ≤ length a.now) }
     requires right { (j ≤ q) × (q ≤ length b.now) }
+    requires short_left { kind ≡ Options → p - i < 65536 }
+    requires short_right { kind ≡ Options → q - j < 65536 }
     ensures { (u : Value kind) (v : Value kind) → Field a.now i kind u p → Field b.now j kind v q →
         result ≡ slice_cmp nat_cmp (field_octets kind u) (field_octets kind v) }
 {
     match kind {
         Kind::Name => compare_names(a, i, b, j),
+        Kind::Options => compare_options(&a[i..p], &b[j..q]),
         Kind::Parameters => compare_parameters(&a[i..p], &b[j..q]),
         Kind::Bitmap => compare_bitmaps(&a[i..p], &b[j..q]),
         _ => a[i..p].cmp(&b[j..q]),

@@ -7,15 +7,18 @@ ghost use Rattle.dns_view.specs.Putting.{Put, PutName, cased};
 
 use crate::names::skip_run;
 
-/// Writes octets at an offset of the buffer if they fit, and returns where they end.
+/// Writes octets at an offset of the buffer, as many as fit, and returns where they end.
 #[inline]
 pub fn put_octets(out: &mut [u8], at: usize, octets: &[u8]) -> usize
     requires { at + length octets.now < 2 ^ 64 }
     ensures { Put out.old out.new at result octets.now }
 {
     let end = at + octets.len();
-    if end <= out.len() {
+    let size = out.len();
+    if end <= size {
         out[at..end].copy_from_slice(octets);
+    } else if at < size {
+        out[at..size].copy_from_slice(&octets[..size - at]);
     }
     end
 }
@@ -40,8 +43,11 @@ pub fn put_cased(out: &mut [u8], at: usize, octets: &[u8], low: bool) -> usize
         return put_octets(out, at, octets);
     }
     let end = at + octets.len();
-    if end <= out.len() {
+    let size = out.len();
+    if end <= size {
         copy_lowered(&mut out[at..end], octets);
+    } else if at < size {
+        copy_lowered(&mut out[at..size], &octets[..size - at]);
     }
     end
 }

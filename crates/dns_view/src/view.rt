@@ -5,12 +5,13 @@ ghost use Rattle.dns_fields.specs.Fields.{canonical};
 ghost use Rattle.dns_names_wire.specs.Terms.{StaysBehind};
 ghost use Rattle.dns_rows.specs.Table.{kinds_of};
 ghost use Rattle.dns_view.specs.Rows.{HasRow, is_row};
-ghost use Rattle.dns_view.specs.{Putting.Put, Putting.all_form, Putting.ArePut};
+ghost use Rattle.dns_view.specs.{Putting.Put, Putting.all_form, Putting.key_of};
 ghost use Rattle.dns_view.specs.Checks.{FillsRow, NoFill, IsRowError};
 
 use crate::canonical::put_row;
 use crate::check::check_data;
-use crate::field::{FieldRef, field_of};
+use crate::field::{FieldRef, field_of, name_field_of};
+use crate::name_ref::NameRef;
 use crate::order::compare_rows;
 use crate::walk::Walk;
 use dns_rows::Part;
@@ -34,7 +35,7 @@ pub struct RowView<'a> {
 impl<'a> RowView<'a> {
     ghost use Rattle.std.specs.Prelude.{MatchOption};
     ghost use Rattle.std.specs.{Cmp.Lexicographic.slice_cmp, Ordering.nat_cmp};
-    ghost use Rattle.dns_view.specs.{ViewOf.IsViewOf, Shown.ShowsAt};
+    ghost use Rattle.dns_view.specs.{ViewOf.IsViewOf, Shown.ShowsAt, NameFields.names_in, NameFields.ShowsNameAt};
 
     /// Checks that the next `length` octets are RDATA of this row, and takes them. Allocates nothing.
     ///
@@ -100,12 +101,11 @@ impl<'a> RowView<'a> {
     }
 
     /// Writes the canonical octets at the front of a buffer, and returns how many they are: this library's own form for
-    /// equality and order, not that of DNSSEC. All names are uncompressed and lowercased. Allocates nothing. Options, which
-    /// would have to be sorted, are excluded.
+    /// equality and order, not that of DNSSEC. All names are uncompressed and lowercased. Options are sorted.
+    /// Allocates nothing.
     ///
-    /// If they are more than the buffer has, its contents are not specified.
+    /// If they are more than the buffer has, as many as fit are written, and the number is still theirs.
     pub fn put_canonical(&self, out: &mut [u8]) -> usize
-        requires { ArePut true self.now.row.now }
         ensures { (h : HasRow self.now.message.now self.now.offset self.now.row.now (self.now.offset + self.now.len)) →
             Put out.old out.new 0 result (canonical (kinds_of self.now.row.now) h.values) }
     {
@@ -118,7 +118,7 @@ impl<'a> RowView<'a> {
     /// Writes the octets with names uncompressed and their case preserved at the front of a buffer, and returns how many they
     /// are. Allocates nothing.
     ///
-    /// If they are more than the buffer has, its contents are not specified.
+    /// If they are more than the buffer has, as many as fit are written, and the number is still theirs.
     pub fn put_uncompressed(&self, out: &mut [u8]) -> usize
         ensures { (h : HasRow self.now.message.now self.now.offset self.now.row.now (self.now.offset + self.now.len)) →
             Put out.old out.new 0 result (all_form false (kinds_of self.now.row.now) h.values) }
@@ -129,6 +129,17 @@ impl<'a> RowView<'a> {
         }
     }
 
+    /// The first eight canonical octets as a number, high octet first; octets that are missing are 0. Of two RDATA of one row
+    /// with different numbers the one with the lesser number comes first. Allocates nothing.
+    pub fn order_key(&self) -> u64
+        ensures { (h : HasRow self.now.message.now self.now.offset self.now.row.now (self.now.offset + self.now.len)) →
+            result ≡ key_of (canonical (kinds_of self.now.row.now) h.values) }
+    {
+        let mut front = [0; 8];
+        let _count = self.put_canonical(&mut front);
+        u64::from_be_bytes(front)
+    }
+
     /// The field of this index in the row, or `None` if the row has fewer fields. Allocates nothing.
     pub fn field(&self, number: usize) -> Option<FieldRef<'a>>
         ensures { (h : HasRow self.now.message.now self.now.offset self.now.row.now (self.now.offset + self.now.len)) →
@@ -137,10 +148,17 @@ impl<'a> RowView<'a> {
         field_of(self.message, self.offset, self.row, self.len, number)
     }
 
-    /// Orders RDATA of one row by canonical octets, this library's own form. Allocates nothing. Options, which would have to be
-    /// sorted, are excluded.
+    /// The name of this index among the fields that are names, or `None` if the row has fewer names. Allocates nothing.
+    pub fn name(&self, index: usize) -> Option<NameRef<'a>>
+        ensures { (h : HasRow self.now.message.now self.now.offset self.now.row.now (self.now.offset + self.now.len)) →
+            MatchOption result (names_in (kinds_of self.now.row.now) ≤ index)
+            (λ r. ShowsNameAt self.now.message.now self.now.offset (kinds_of self.now.row.now) h.values index r) }
+    {
+        name_field_of(self.message, self.offset, self.row, self.len, index)
+    }
+
+    /// Orders RDATA of one row by canonical octets, this library's own form. Allocates nothing.
     pub fn compare(&self, other: &RowView<'_>) -> Ordering
-        requires { ArePut true self.now.row.now }
         ensures { self.now.row.now ≡ other.now.row.now →
             (h : HasRow self.now.message.now self.now.offset self.now.row.now (self.now.offset + self.now.len))
             (k : HasRow other.now.message.now other.now.offset self.now.row.now (other.now.offset + other.now.len)) →

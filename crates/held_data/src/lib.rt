@@ -4,7 +4,7 @@
 
 pub mod measured;
 
-use dns_rdata::{BinDecoder, DecodeError, Name, ParseError, RData, RecordType, Restrict};
+use dns_rdata::{BinDecoder, DecodeError, Name, ParseError, RData, RDataRef, RecordType, Restrict};
 use std::alloc::{AllocError, Global};
 
 /// Returns the type that a token names, or whose number it is.
@@ -42,6 +42,11 @@ impl Held {
     ) -> Result<Held, DecodeError> {
         let value = RData::read(decoder, record_type, Restrict::new(length))?;
         Ok(Held(value))
+    }
+
+    /// Makes the value of RDATA that is looked at in its message.
+    pub fn of_view(alloc: Global, view: &RDataRef<'_>) -> Result<Held, AllocError> {
+        Ok(Held(view.to_rdata(alloc)?))
     }
 
     /// Reads RDATA that is a whole message.

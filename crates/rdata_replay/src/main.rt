@@ -16,8 +16,8 @@ mod wire_calls;
 
 use anyhow::{Result, bail};
 use calls::reading::view_end;
-use dns_rdata::BinDecoder;
-use held_data::record_type;
+use dns_rdata::{BinDecoder, RDataRef, Restrict};
+use held_data::{Held, record_type};
 use rdata_command::run;
 use replay::{Interpreter, octets, replay};
 use std::alloc::Global;
@@ -37,7 +37,7 @@ impl Interpreter for Commands {
         if status != wanted_status.as_str().parse::<u8>()? || output.as_str() != wanted.as_str() {
             return Ok(Some(output));
         }
-        if !is_viewed(alloc, words, status)? {
+        if !is_viewed(alloc, words, status, output.as_str())? {
             return Ok(Some(String::from_str(alloc, "viewed otherwise")?));
         }
         if !reads_again(alloc, words, output.as_str())? {
@@ -77,8 +77,44 @@ fn canonical_line(output: &str) -> Option<&str> {
         .find_map(|line| line.strip_prefix("canonical "))
 }
 
-// Whether a view of the octets that are read is made exactly if they are read.
-fn is_viewed(alloc: Global, words: &[String], status: u8) -> Result<bool> {
+// The first eight octets as a number, high octet first; octets that are missing are 0.
+fn first_eight(octets: &[u8]) -> u64 {
+    let mut number = 0u64;
+    for i in 0..8usize {
+        number = number << 8 | u64::from(octets.get(i).copied().unwrap_or(0));
+    }
+    number
+}
+
+// Whether the value of a view has these canonical octets, and their key.
+fn has_value(alloc: Global, view: &RDataRef<'_>, wanted: &[u8]) -> Result<bool> {
+    let held = Held::of_view(alloc, view)?;
+    let mut out = Vec::new(alloc);
+    out.resize(wanted.len().saturating_add(1), 0u8)?;
+    let count = held.0.canonical_octets().copy_to(out.as_mut_slice());
+    Ok(&out.as_slice()[..count] == wanted && held.0.order_key() == first_eight(wanted))
+}
+
+// Whether a view has these canonical octets, in a buffer of their number and in one of an octet less, and their key.
+fn has_canonical(alloc: Global, view: &RDataRef<'_>, digits: &str) -> Result<bool> {
+    let wanted = octets(alloc, digits.trim_matches('-'))?;
+    let wanted = wanted.as_slice();
+    let mut out = Vec::new(alloc);
+    out.resize(wanted.len(), 0u8)?;
+    if view.put_canonical(out.as_mut_slice()) != wanted.len() || out.as_slice() != wanted {
+        return Ok(false);
+    }
+    let fewer = wanted.len().saturating_sub(1);
+    let mut out = Vec::new(alloc);
+    out.resize(fewer, 0u8)?;
+    let count = view.put_canonical(out.as_mut_slice());
+    let same = count == wanted.len() && out.as_slice() == &wanted[..fewer];
+    let same = same && view.order_key() == first_eight(wanted) && view.equals(view);
+    Ok(same && has_value(alloc, view, wanted)?)
+}
+
+// Whether a view of the octets that are read is made exactly if they are read, and has their canonical octets.
+fn is_viewed(alloc: Global, words: &[String], status: u8, output: &str) -> Result<bool> {
     let [command, kind, offset, length, digits] = words else {
         return Ok(true);
     };
@@ -97,7 +133,17 @@ fn is_viewed(alloc: Global, words: &[String], status: u8) -> Result<bool> {
         return Ok(status != 0);
     };
     let view = view_end(&decoder, kind, length);
-    Ok(status > 1 || matches!(view, Some((None, _))) == (status == 0))
+    if status <= 1 && matches!(view, Some((None, _))) != (status == 0) {
+        return Ok(false);
+    }
+    let mut other = decoder.clone(offset)?;
+    match (
+        RDataRef::read(&mut other, kind, Restrict::new(length)),
+        canonical_line(output),
+    ) {
+        (Ok(view), Some(digits)) => has_canonical(alloc, &view, digits),
+        _ => Ok(true),
+    }
 }
 
 // Whether the canonical octets of what was read, read again, are told as the same.

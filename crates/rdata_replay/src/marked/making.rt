@@ -36,7 +36,7 @@ pub fn read(marks: &Marks<'_>, text: &str) -> Result<String> {
     Ok(format!(in alloc; "{} {rest} {shown}", decoder.index())?)
 }
 
-// Why a view is not made; or that it is, and how many uncompressed octets it has, which are written.
+// Why a view is not made; or that it is, and how many uncompressed octets it has, which are written after the canonical ones.
 fn look(
     decoder: &mut BinDecoder<'_>,
     record_type: RecordType,
@@ -44,7 +44,12 @@ fn look(
     out: &mut [u8],
 ) -> (Option<DecodeError>, usize) {
     match RDataRef::read(decoder, record_type, Restrict::new(length)) {
-        Ok(data) => (None, data.put_whole(out)),
+        Ok(data) => {
+            let _canonical = data.put_canonical(out);
+            let _key = data.order_key();
+            let _same = data.equals(&data);
+            (None, data.put_whole(out))
+        }
         Err(error) => (Some(error), 0),
     }
 }

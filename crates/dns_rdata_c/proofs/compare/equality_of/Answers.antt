@@ -1,8 +1,8 @@
-use Rattle.dns_rdata_c.proofs.Equalities.{told_same, told_apart}
+use Rattle.dns_rdata_c.proofs.ViewCalls.{are_equal, are_unequal}
 use Rattle.dns_rdata_c.proofs.compare.equality_of.Goals as goal
 
-pub returns-then-eq : goal.returns-then-eq
-returns-then-eq c = told_same _ _ _ c.if-eq.true c.eq.ensures
+pub returns-then-equals : goal.returns-then-equals
+returns-then-equals c = λ t m p n l q k a b. are_equal a b (λ v w f g. c.equals.ensures m p n t v l q k t w a f b g) c.if-equals.true
 
-pub returns-else-eq : goal.returns-else-eq
-returns-else-eq c = told_apart _ _ _ c.if-eq.false c.eq.ensures
+pub returns-else-equals : goal.returns-else-equals
+returns-else-equals c = λ t m p n l q k a b. are_unequal a b (λ v w f g. c.equals.ensures m p n t v l q k t w a f b g) c.if-equals.false

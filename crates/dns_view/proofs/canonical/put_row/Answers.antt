@@ -1,11 +1,11 @@
 use Rattle.std.proofs.Common.{refl, arith}
 use Rattle.dns_view.proofs.RowOrder.{skipped_inside}
-use Rattle.dns_view.proofs.PutLoop.{at_put_first, at_name, at_plain, at_coded, put_allowed, no_field, no_name, at_put_last}
+use Rattle.dns_view.proofs.PutLoop.{at_put_first, at_name, at_plain, at_coded, options_short, no_field, no_name, at_put_last}
 use Rattle.dns_view.proofs.canonical.put_row.Goals.{in-Name+in-Some, in_default+in-Ok+then-is_recoded, in_default+in-Ok+else-is_recoded}
 use Rattle.dns_view.proofs.canonical.put_row.Goals as goal
 
 pub fields-init : goal.fields-init
-fields-init c = at_put_first c.args.len c.requires.row.ordered c.requires.row.covered c.requires.put c.requires.inside c.at-walk.ensures
+fields-init c = at_put_first c.args.len c.requires.row.ordered c.requires.row.covered c.requires.inside c.at-walk.ensures
 
 pub returns-in-None : goal.returns-in-None
 returns-in-None c = λ h. no_name _ c.fields.invariant c.fields-test.true c.in-Name.is (rw c.index-here.ensures.offset at c.in-None.ensures.none) h
@@ -35,5 +35,6 @@ put_recoded-at-requires-clause-field c =
     let s = skipped_inside c.fields.invariant.so.same c.in-Ok.ensures in
     (omega (arith, s.0, c.index-here.ensures.offset, c.index-from.ensures.offset), omega (arith, s.1, c.index-from.ensures.offset))
 
-pub put_recoded-at-requires-clause-put : goal.put_recoded-at-requires-clause-put
-put_recoded-at-requires-clause-put c = put_allowed _ c.fields.invariant c.fields-test.true
+pub put_recoded-at-requires-clause-short : goal.put_recoded-at-requires-clause-short
+put_recoded-at-requires-clause-short c = rw (c.index-here.ensures.offset, c.index-from.ensures.offset)
+    (options_short (omega (arith, c.fields.invariant.so.before, c.fields.invariant.so.further)) c.requires.short c.in-Ok.ensures)

@@ -1,6 +1,4 @@
-use Rattle.std.proofs.Common.{arith, ◌∙◌, ap, ◌≡◌, take, List, ℕ}
-use Rattle.std.specs.{Cmp.Lexicographic.slice_cmp, Ordering.nat_cmp}
-use Rattle.dns_fields.specs.{Fields.field_octets, declared.Kind.TheVariants.Bitmap}
+use Rattle.std.proofs.Common.{arith}
 use Rattle.dns_view.proofs.RowOrder.{put_front}
 use Rattle.dns_view.proofs.coded_order.compare_bitmaps.Goals as goal
 

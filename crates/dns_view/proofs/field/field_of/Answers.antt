@@ -1,5 +1,5 @@
 use Rattle.std.proofs.Common.{arith, ◌<◌}
-use Rattle.dns_view.proofs.FieldAt.{at_field_first, at_field_more, at_field, no_such_field}
+use Rattle.dns_view.proofs.FieldAt.{at_field_first, at_field_more, at_field, no_such_field, field_there}
 use Rattle.dns_view.proofs.RowOrder.{skipped_inside}
 use Rattle.dns_view.proofs.field.field_of.Goals as goal
 
@@ -23,3 +23,7 @@ pub show_field-requires-clause-before : goal.show_field-requires-clause-before
 show_field-requires-clause-before c =
     let s = skipped_inside c.loop-at.invariant.so.same c.in-Ok.ensures in
     omega (arith, s.0, c.index-here.ensures.offset, c.index.ensures.offset)
+
+pub show_field-requires-clause-there : goal.show_field-requires-clause-there
+show_field-requires-clause-there c =
+    rw (c.index-here.ensures.offset, c.index.ensures.offset) (field_there c.loop-at.invariant.so.same c.in-Ok.ensures)

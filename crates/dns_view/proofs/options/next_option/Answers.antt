@@ -1,4 +1,4 @@
-use Rattle.std.proofs.Common.{◌≡◌, ◌+◌, ◌-◌, ◌<◌, ◌≤◌, arith}
+use Rattle.std.proofs.Common.{◌≡◌, ◌+◌, ◌-◌, ◌≤◌, arith}
 use Rattle.dns_view.proofs.OptionLists.{cut_short, tlv_read}
 use Rattle.dns_view.proofs.options.next_option.Goals as goal
 

@@ -1,9 +1,10 @@
 use Rattle.std.proofs.Common.{arith}
 use Rattle.dns_view.proofs.RowOrder.{at_tied_first, at_tied_more, at_differ, at_tied_last, no_left, no_right, skipped_inside}
+use Rattle.dns_view.proofs.PutLoop.{options_short}
 use Rattle.dns_view.proofs.order.compare_rows.Goals as goal
 
 pub fields-init : goal.fields-init
-fields-init c = at_tied_first c.args.long c.args.other c.requires.row.ordered c.requires.row.covered c.requires.copied c.at-left.ensures c.at-right.ensures
+fields-init c = at_tied_first c.args.long c.args.other c.requires.row.ordered c.requires.row.covered c.at-left.ensures c.at-right.ensures
 
 pub skip_field-requires-clause-before : goal.skip_field-requires-clause-before
 skip_field-requires-clause-before c = c.fields.invariant.so.before
@@ -41,3 +42,11 @@ returns-in_default c =
 
 pub returns : goal.returns
 returns c = λ h k. at_tied_last c.fields.invariant c.fields-test.false h k
+
+pub compare_fields-order-requires-clause-short_left : goal.compare_fields-order-requires-clause-short_left
+compare_fields-order-requires-clause-short_left c = rw (c.index-i.ensures.offset, c.index.ensures.offset)
+    (options_short c.fields.invariant.so.before c.requires.short_left c.in-Ok.ensures)
+
+pub compare_fields-order-requires-clause-short_right : goal.compare_fields-order-requires-clause-short_right
+compare_fields-order-requires-clause-short_right c = rw (c.index-j.ensures.offset, c.index-in-fields.ensures.offset)
+    (options_short c.fields.invariant.so.before_too c.requires.short_right c.in-Ok-skip_field.ensures)

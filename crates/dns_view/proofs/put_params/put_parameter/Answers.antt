@@ -1,5 +1,5 @@
 use Rattle.std.proofs.Common.{refl}
-use Rattle.dns_view.proofs.PutParameters.{port_parameter, whole_parameter}
+use Rattle.dns_view.proofs.PutParameters.{port_parameter}
 use Rattle.dns_view.proofs.put_params.put_parameter.Goals as goal
 
 pub returns-then-has_surplus-clause-put : goal.returns-then-has_surplus-clause-put

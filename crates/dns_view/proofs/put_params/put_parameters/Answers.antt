@@ -1,4 +1,4 @@
-use Rattle.std.proofs.Common.{arith, length, length-take, length-drop, ◌≤◌, ◌+◌, take, drop, ◌-◌, ℕ}
+use Rattle.std.proofs.Common.{arith, length, length-take, length-drop, ◌≤◌, ◌+◌, ℕ}
 use Rattle.dns_view.proofs.PutParameters.{puts_none, puts_more, puts_cut, puts_done}
 use Rattle.dns_view.proofs.put_params.put_parameters.Goals as goal
 

@@ -1,0 +1,211 @@
+-- The fields of a value, by the view of its RDATA.
+use Rattle.std.proofs.Common.{◌≡◌, ℕ, suc, ◌+◌, ◌-◌, ◌≤◌, inl, inr, List, [], ◌∷◌, ◌++◌, length, take, drop, Option, Some, None, refl, sym, ap, ◌∙◌, arith, subst, Bor}
+use Rattle.std.proofs.lemmas.List.{take_all, append-nil}
+use Rattle.std.specs.List.{flat_map}
+use Rattle.std.specs.{declared.net.ip_addr.IpAddr.IpAddr, declared.net.ipv4_addr.Ipv4Addr.Ipv4Addr, declared.net.ipv6_addr.Ipv6Addr.Ipv6Addr}
+use Rattle.std.specs.Net.Addr.{ipv4_octets, ipv6_octets, segments_of, octets_of}
+use Rattle.std.specs.declared.net.ip_addr.IpAddr.TheVariants.{V4, V6}
+use Rattle.dns_types.specs.declared.record_type.RecordType.{RecordType}
+use Rattle.dns_types.specs.declared.record_type.RecordType.TheVariants as types
+use Rattle.dns_fields.specs.declared.Kind.{Kind}
+use Rattle.dns_fields.specs.declared.Kind.TheVariants.{CharacterStrings, Options, Parameters}
+use Rattle.dns_fields.specs.{Octets.At, Fields.Value, Fields.Values, Fields.IsField}
+use Rattle.dns_fields.specs.Tlvs.{string, Numbered, tlvs, AreTlvs, AllHeld, OptionValue, OptionHeld, ParameterValue, ParameterHeld}
+use Rattle.dns_rows.specs.{declared.row.Part.Part, Table.table, Table.kinds_of}
+use Rattle.dns_fields.proofs.{Tlvs.complete_or_truncated, OctetLaws.AreOctets-at}
+use Rattle.dns_view.specs.{Rows.HasRow, Shown.ShowsAt, Shown.IsShown, Tlvs.AreComplete, TlvList.NoTlv}
+use Rattle.dns_view.specs.declared.field.FieldRef.{FieldRef}
+use Rattle.dns_view.specs.declared.field.FieldRef.TheVariants as shown
+use Rattle.dns_view.proofs.{Alone.between_is, TlvSteps.no_octets}
+use Rattle.dns_rdata_base.proofs.Addresses.{octets_of-segments}
+use Rattle.dns_rdata.specs.{Data.FieldsOf, Data.fields_of, Data.type_of, Data.Fills, Laws.address_of}
+use Rattle.dns_rdata.specs.{declared.record_data.RData.RData, declared.view.RDataRef.RDataRef, Views.IsViewOf}
+use Rattle.dns_rdata.specs.declared.record_data.RData.TheVariants as rdata
+use Rattle.dns_rdata.specs.ViewLists.{strings_in, options_in, parameters_in}
+use Rattle.dns_rdata.proofs.{Views.meets_row, Values.value_is, Values.value_for-a, Values.value_for-aaaa}
+
+-- ---- what is said of the fields of the row is said of the value
+
+abbrev pub Tells : (List ℕ → ℕ → FieldsOf → Type 0) → List ℕ → ℕ → ℕ → List Part → Type 0
+Tells P m p n parts = (h : HasRow m p parts (p + n)) → P m p (record { kinds = kinds_of parts; values = h.values })
+
+tells_as : (P : List ℕ → ℕ → FieldsOf → Type 0) {m l : List ℕ} {p q n k : ℕ} {parts others : List Part} → m ≡ l → p ≡ q → n ≡ k → parts ≡ others
+    → Tells P m p n parts → Tells P l q k others
+tells_as P {m} {l} {p} {q} {n} {k} {parts} {others} a b c d f =
+    subst (λ (x : List ℕ). Tells P x q k others) a
+    (subst (λ (x : ℕ). Tells P m x k others) b (subst (λ (x : ℕ). Tells P m p x others) c (subst (λ (x : List Part). Tells P m p n x) d f)))
+
+pub view_tells : (P : List ℕ → ℕ → FieldsOf → Type 0) (m : List ℕ) (p n : ℕ) (t : RecordType) (v : RData) (r : RDataRef) → IsViewOf m p n t r → Fills m p n t v
+    → Tells P r.view.message.now r.view.offset r.view.len r.view.row.now → P m p (fields_of v)
+view_tells P m p n t v r is f w =
+    subst (P m p) (sym f.value.fields) (tells_as P is.view.message is.view.offset is.view.len is.view.row w
+    (record { values = f.values; stands = f.region.stands; meets = meets_row (table t) f.values f.region.holds }))
+
+pub kinds_length : (row : List Part) → length (kinds_of row) ≡ length row
+kinds_length [] = refl
+kinds_length (p ∷ row) = ap suc (kinds_length row)
+
+-- ---- lists by the kinds of the fields
+
+abbrev first_strings : (kinds : List Kind) → Values kinds → List (List ℕ)
+first_strings (CharacterStrings ∷ kinds) vs = vs.0
+first_strings kinds vs = []
+
+abbrev first_options : (kinds : List Kind) → Values kinds → List (Numbered OptionValue)
+first_options (Options ∷ kinds) vs = vs.0
+first_options kinds vs = []
+
+abbrev third_parameters : (kinds : List Kind) → Values kinds → List (Numbered ParameterValue)
+third_parameters (a ∷ (b ∷ (Parameters ∷ kinds))) vs = vs.1.1.0
+third_parameters kinds vs = []
+
+strings_first : (v : RData) → strings_in v ≡ first_strings (fields_of v).kinds (fields_of v).values
+strings_first (rdata.TXT x) = refl
+strings_first v = refl
+
+options_first : (v : RData) → options_in v ≡ first_options (fields_of v).kinds (fields_of v).values
+options_first (rdata.OPT x) = refl
+options_first v = refl
+
+parameters_third : (v : RData) → parameters_in v ≡ third_parameters (fields_of v).kinds (fields_of v).values
+parameters_third (rdata.SVCB x) = refl
+parameters_third v = refl
+
+-- ---- the octets of a type of one field
+
+alone : {m x : List ℕ} {p q : ℕ} (n : ℕ) → At m p x q → q ≡ p + n → take n (drop p m) ≡ x
+alone {m} {x} {p} {q} n a e =
+    let size : q - p ≡ n = omega arith in
+    ap (λ (k : ℕ). take k (drop p m)) (sym size) ∙ between_is a
+
+as_type : {m : List ℕ} {p n : ℕ} {t u : RecordType} {v : RData} {r : RDataRef} → IsViewOf m p n t r → Fills m p n t v → r.record_type ≡ u → Fills m p n u v
+as_type {m} {p} {n} {t} {u} {v} {r} is f e = subst (λ (x : RecordType). Fills m p n x v) (sym is.type ∙ e) f
+
+pub strings_octets : {m : List ℕ} {p n : ℕ} {t : RecordType} {v : RData} {r : RDataRef} → IsViewOf m p n t r → Fills m p n t v → r.record_type ≡ types.TXT
+    → take n (drop p m) ≡ flat_map string (strings_in v)
+strings_octets {m} {p} {n} {t} {v} {r} is f e =
+    let g : Fills m p n types.TXT v = as_type is f e in
+    let same : strings_in v ≡ g.values.0 = strings_first v ∙ ap (λ (x : FieldsOf). first_strings x.kinds x.values) g.value.fields in
+    alone n g.region.stands.1.is.1 g.region.stands.2 ∙ ap (flat_map string) (sym same)
+
+no_strings : (v : RData) → (type_of v ≡ types.TXT → ⊥) → strings_in v ≡ []
+no_strings (rdata.TXT x) ne = absurd (ne refl)
+no_strings v ne = refl
+
+pub strings_none : {m : List ℕ} {p n : ℕ} {t : RecordType} {v : RData} {r : RDataRef} → IsViewOf m p n t r → Fills m p n t v → (r.record_type ≡ types.TXT → ⊥)
+    → [] ≡ strings_in v
+strings_none {v = v} is f ne = sym (no_strings v (λ e. ne (is.type ∙ sym f.value.type ∙ e)))
+
+-- ---- options
+
+no_options : (v : RData) → (type_of v ≡ types.OPT → ⊥) → options_in v ≡ []
+no_options (rdata.OPT x) ne = absurd (ne refl)
+no_options v ne = refl
+
+held_nothing : {V : Type 0} (Held : ℕ → List ℕ → V → Type 0) (r : List (Numbered (List ℕ))) (ys : List (Numbered V)) → r ≡ [] → ys ≡ [] → AllHeld Held r ys
+held_nothing Held r ys e f = subst (λ (x : List (Numbered (List ℕ))). AllHeld Held x ys) (sym e) (subst (λ (y : List (Numbered _)). AllHeld Held [] y) (sym f) tt)
+
+whole_octets : {o x : List ℕ} → At o 0 x (length o) → o ≡ x
+whole_octets {o} {x} a = sym (take_all (length x) o (omega (arith, a.ends))) ∙ a.same
+
+-- what complete options yield, and that truncated ones yield nothing
+abbrev pub YieldsOptions : List ℕ → List (Numbered (List ℕ)) → Type 0
+YieldsOptions o r = ((xs : List (Numbered (List ℕ))) → AreTlvs xs → o ≡ tlvs xs → r ≡ xs) × ((AreComplete o → ⊥) → r ≡ [])
+
+options_held : (o : List ℕ) (r : List (Numbered (List ℕ))) (v : Value Options) {m : List ℕ} {p q : ℕ} (n : ℕ) → o ≡ take n (drop p m) → q ≡ p + n
+    → IsField m p Options v q → YieldsOptions o r → AllHeld OptionHeld r v
+options_held o r v n e end (inl c) y =
+    subst (λ (x : List (Numbered (List ℕ))). AllHeld OptionHeld x v) (sym (y.0 c.read c.fit (e ∙ alone n c.at end))) c.held
+options_held o r v {m} {p} {q} n e end (inr h) y =
+    let t = h.1 in
+    let none : AreComplete o → ⊥ = λ c. complete_or_truncated (q - p) c.read t.read t.stub c.fit t.fit t.cut (sym (whole_octets c.at) ∙ e ∙ alone n t.at end) in
+    held_nothing OptionHeld r v (y.1 none) h.0
+
+pub options_told : {m : List ℕ} {p n : ℕ} {t : RecordType} {v : RData} {r : RDataRef} (o : List ℕ) (result : List (Numbered (List ℕ)))
+    → IsViewOf m p n t r → Fills m p n t v → r.record_type ≡ types.OPT → o ≡ take n (drop p m) → YieldsOptions o result → AllHeld OptionHeld result (options_in v)
+options_told {m} {p} {n} {t} {v} {r} o result is f e same y =
+    let g : Fills m p n types.OPT v = as_type is f e in
+    let held : options_in v ≡ g.values.0 = options_first v ∙ ap (λ (x : FieldsOf). first_options x.kinds x.values) g.value.fields in
+    subst (λ (ys : List (Numbered OptionValue)). AllHeld OptionHeld result ys) (sym held)
+    (options_held o result g.values.0 n same g.region.stands.2 g.region.stands.1.is y)
+
+pub options_none : {m : List ℕ} {p n : ℕ} {t : RecordType} {v : RData} {r : RDataRef} (result : List (Numbered (List ℕ))) → IsViewOf m p n t r → Fills m p n t v
+    → (r.record_type ≡ types.OPT → ⊥) → result ≡ [] → AllHeld OptionHeld result (options_in v)
+options_none {v = v} result is f ne none = held_nothing OptionHeld result (options_in v) none (no_options v (λ e. ne (is.type ∙ sym f.value.type ∙ e)))
+
+-- ---- parameters
+
+shown_parameters : (f : FieldRef) (v : Value Parameters) → IsShown f Parameters v → (s : Bor (List ℕ)) × (f ≡ shown.Parameters s)
+shown_parameters (shown.Parameters s) v h = (s, refl)
+shown_parameters f v h = absurd h
+
+third_other : (kinds : List Kind) (vs : Values kinds) (f : FieldRef) → ShowsAt 2 kinds vs f → ((s : Bor (List ℕ)) → f ≡ shown.Parameters s → ⊥)
+    → third_parameters kinds vs ≡ []
+third_other [] vs f h ne = refl
+third_other (a ∷ []) vs f h ne = refl
+third_other (a ∷ (b ∷ [])) vs f h ne = refl
+third_other (a ∷ (b ∷ (Parameters ∷ kinds))) vs f h ne = let w = shown_parameters f vs.1.1.0 h.is in absurd (ne w.0 w.1)
+third_other (a ∷ (b ∷ (k ∷ kinds))) vs f h ne = refl
+
+third_missing : (kinds : List Kind) (vs : Values kinds) → length kinds ≤ 2 → third_parameters kinds vs ≡ []
+third_missing [] vs h = refl
+third_missing (a ∷ []) vs h = refl
+third_missing (a ∷ (b ∷ [])) vs h = refl
+third_missing (a ∷ (b ∷ (k ∷ kinds))) vs h = absurd (omega (arith, h))
+
+-- what parameters yield
+abbrev pub YieldsTlvs : List ℕ → List (Numbered (List ℕ)) → Type 0
+YieldsTlvs o r = (xs : List (Numbered (List ℕ))) (rest : List ℕ) → AreTlvs xs → o ≡ tlvs xs ++ rest → NoTlv rest → r ≡ xs
+
+third_shown : (kinds : List Kind) (vs : Values kinds) (s : Bor (List ℕ)) (r : List (Numbered (List ℕ))) → ShowsAt 2 kinds vs (shown.Parameters s)
+    → YieldsTlvs s.now r → AllHeld ParameterHeld r (third_parameters kinds vs)
+third_shown [] vs s r h y = absurd h
+third_shown (a ∷ []) vs s r h y = absurd h
+third_shown (a ∷ (b ∷ [])) vs s r h y = absurd h
+third_shown (a ∷ (b ∷ (Parameters ∷ kinds))) vs s r h y =
+    let c = h.is.is in
+    let e : r ≡ c.read = y c.read [] c.fit (whole_octets c.at ∙ sym (append-nil (tlvs c.read))) no_octets in
+    subst (λ (x : List (Numbered (List ℕ))). AllHeld ParameterHeld x vs.1.1.0) (sym e) c.held
+third_shown (a ∷ (b ∷ (k ∷ kinds))) vs s r h y = absurd h.is
+
+pub parameters_told : (v : RData) (s : Bor (List ℕ)) (r : List (Numbered (List ℕ))) → ShowsAt 2 (fields_of v).kinds (fields_of v).values (shown.Parameters s)
+    → YieldsTlvs s.now r → AllHeld ParameterHeld r (parameters_in v)
+parameters_told v s r h y = subst (λ (ys : List (Numbered ParameterValue)). AllHeld ParameterHeld r ys) (sym (parameters_third v))
+    (third_shown (fields_of v).kinds (fields_of v).values s r h y)
+
+pub parameters_other : (v : RData) (f : FieldRef) (r : List (Numbered (List ℕ))) → ShowsAt 2 (fields_of v).kinds (fields_of v).values f
+    → ((s : Bor (List ℕ)) → f ≡ shown.Parameters s → ⊥) → r ≡ [] → AllHeld ParameterHeld r (parameters_in v)
+parameters_other v f r h ne none =
+    held_nothing ParameterHeld r (parameters_in v) none (parameters_third v ∙ third_other (fields_of v).kinds (fields_of v).values f h ne)
+
+pub parameters_missing : (v : RData) (r : List (Numbered (List ℕ))) → length (fields_of v).kinds ≤ 2 → r ≡ [] → AllHeld ParameterHeld r (parameters_in v)
+parameters_missing v r h none = held_nothing ParameterHeld r (parameters_in v) none (parameters_third v ∙ third_missing (fields_of v).kinds (fields_of v).values h)
+
+-- ---- addresses
+
+pub a_told : {m : List ℕ} {p n : ℕ} {t : RecordType} {v : RData} {r : RDataRef} {result : Option IpAddr} → IsViewOf m p n t r → Fills m p n t v
+    → r.record_type ≡ types.A → ((a : Ipv4Addr) → length (take n (drop p m)) ≡ 4 → take n (drop p m) ≡ ipv4_octets a → result ≡ Some (V4 a)) → result ≡ address_of v
+a_told {m} {p} {n} {t} {v} {r} {result} is f e h =
+    let g : Fills m p n types.A v = as_type is f e in
+    let here = alone n g.region.stands.1.is.1 g.region.stands.2 in
+    h (record { octets = g.values.0 }) (ap length here ∙ g.region.stands.1.is.0) here ∙ sym (ap address_of (value_is types.A g.values v g.value ∙ value_for-a g.values))
+
+pub aaaa_told : {m : List ℕ} {p n : ℕ} {t : RecordType} {v : RData} {r : RDataRef} {result : Option IpAddr} → IsViewOf m p n t r → Fills m p n t v
+    → r.record_type ≡ types.AAAA → ((a : Ipv6Addr) → length (take n (drop p m)) ≡ 16 → take n (drop p m) ≡ ipv6_octets a → result ≡ Some (V6 a)) → result ≡ address_of v
+aaaa_told {m} {p} {n} {t} {v} {r} {result} is f e h =
+    let g : Fills m p n types.AAAA v = as_type is f e in
+    let s = g.values.0 in
+    let whole : octets_of (segments_of s) ≡ s = octets_of-segments 8 s g.region.stands.1.is.0
+    (AreOctets-at m p s g.region.stands.0 g.region.octets g.region.stands.1.is.1) in
+    let here = alone n g.region.stands.1.is.1 g.region.stands.2 in
+    h (record { segments = segments_of s }) (ap length here ∙ g.region.stands.1.is.0) (here ∙ sym whole)
+    ∙ sym (ap address_of (value_is types.AAAA g.values v g.value ∙ value_for-aaaa g.values))
+
+no_address : (v : RData) → (type_of v ≡ types.A → ⊥) → (type_of v ≡ types.AAAA → ⊥) → address_of v ≡ None
+no_address (rdata.A x) ne other = absurd (ne refl)
+no_address (rdata.AAAA x) ne other = absurd (other refl)
+no_address v ne other = refl
+
+pub address_none : {m : List ℕ} {p n : ℕ} {t : RecordType} {v : RData} {r : RDataRef} → IsViewOf m p n t r → Fills m p n t v
+    → (r.record_type ≡ types.A → ⊥) → (r.record_type ≡ types.AAAA → ⊥) → None ≡ address_of v
+address_none {v = v} is f ne other = sym (no_address v (λ e. ne (is.type ∙ sym f.value.type ∙ e)) (λ e. other (is.type ∙ sym f.value.type ∙ e)))

@@ -1,0 +1,6 @@
+use Rattle.std.proofs.Common.{refl}
+use Rattle.dns_rdata.proofs.ViewFields.{all_names}
+use Rattle.dns_rdata.proofs.view.RDataRef.names.Goals as goal
+
+pub returns : goal.returns
+returns c = λ m p n t v is f. all_names m p n t v _ is f refl

@@ -1,0 +1,25 @@
+-- The octets of a name that is encoded in a message.
+use Rattle.std.proofs.Common.{◌≡◌, ℕ, Bool, List, sym, ap, subst, ◌∙◌}
+use Rattle.std.proofs.{Math.Logic.∥∥₁_elim, lemmas.Map.Text.is_eq-slice_cmp, lemmas.Slice.Eq.bytes_eq-Decides}
+use Rattle.std.specs.{Bool.Decides, Ordering.is_eq}
+use Rattle.std.specs.Coded.{Coded-set, coded_list, coded_ℕ}
+use Rattle.std.specs.{Cmp.Lexicographic.slice_cmp, Ordering.nat_cmp, Ordering.Ordering-set, declared.cmp.Ordering.Ordering}
+use Rattle.dns_fields.specs.{Labels.DomainName, Labels.lowered, Labels.lowname, Names.IsNameIn}
+use Rattle.dns_view.specs.{NameEnds.IsNamed, LabelList.low_octets}
+use Rattle.dns_view.proofs.LabelSteps.{labels_found}
+
+pub low_of : {m : List ℕ} {p q : ℕ} {x : DomainName} → IsNameIn m p x q → lowname x ≡ low_octets m p
+low_of is = ap lowered (sym (labels_found is))
+
+pub low_shown : {m : List ℕ} {p : ℕ} {s : List ℕ} → ∥ IsNamed m p ∥₁ → ((x : DomainName) (q : ℕ) → IsNameIn m p x q → s ≡ lowname x) → s ≡ low_octets m p
+low_shown n h = ∥∥₁_elim n (Coded-set (coded_list coded_ℕ) _ _) (λ w. h w.name w.end w.is ∙ low_of w.is)
+
+pub low_compared : {a b : List ℕ} {x y : ℕ} {o : Ordering} → ∥ IsNamed a x ∥₁ → ∥ IsNamed b y ∥₁
+    → ((u : DomainName) (q : ℕ) (v : DomainName) (r : ℕ) → IsNameIn a x u q → IsNameIn b y v r → o ≡ slice_cmp nat_cmp (lowname u) (lowname v))
+    → o ≡ slice_cmp nat_cmp (low_octets a x) (low_octets b y)
+low_compared {a} {b} {x} {y} n k h = ∥∥₁_elim n (Ordering-set _ _) (λ w. ∥∥₁_elim k (Ordering-set _ _) (λ t.
+    h w.name w.end t.name t.end w.is t.is ∙ ap (λ (s : List ℕ). slice_cmp nat_cmp s (lowname t.name)) (low_of w.is)
+    ∙ ap (λ (s : List ℕ). slice_cmp nat_cmp (low_octets a x) s) (low_of t.is)))
+
+pub same_octets : (a b : List ℕ) (r : Bool) → r ≡ is_eq (slice_cmp nat_cmp a b) → Decides r (a ≡ b)
+same_octets a b r e = subst (λ (x : Bool). Decides x (a ≡ b)) (sym (e ∙ is_eq-slice_cmp a b)) (bytes_eq-Decides a b)
