@@ -12,7 +12,7 @@
  *    octets that the data and the pointers of its names lead to are looked at.
  *  - Calls allocate by malloc, and free everything before they return. If malloc fails, the call returns DNS_RDATA_MEMORY, or
  *    its usual result if it can do without that memory. Calls that never allocate say so.
- *  - Calls keep no state: threads may call at the same time. Not for signal handlers. A stack of 24 KiB is enough, and of 96 KiB
+ *  - Calls keep no state: threads may call at the same time. Not for signal handlers. A stack of 40 KiB is enough, and of 96 KiB
  *    for OPT of more than 8,195 octets.
  *  - The answer is a status, DNS_RDATA_OK or why not. From DNS_RDATA_REFUSED on, the octets are the data of no record of that
  *    type; from DNS_RDATA_NO_DATA_TEXT on, the text is of none. Neither is ever answered for octets or texts that are.

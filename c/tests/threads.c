@@ -8,7 +8,7 @@
 #include <stdio.h>
 #include <string.h>
 
-enum { THREADS = 4, ROUNDS = 5000, STACK = 24 * 1024, LARGE_STACK = 96 * 1024, SIZE = 60 };
+enum { THREADS = 4, ROUNDS = 5000, STACK = 40 * 1024, LARGE_STACK = 96 * 1024, SIZE = 60 };
 
 static const uint16_t types[] = {1, 5, 6, 13, 15, 16, 28, 33, 35, 37, 41, 62, 64, 65, 257};
 
