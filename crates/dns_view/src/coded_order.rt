@@ -15,6 +15,8 @@ use std::cmp::Ordering;
 const BITMAP_OCTETS: usize = 8704;
 
 /// Orders two sets of types by their shortest bitmaps, given by the octets of any bitmaps of theirs.
+// Not inlined, so that only CSYNC needs the stack for two bitmaps.
+#[inline(never)]
 pub fn compare_bitmaps(a: &[u8], b: &[u8]) -> Ordering
     ensures { (u : Value Bitmap) (v : Value Bitmap) → Field a.now 0 Bitmap u (length a.now) → Field b.now 0 Bitmap v (length b.now) →
         result ≡ slice_cmp nat_cmp (field_octets Bitmap u) (field_octets Bitmap v) }

@@ -86,13 +86,24 @@ fn first_eight(octets: &[u8]) -> u64 {
     number
 }
 
-// Whether the value of a view has these canonical octets, and their key.
+// Whether the first name of a view, made whole, is the one that the value points to, if it points to one.
+fn has_target(alloc: Global, view: &RDataRef<'_>, held: &Held) -> Result<bool> {
+    let (Some(name), Some(target)) = (view.name(0), held.0.target()) else {
+        return Ok(true);
+    };
+    let name = name.to_name(alloc)?;
+    let shown = format!(in alloc; "{name}")?;
+    Ok(shown.as_str() == format!(in alloc; "{target}")?.as_str())
+}
+
+// Whether the value of a view has these canonical octets, their key, and the view's name.
 fn has_value(alloc: Global, view: &RDataRef<'_>, wanted: &[u8]) -> Result<bool> {
     let held = Held::of_view(alloc, view)?;
     let mut out = Vec::new(alloc);
     out.resize(wanted.len().saturating_add(1), 0u8)?;
     let count = held.0.canonical_octets().copy_to(out.as_mut_slice());
-    Ok(&out.as_slice()[..count] == wanted && held.0.order_key() == first_eight(wanted))
+    let same = &out.as_slice()[..count] == wanted && held.0.order_key() == first_eight(wanted);
+    Ok(same && has_target(alloc, view, &held)?)
 }
 
 // Whether a view has these canonical octets, in a buffer of their number and in one of an octet less, and their key.
