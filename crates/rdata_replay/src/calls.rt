@@ -109,7 +109,6 @@ fn answer_to_two(alloc: Global, command: &str, first: &str, second: &str) -> Res
         "at" => changing::at(alloc, first, second),
         "key-order" => services::key_order(alloc, first, second),
         "found" => lists::found(alloc, first, second),
-        "front" => services::front(alloc, first, second),
         "parameter" => services::parameter(alloc, first, second),
         _ => bail!("no such command"),
     }

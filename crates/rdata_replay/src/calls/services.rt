@@ -10,18 +10,9 @@ use dns_rdata::{
     A, AAAA, BinDecodable, BinDecoder, BinEncodable, DecodeError, Octets, SVCB, TakesOctet,
     TokenList,
 };
-use dns_rdata_service::order::svcb_front;
 use replay::octets;
 use std::alloc::{AllocError, Global};
 use std::fmt;
-
-/// How two records are ordered at their front, and how many parameters are alike.
-pub fn front(alloc: Global, left: &str, right: &str) -> Result<String> {
-    let left = record::<SVCB>(alloc, octets(alloc, left)?.as_slice())?;
-    let right = record::<SVCB>(alloc, octets(alloc, right)?.as_slice())?;
-    let (order, alike) = svcb_front(&left, &right);
-    Ok(format!(in alloc; "{order:?} {alike}")?)
-}
 
 /// How many parameters a record has of so many without octets, from key 7 on.
 pub fn keys(alloc: Global, count: &str) -> Result<String> {
