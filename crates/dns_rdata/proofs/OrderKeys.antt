@@ -24,9 +24,6 @@ copied (suc k) (suc n) [] e = absurd (omega (arith, e))
 copied (suc k) zero (x ∷ xs) e = absurd (omega (arith, e))
 copied (suc k) (suc n) (x ∷ xs) e = ap (λ (s : List ℕ). x ∷ s) (copied k n xs (omega (arith, e)))
 
-pub copied_key : {n : ℕ} {old new filled : List ℕ} → Copies n old new (replicate 8 0) filled → from_be_bytes w64 filled ≡ key_of old
-copied_key {n} {old} c = ap (from_be_bytes w64) (c.copied.front ∙ copied 8 n old c.count)
-
 small : (xs : List ℕ) → AreOctets xs → (i : ℕ) → get_or xs i 0 < 256
 small xs h i = ⊎_elim (λ (l : i < length xs). h i 0 l) (λ (l : length xs ≤ i). omega (arith, get_or-eq_default xs 0 l)) (cases_lt i (length xs))
 

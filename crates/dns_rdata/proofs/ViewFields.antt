@@ -70,10 +70,6 @@ all_fields m p n t v s is f start xs d =
 
 -- ---- names
 
-pub few_names : (v : RData) → names_in (fields_of v).kinds ≤ 64
-few_names (rdata.A x) = omega arith
-few_names v = omega arith
-
 name_below : (m : List ℕ) (p : ℕ) (kinds : List Kind) (vs : Values kinds) (i q : ℕ) (x : DomainName) → IsNameAt m p kinds vs i q x → i < names_in kinds
 name_below m p [] vs i q x h = absurd h
 name_below m p (Name ∷ kinds) vs zero q x h = omega arith

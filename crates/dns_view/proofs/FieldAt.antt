@@ -13,7 +13,7 @@ use Rattle.dns_view.specs.declared.name_ref.NameRef.{NameRef}
 use Rattle.dns_view.specs.declared.field.FieldRef.{FieldRef}
 use Rattle.dns_view.specs.declared.field.FieldRef.TheVariants as shown
 use Rattle.dns_rows.specs.{Table.kinds_of, Rules.MeetsRow}
-use Rattle.dns_view.specs.{Parts.IsCovered, Parts.Skips, Parts.FieldThere, NameEnds.IsNamed, Rows.AreCovered, Rows.IsRow, Rows.HasRow, Shown.Shows, Shown.ShowsAt}
+use Rattle.dns_view.specs.{Parts.Skips, Parts.FieldThere, NameEnds.IsNamed, Rows.AreCovered, Rows.IsRow, Rows.HasRow, Shown.Shows, Shown.ShowsAt}
 use Rattle.dns_view.proofs.{RowLoop.behind_row, RowLoop.field_reaches, PutLoop.stood_skipped, Alone.between_is, Alone.bitmap_alone, Alone.parameters_alone}
 use Rattle.dns_view.proofs.{Alone.options_alone, Asked.asks_split}
 
@@ -112,11 +112,6 @@ here_field : (m : List ℕ) (p : ℕ) (row : List Part) (n : ℕ) (now : Reading
     → AtField m p row n now number index
     → FieldSo m p row (get_or row index d ∷ drop (suc index) row) n now number (number - index)
 here_field m p row n now number index d l so = subst (λ (left : List Part). FieldSo m p row left n now number (number - index)) (drop-cons row index d l) so.so
-
-pub field_covered : {m : List ℕ} {p : ℕ} {row : List Part} {n : ℕ} {now : Reading} {number index : ℕ} (d : Part) → AtField m p row n now number index
-    → index < length row
-    → IsCovered (get_or row index d).kind (get_or row index d).rule
-field_covered {m} {p} {row} {n} {now} {number} {index} d so l = (here_field m p row n now number index d l so).covered.0
 
 -- the field is another one
 field_more : (m : List ℕ) (p : ℕ) (row : List Part) (part : Part) (left : List Part) (n : ℕ) (now next : Reading) (number j : ℕ)

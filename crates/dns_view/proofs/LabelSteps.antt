@@ -3,7 +3,7 @@ use Rattle.std.proofs.Common.{◌≡◌, ℕ, zero, suc, ◌+◌, ◌-◌, ◌*�
 use Rattle.std.proofs.Common.{List, [], ◌∷◌, ◌++◌, length, take, drop, get_or, append_assoc, refl, sym, ap, ◌∙◌, arith}
 use Rattle.std.proofs.Math.Path.{fun_ext}
 use Rattle.std.specs.Prelude.{◌==◌, nat_lt, nat_le, if◌then◌else◌}
-use Rattle.std.proofs.lemmas.List.{length-append, length-drop, take_at, drop_at, append-nil, drop_more, drop_all, drop-drop}
+use Rattle.std.proofs.lemmas.List.{length-append, length-drop, take_at, drop_at, append-nil, drop_more, drop-drop}
 use Rattle.std.proofs.lemmas.Bool.{leb-true}
 use Rattle.std.proofs.lemmas.Bool.Decides.{nat_tests}
 use Rattle.dns_fields.specs.Labels.{DomainName, IsLabel, AreLabels, wire}
@@ -107,12 +107,6 @@ leads m start = λ target. if nat_lt target start then labels_over start (take s
 opened : (m : List ℕ) (start at : ℕ) → at < length m → labels_left m start at ≡ labels_after (leads m start) zero (get_or m at 0 ∷ drop (at + 1) m)
 opened m start at lt = ap (labels_after (leads m start) zero) (drop_more m at 0 lt)
 
-pub left_past : (m : List ℕ) (start at : ℕ) → length m ≤ at → labels_left m start at ≡ []
-left_past m start at past = ap (labels_after (leads m start) zero) (drop_all at m past)
-
-pub left_zero : (m : List ℕ) (start at : ℕ) → at < length m → get_or m at 0 ≡ 0 → labels_left m start at ≡ []
-left_zero m start at lt is = opened m start at lt ∙ ap (λ (c : ℕ). labels_after (leads m start) zero (c ∷ drop (at + 1) m)) is
-
 pub left_short : (m : List ℕ) (start at : ℕ) → at < length m → get_or m at 0 < 64 → length m - at - 1 < get_or m at 0 → labels_left m start at ≡ []
 left_short m start at lt few short =
     opened m start at lt ∙ label_short (leads m start) (get_or m at 0) (drop (at + 1) m) few (omega (arith, short, length-drop (at + 1) m))
@@ -129,22 +123,11 @@ left_label m start at lt some few fits =
 pub left_none : (m : List ℕ) (start at : ℕ) → at < length m → 64 ≤ get_or m at 0 → get_or m at 0 < 192 → labels_left m start at ≡ []
 left_none m start at lt high low = opened m start at lt ∙ no_size (leads m start) (get_or m at 0) (drop (at + 1) m) high low
 
-pub left_half : (m : List ℕ) (start at : ℕ) → at < length m → 192 ≤ get_or m at 0 → length m - at - 1 ≡ 0 → labels_left m start at ≡ []
-left_half m start at lt high none =
-    opened m start at lt ∙ jumps (leads m start) (get_or m at 0) (drop (at + 1) m) high
-    ∙ ap (jump (leads m start) (get_or m at 0)) (drop_all (at + 1) m (omega (arith, none, lt)))
-
 jumped : (m : List ℕ) (start at : ℕ) → at + 1 < length m → 192 ≤ get_or m at 0
     → labels_left m start at ≡ leads m start ((get_or m at 0 - 192) * 256 + get_or m (at + 1) 0)
 jumped m start at lt high =
     opened m start at (omega (arith, lt)) ∙ jumps (leads m start) (get_or m at 0) (drop (at + 1) m) high
     ∙ ap (jump (leads m start) (get_or m at 0)) (drop_more m (at + 1) 0 lt)
-
-pub left_forward : (m : List ℕ) (start at : ℕ) → at + 1 < length m → 192 ≤ get_or m at 0 → start ≤ (get_or m at 0 - 192) * 256 + get_or m (at + 1) 0
-    → labels_left m start at ≡ []
-left_forward m start at lt high past =
-    let t = (get_or m at 0 - 192) * 256 + get_or m (at + 1) 0 in
-    jumped m start at lt high ∙ ap (λ (b : Bool). if b then labels_over start (take start m) t else []) (not_below t start past)
 
 pub left_pointer : (m : List ℕ) (start at : ℕ) → at + 1 < length m → 192 ≤ get_or m at 0 → (get_or m at 0 - 192) * 256 + get_or m (at + 1) 0 < start
     → labels_left m start at

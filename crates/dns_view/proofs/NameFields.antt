@@ -8,7 +8,7 @@ use Rattle.dns_fields.specs.{Labels.DomainName, Names.IsNameIn, Fields.Values, F
 use Rattle.dns_names_wire.specs.State.{Reading}
 use Rattle.dns_rows.specs.{declared.row.Part.Part, Table.kinds_of, Rules.MeetsRow}
 use Rattle.dns_view.specs.declared.name_ref.NameRef.{NameRef}
-use Rattle.dns_view.specs.{Parts.IsCovered, Parts.Skips, Rows.AreCovered, Rows.IsRow, Rows.HasRow}
+use Rattle.dns_view.specs.{Parts.Skips, Rows.AreCovered, Rows.IsRow, Rows.HasRow}
 use Rattle.dns_view.specs.NameFields.{names_in, IsNameAt, ShowsNameAt}
 use Rattle.dns_view.proofs.{RowLoop.behind_row, RowLoop.field_reaches, PutLoop.stood_skipped, Asked.asks_split}
 use Rattle.dns_fields.proofs.FieldLaws.{field_inside}
@@ -74,11 +74,6 @@ here_left : (m : List ℕ) (p : ℕ) (row : List Part) (n : ℕ) (now : Reading)
     → AtName m p row n now number j index
     → NameSo m p row (get_or row index d ∷ drop (suc index) row) n now number j
 here_left m p row n now number j index d l so = subst (λ (left : List Part). NameSo m p row left n now number j) (drop-cons row index d l) so.so
-
-pub name_covered : {m : List ℕ} {p : ℕ} {row : List Part} {n : ℕ} {now : Reading} {number j index : ℕ} (d : Part) → AtName m p row n now number j index
-    → index < length row
-    → IsCovered (get_or row index d).kind (get_or row index d).rule
-name_covered {m} {p} {row} {n} {now} {number} {j} {index} d so l = (here_left m p row n now number j index d l so).covered.0
 
 -- a field is gone over, and i is the index from there
 left_more : (m : List ℕ) (p : ℕ) (row : List Part) (part : Part) (left : List Part) (n : ℕ) (now next : Reading) (number j i : ℕ)

@@ -5,14 +5,12 @@ use Rattle.std.proofs.lemmas.Grind.{flat_map-append}
 use Rattle.std.proofs.Common.{◌≡◌, ℕ, ◌+◌, ◌≤◌, ◌<◌, ◌^◌, ◌⊎◌, inl, inr, ⊎_elim, List, [], ◌∷◌, ◌++◌, length, take, drop, refl, sym, ap, ◌∙◌, arith, subst}
 use Rattle.std.specs.Int.{bytes_high_first}
 use Rattle.dns_types.specs.declared.error.DecodeError.{DecodeError}
-use Rattle.dns_types.specs.declared.error.DecodeError.TheVariants as decode
 use Rattle.dns_fields.specs.Tlvs.{Numbered, tlv, tlvs, IsTlv, AreTlvs, AllHeld, OptionValue, OptionHeld, IsTruncated}
 use Rattle.dns_fields.specs.{declared.Kind.TheVariants.Number, declared.Kind.TheVariants.Octets, Fields.Field, declared.Kind.TheVariants.Options}
 use Rattle.dns_fields.specs.{Fields.CompleteOptions, Fields.TruncatedOptions, Octets.At}
 use Rattle.dns_fields.proofs.{Tlvs.first_tlv, Tlvs.truncated_tlv, Tlvs.length-tlv, Tlvs.tlv_before, Numbers.length-bytes, FieldLaws.field_same}
-use Rattle.dns_fields.proofs.{FieldLaws.field_inside}
 use Rattle.dns_names_wire.specs.{Terms.TookField, Terms.StaysBehind, State.Reading}
-use Rattle.dns_names_wire.proofs.{FieldReads.took_number, FieldReads.stays, Strings.at_front, Strings.at_rest, Strings.at_then}
+use Rattle.dns_names_wire.proofs.{FieldReads.took_number, Strings.at_front, Strings.at_rest, Strings.at_then}
 use Rattle.dns_rows.specs.declared.row.Rule.{Rule}
 use Rattle.dns_rows.specs.declared.row.Rule.TheVariants as rules
 use Rattle.dns_view.specs.Parts.{IsUnasked, Skips}
@@ -224,22 +222,6 @@ whole_left start n {old} {q} {v} before fits there f =
     subst (λ (k : ℕ). OptionsLeft old.message k old.index (start + n)) size
     (subst (λ (k : ℕ). OptionsLeft old.message (q - old.index) old.index k) there (field_left f))
 
--- all options were taken
-pub options_skip : {rule : Rule} {start n : ℕ} {old d : Reading} {done : List (Numbered OptionValue)}
-    → ReadsOptions old (n - (old.index - start)) (start + n) done d
-    → start + n ≤ d.index → Skips rule Options start n (Ok tt) old d
-options_skip {rule} {start} {n} {old} {d} {done} r last =
-    let there : d.index ≡ start + n = omega (arith, r.inside, last) in
-    record {
-      is = record {
-        value = done;
-        took = record { message = r.message; field = record { is = inl r.took } };
-        asked = unasked rule Options done (any_options rule);
-        one = λ v q f e. e ∙ sym there;
-        ends = there;
-      };
-    }
-
 -- the RDATA ends inside an option
 pub options_cut : {rule : Rule} {start n : ℕ} {old d b : Reading} {done : List (Numbered OptionValue)} → start ≤ old.index
     → ReadsOptions old (n - (old.index - start)) (start + n) done d → TookCut d (n - (old.index - start)) (start + n) b
@@ -347,15 +329,3 @@ cut_taken {rule} {start} {n} {from} {size} {old} {d} {b} {done} before same is r
     let fits : old.index ≤ start + n = omega (arith, r.behind, r.inside) in
     let end : from + size ≡ start + n = omega (arith, same, is, before, fits) in
     options_cut before r (subst (λ (k : ℕ). TookCut d k (start + n) b) is (subst (λ (q : ℕ). TookCut d size q b) end t))
-
--- the fields before pass RDLENGTH
-pub options_past : {rule : Rule} {start n read : ℕ} {old : Reading} → read ≡ old.index - start → n < read → start ≤ old.index
-    → Skips rule Options start n (Err (decode.IncorrectRDataLengthRead read n)) old old
-options_past {rule} {start} {n} {read} {old} is past before =
-    rw is (record {
-      is = record {
-        behind = stays old;
-        none = record { none = λ v q f a r. omega (arith, r, (field_inside f).0) };
-        fault = inl (refl, omega arith, refl);
-      };
-    })

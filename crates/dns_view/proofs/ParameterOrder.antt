@@ -23,13 +23,6 @@ size_there {octets} {body} {offset} {key} {to} {n} o e =
     let same : n ≡ length body = e ∙ (λ i. from_be_bytes w16 (sym high i ∷ sym low i ∷ [])) ∙ from_be_bytes-to_be_bytes_2 (length body) o.fits.1 in
     omega (arith, o.at.ends, length-tlv (key, body), same)
 
-pub no_head_there : {octets body : List ℕ} {offset key to : ℕ} → IsTlvAt octets offset key body to → length octets < offset + 4 → ⊥
-no_head_there {octets} {body} {offset} {key} {to} o short = omega (arith, o.at.ends, o.at.within, length-tlv (key, body), short)
-
-pub no_body_there : {octets body : List ℕ} {offset key to n : ℕ} → IsTlvAt octets offset key body to
-    → n ≡ from_be_bytes w16 (get_or octets (offset + 2) 0 ∷ get_or octets (offset + 3) 0 ∷ []) → length octets < offset + 4 + n → ⊥
-no_body_there o e short = omega (arith, size_there o e, o.at.within, short)
-
 -- ---- two parameters
 
 abbrev head : ℕ → List ℕ → List ℕ

@@ -1,5 +1,5 @@
 -- Taking parameters one after the other.
-use Rattle.std.proofs.Common.{◌≡◌, inl, inr, ℕ, ◌+◌, ◌-◌, ◌<◌, ◌≤◌, List, [], ◌∷◌, ◌++◌, length, drop, Option, Some, None, refl, sym, ap, ◌∙◌, arith, subst, Ok}
+use Rattle.std.proofs.Common.{◌≡◌, inl, inr, ℕ, ◌+◌, ◌-◌, ◌<◌, ◌≤◌, List, [], ◌∷◌, ◌++◌, length, drop, Option, Some, refl, sym, ap, ◌∙◌, arith, subst, Ok}
 use Rattle.std.proofs.Common.{Err}
 use Rattle.std.proofs.{lemmas.List.length-append, lemmas.List.length-drop, lemmas.Bool.cases_eq}
 use Rattle.std.specs.Int.{bytes_high_first}
@@ -8,7 +8,7 @@ use Rattle.dns_types.specs.declared.error.DecodeError.TheVariants as decode
 use Rattle.dns_fields.specs.Fields.{Field}
 use Rattle.dns_fields.specs.declared.Kind.{TheVariants.Number, TheVariants.Octets, TheVariants.Rest, TheVariants.Parameters}
 use Rattle.dns_fields.specs.{Tlvs.Numbered, Tlvs.ParameterValue, Tlvs.ParameterHeld, Tlvs.tlv, Tlvs.rising, Octets.At}
-use Rattle.dns_fields.proofs.{Tlvs.tlv_before, Tlvs.heads_same, Tlvs.first_tlv, FieldLaws.field_inside, Numbers.length-bytes}
+use Rattle.dns_fields.proofs.{Tlvs.tlv_before, Tlvs.heads_same, Tlvs.first_tlv, Numbers.length-bytes}
 use Rattle.dns_names_wire.specs.{State.Reading, Terms.TookField, Terms.StaysBehind}
 use Rattle.dns_names_wire.proofs.{FieldReads.stays, FieldReads.took_stays, FieldReads.stands_inside, FieldReads.took_last, FieldReads.took_then}
 use Rattle.dns_names_wire.proofs.{Strings.at_then}
@@ -130,16 +130,6 @@ pub record ParametersOn (old : Reading) (last : Option ℕ) (d : Reading) : Type
   pub within : d.index ≤ length old.message
   pub risen : Risen last items
   pub texts : HaveTexts items
-
-pub on_first : (old : Reading) → old.index ≤ length old.message → ParametersOn old None old
-on_first old within = record {
-  items = [];
-  behind = stays old;
-  stand = refl;
-  within = within;
-  risen = record { rest = λ zs. refl };
-  texts = tt;
-}
 
 stand_push : {T : Type 0} (S : List ℕ → ℕ → T → ℕ → Type 0) (m : List ℕ) (p : ℕ) (xs : List T) (q : ℕ) (x : T) (r : ℕ) → StandEach S m p xs q → S m q x r
     → StandEach S m p (xs ++ x ∷ []) r
@@ -289,15 +279,3 @@ parameters_passed {start} {n} {key} {size} {old} {d} {b} {last} on room f above 
         );
       };
     }
-
--- the fields before pass RDLENGTH
-pub parameters_past : {start n read : ℕ} {old : Reading} → read ≡ old.index - start → n < read → start ≤ old.index
-    → Skips rules.Paths Parameters start n (Err (decode.IncorrectRDataLengthRead read n)) old old
-parameters_past {start} {n} {read} {old} is past before =
-    rw is (record {
-      is = record {
-        behind = stays old;
-        none = record { none = λ v q f a r. omega (arith, r, (field_inside f).0) };
-        fault = inl (refl, omega arith, refl);
-      };
-    })

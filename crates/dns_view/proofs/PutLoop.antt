@@ -11,7 +11,7 @@ use Rattle.dns_fields.proofs.FieldLaws.{field_inside, field_same, field_end}
 use Rattle.dns_names_wire.specs.{State.Reading}
 use Rattle.dns_names_wire.proofs.Strings.{at_then}
 use Rattle.dns_rows.specs.declared.row.{Part.Part, Rule.Rule}
-use Rattle.dns_view.specs.Parts.{Reaches, IsCovered, Skips, Ends}
+use Rattle.dns_view.specs.Parts.{Reaches, Skips, Ends}
 use Rattle.dns_rows.specs.{Table.kinds_of, Rules.MeetsRow}
 use Rattle.dns_view.specs.Rows.{AreCovered, IsRow, HasRow}
 use Rattle.dns_view.specs.Putting.{Put, PutName, IsCopied, IsRecoded, form_octets, all_form}
@@ -203,10 +203,6 @@ here_put : (low : Bool) (m : List ℕ) (p : ℕ) (row : List Part) (n : ℕ) (no
     → AtPut low m p row n now old new at from index → PutSo low m p row (get_or row index d ∷ drop (suc index) row) n now old new at from index
 here_put low m p row n now old new at from index d l so = subst (λ (left : List Part). PutSo low m p row left n now old new at from index)
     (drop-cons row index d l) so.so
-
-pub put_covered : {low : Bool} {m : List ℕ} {p : ℕ} {row : List Part} {n : ℕ} {now : Reading} {old new : List ℕ} {at from index : ℕ} (d : Part)
-    → AtPut low m p row n now old new at from index → index < length row → IsCovered (get_or row index d).kind (get_or row index d).rule
-put_covered {low} {m} {p} {row} {n} {now} {old} {new} {at} {from} {index} d so l = (here_put low m p row n now old new at from index d l so).covered.0
 
 -- a name was put
 pub at_name : {low : Bool} {m : List ℕ} {p : ℕ} {row : List Part} {n : ℕ} {now next : Reading} {old one two new : List ℕ} {at mid behind from index : ℕ}

@@ -68,15 +68,6 @@ key_of key body part e small first =
 first_of : (body part : List ℕ) → part ≡ tlv (3, body) → take 2 part ≡ 0 ∷ 3 ∷ []
 first_of body part e = ap (take 2) e ∙ take_at (bytes_high_first 2 3) (bytes_high_first 2 (length body) ++ body) 2 refl
 
-pub whole_parameter : {out new part : List ℕ} {at end : ℕ} → Put out new at end part → (take 2 part ≡ 0 ∷ 3 ∷ [] → length part ≤ 6)
-    → (key : ℕ) (body : List ℕ) (v : ParameterValue) → part ≡ tlv (key, body) → IsTlv (key, body) → ParameterHeld key body v
-    → Put out new at end (tlv (key, parameter_octets v))
-whole_parameter {out} {new} {part} {at} {end} p short key body v e fits held =
-    let same : body ≡ parameter_octets v = same_octets key body v held (λ three.
-    let f : part ≡ tlv (3, body) = e ∙ ap (λ (k : ℕ). tlv (k, body)) three in
-    omega (arith, short (first_of body part f), ap length e, length-tlv (key, body))) in
-    subst (λ (s : List ℕ). Put out new at end (tlv (key, s))) same (subst (λ (s : List ℕ). Put out new at end s) e p)
-
 pub port_parameter : {out mid new part : List ℕ} {at middle end : ℕ} → Put out mid at middle (0 ∷ 3 ∷ 0 ∷ 2 ∷ [])
     → Put mid new middle end (take 2 (drop 4 part))
     → take 2 part ≡ 0 ∷ 3 ∷ [] → (key : ℕ) (body : List ℕ) (v : ParameterValue) → part ≡ tlv (key, body) → IsTlv (key, body) → ParameterHeld key body v

@@ -79,13 +79,6 @@ put_first {old} {new} {octets} {start} {end} e inside past same =
           ∙ ap (λ (k : ℕ). take k (front ++ (octets ++ drop end old))) n;
     }
 
--- octets that were copied into a part of the buffer
-pub put_here : {old : List ℕ} {start end : ℕ} (octets : List ℕ) {part : List ℕ} → end ≡ start + length octets → end ≤ length old → part ≡ octets
-    → Put old (put_mid start (end - start) old part) start end octets
-put_here {old} {start} {end} octets {part} e room same =
-    let d : drop (end - start) (drop start old) ≡ drop end old = drop-drop (end - start) start old ∙ ap (λ (n : ℕ). drop n old) (omega (arith, e)) in
-    put_all e room (rw (same, d) refl)
-
 -- the same up to the end of the buffer
 pub put_cut : {old : List ℕ} {start end : ℕ} (octets : List ℕ) {part : List ℕ} → end ≡ start + length octets → start ≤ length old → length old ≤ end
     → part ≡ take (length old - start) octets → Put old (put_mid start (length old - start) old part) start end octets
@@ -93,16 +86,6 @@ put_cut {old} {start} {end} octets {part} e inside past same =
     let d : drop (length old - start) (drop start old) ≡ [] = drop-drop (length old - start) start old
     ∙ drop_all (start + (length old - start)) old (omega (arith, inside)) in
     put_first e inside past (rw (same, d) (ap (λ (s : List ℕ). take start old ++ s) (append-nil (take (length old - start) octets))))
-
--- octets of which none fits
-pub put_past : {old : List ℕ} {start end : ℕ} (octets : List ℕ) → end ≡ start + length octets → length old ≤ start → Put old old start end octets
-put_past {old} {start} {end} octets e past =
-    let front : take start old ≡ old = take_all start old past in
-    record {
-      ends = e;
-      written = sym (ap (λ (s : List ℕ). take (length old) (s ++ (octets ++ drop end old))) front ∙ take-append-le (length old) old (octets ++ drop end old) (omega arith)
-          ∙ take_all (length old) old (omega arith));
-    }
 
 pub put_none : (old : List ℕ) (start : ℕ) → Put old old start start []
 put_none old start = record {

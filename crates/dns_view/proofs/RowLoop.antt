@@ -11,7 +11,7 @@ use Rattle.dns_fields.proofs.FieldLaws.{field_inside}
 use Rattle.dns_names_wire.specs.{State.Reading, Terms.StaysBehind}
 use Rattle.dns_names_wire.proofs.FieldReads.{stands_inside}
 use Rattle.dns_rows.specs.declared.row.Part.{Part}
-use Rattle.dns_view.specs.Parts.{Reaches, Ends, IsCovered, Skipped, Refused, Skips}
+use Rattle.dns_view.specs.Parts.{Reaches, Ends, Skipped, Refused, Skips}
 use Rattle.dns_rows.specs.{Table.kinds_of, Rules.MeetsRow}
 use Rattle.dns_view.specs.Rows.{AreCovered, IsRow, HasRow, RowFault, RowReached, TookRow, RefusedRow, asked_length, fewest}
 use Rattle.dns_view.proofs.Asked.{asks_join, asks_split, row_fewest}
@@ -139,10 +139,6 @@ at_first {row} n {old} ordered covered = record { so = none_so row n old ordered
 here_part : (row : List Part) (at n : ℕ) (old now : Reading) (d : Part) → at < length row → AtPart row at n old now
     → RowSo row (get_or row at d ∷ drop (suc at) row) n old now
 here_part row at n old now d l so = subst (λ (left : List Part). RowSo row left n old now) (drop-cons row at d l) so.so
-
-pub part_covered : {row : List Part} {at n : ℕ} {old now : Reading} (d : Part) → AtPart row at n old now → at < length row
-    → IsCovered (get_or row at d).kind (get_or row at d).rule
-part_covered {row} {at} {n} {old} {now} d so l = (here_part row at n old now d l so).covered.0
 
 pub at_next : {row : List Part} {at start n : ℕ} {old now new : Reading} (d : Part) → AtPart row at n old now → at < length row → start ≡ old.index
     → Skips (get_or row at d).rule (get_or row at d).kind start n (Ok tt) now new → AtPart row (at + 1) n old new

@@ -14,7 +14,7 @@ use Rattle.dns_names_wire.specs.State.{Reading}
 use Rattle.dns_canonical.specs.Fronts.{canonical_cmp, field_cmp, fields_cmp, EndsAlike, AllEndAlike}
 use Rattle.dns_canonical.proofs.{Fronts.fields_decide, Comparing.then_kept, Comparing.then_assoc, Comparing.then_equal}
 use Rattle.dns_rows.specs.declared.row.{Part.Part, Rule.Rule}
-use Rattle.dns_view.specs.Parts.{IsCovered, Skips}
+use Rattle.dns_view.specs.Parts.{Skips}
 use Rattle.dns_rows.specs.{Table.kinds_of, Rules.MeetsRow}
 use Rattle.dns_view.specs.{Rows.AreCovered, Rows.IsRow, Rows.HasRow, Putting.IsCopied, Putting.IsRecoded, Putting.Put}
 use Rattle.dns_view.proofs.{RowLoop.behind_row, RowLoop.field_reaches, PutLoop.Stood, PutLoop.stood_skipped, PutLoop.copied, Forms.form_field, Asked.asks_split}
@@ -205,10 +205,6 @@ at_tied_first {a} {x} long {b} {y} other {row} {now} {far} ordered covered e f =
 here_tied : (a : List ℕ) (x long : ℕ) (b : List ℕ) (y other : ℕ) (row : List Part) (index : ℕ) (now far : Reading) (d : Part) → index < length row
     → AtTied a x long b y other row index now far → Tied a x long b y other row (get_or row index d ∷ drop (suc index) row) now far
 here_tied a x long b y other row index now far d l so = subst (λ (left : List Part). Tied a x long b y other row left now far) (drop-cons row index d l) so.so
-
-pub tied_covered : {a : List ℕ} {x long : ℕ} {b : List ℕ} {y other : ℕ} {row : List Part} {index : ℕ} {now far : Reading} (d : Part)
-    → AtTied a x long b y other row index now far → index < length row → IsCovered (get_or row index d).kind (get_or row index d).rule
-tied_covered {a} {x} {long} {b} {y} {other} {row} {index} {now} {far} d so l = (here_tied a x long b y other row index now far d l so).covered.0
 
 -- what comparing two fields says of their values
 abbrev pub Compares : Ordering → Kind → List ℕ → ℕ → ℕ → List ℕ → ℕ → ℕ → Type 0

@@ -1,5 +1,5 @@
 -- The steps by which fields are gone over.
-use Rattle.std.proofs.Common.{◌≡◌, ℕ, ◌+◌, ◌-◌, ◌*◌, ◌/◌, ◌^◌, ◌≤◌, ◌<◌, ◌⊎◌, inl, inr, List, [], ◌∷◌, ◌≢◌, bit_and, length, refl, sym, ap, ◌∙◌, arith, subst}
+use Rattle.std.proofs.Common.{◌≡◌, ℕ, ◌+◌, ◌-◌, ◌*◌, ◌/◌, ◌^◌, ◌≤◌, ◌<◌, ◌⊎◌, inl, inr, List, ◌≢◌, bit_and, length, refl, sym, ap, ◌∙◌, arith, subst}
 use Rattle.std.proofs.Common.{Result, Ok, Err, false}
 use Rattle.std.specs.{Char.is_ascii_alphanumeric, List.list_all, Int.bytes_high_first}
 use Rattle.dns_types.specs.declared.error.DecodeError.{DecodeError}
@@ -139,19 +139,6 @@ string_fault rules.Letters start n old new e p why l = absurd p
 string_fault rules.Tag start n old new e p why l = absurd p
 string_fault r start n old new e p why l = (why, l)
 
-pub plain_rule : (rule : Rule) → (rule ≡ rules.Letters → ⊥) → (rule ≡ rules.Tag → ⊥) → IsUnasked rule CharacterString
-plain_rule rules.Letters a b = absurd (a refl)
-plain_rule rules.Tag a b = absurd (b refl)
-plain_rule r a b = tt
-
-pub plain_number : (rule : Rule) (w : ℕ) → (rule ≡ rules.KnownFlags → ⊥) → IsUnasked rule (Number w)
-plain_number rules.KnownFlags w a = absurd (a refl)
-plain_number r w a = tt
-
-pub plain_rest : (rule : Rule) → (rule ≡ rules.Some → ⊥) → IsUnasked rule Rest
-plain_rest rules.Some a = absurd (a refl)
-plain_rest r a = tt
-
 pub lacks_of : {e : DecodeError} {old new : Reading} {k : Kind} → e ≡ decode.InsufficientBytes → RefusedField e old k new → LacksField old k
 lacks_of {e} {old} {new} {k} why r = let P : DecodeError → Type 0 = λ x. UnlessMemory x (LacksField old k) in subst P why r.none
 
@@ -246,22 +233,6 @@ rest_passed {rule} {start} {n} {read} {old} is past before =
         fault = (refl, rest_fault rule start n old (decode.IncorrectRDataLengthRead (old.index - start) n) (inl (refl, omega arith)));
       };
     })
-
--- no octet is left where one is asked for
-pub rest_none : {start n read more : ℕ} {old : Reading} → read ≡ old.index - start → n ≡ read → more ≡ n + 1 → start ≤ old.index
-    → Skips rules.Some Rest start n (Err (decode.IncorrectRDataLengthRead n more)) old old
-rest_none {start} {n} {read} {more} {old} is all plus before =
-    rw plus (record {
-      is = record {
-        behind = stays old;
-        none = record { none = λ v q f a r. a.0 (none_left v (omega (arith, r, f.is.ends))) };
-        fault = (refl, inr (refl, omega arith));
-      };
-    })
-  where
-    none_left : (v : List ℕ) → length v ≡ 0 → v ≡ []
-    none_left [] h = refl
-    none_left (x ∷ v) h = absurd (omega arith)
 
 -- ---- bitmaps
 

@@ -55,13 +55,5 @@ next_string (c ∷ s) n some is fits =
     ∙ ap (λ (k : ℕ). take k s ∷ strings_after zero (drop n s)) (sym size)
     ∙ ap (λ (r : List ℕ). take (1 + n - 1) s ∷ strings_after zero r) (sym all)
 
--- the first string is not whole
-pub last_string : (s : List ℕ) → length s - 1 < get_or s 0 0 → strings_after zero s ≡ []
-last_string [] short = refl
-last_string (c ∷ s) short = elim (leb_tells c (length s)) [
-  | inl h ↦ absurd (omega (arith, h.1, short))
-  | inr h ↦ rw h.0 refl
-]
-
 pub no_octets : NoString []
 no_octets = record { none = λ s rest e. cc }

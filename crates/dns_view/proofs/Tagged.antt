@@ -9,8 +9,8 @@ use Rattle.dns_types.specs.declared.error.DecodeError.TheVariants as decode
 use Rattle.dns_fields.specs.declared.Kind.TheVariants.{Number, Octets, CharacterString}
 use Rattle.dns_fields.specs.{Octets.At, Fields.Field}
 use Rattle.dns_fields.proofs.{NameOffsets.At-same_head, FieldLaws.field_inside}
-use Rattle.dns_names_wire.specs.{State.Reading, Terms.TookField, Terms.LacksOctets, Terms.StaysBehind}
-use Rattle.dns_names_wire.proofs.{Strings.at_rest, Strings.text_taken, FieldReads.stays}
+use Rattle.dns_names_wire.specs.{State.Reading, Terms.TookField, Terms.StaysBehind}
+use Rattle.dns_names_wire.proofs.{Strings.at_rest, Strings.text_taken}
 use Rattle.dns_rows.specs.declared.row.Rule.TheVariants as rules
 use Rattle.dns_rows.specs.Rules.{AreLetters, IsTag}
 use Rattle.dns_view.specs.{Tags.IsTagError, Parts.Skips}
@@ -70,17 +70,6 @@ tag_refused {start} {n} {t} {e} {d} {b} {new} f r offset behind = record {
     behind = record { message = behind.message ∙ f.message; index = omega (arith, behind.index, (field_inside f.field).0) };
     none = record { none = λ v q g a on. tag_none start n t d b new e offset f r v q g a.0 on };
     fault = inr (record { size = t; between = b; took = f; refused = r });
-  };
-}
-
--- its length is missing
-pub tag_missing : {start n : ℕ} {e : DecodeError} {d new : Reading} → LacksOctets d 1 → e ≡ decode.InsufficientBytes → new ≡ d
-    → Skips rules.Tag CharacterString start n (Err e) d new
-tag_missing {d = d} l why same = record {
-  is = record {
-    behind = rw same (stays d);
-    none = record { none = λ v q g a on. omega (arith, l, g.is.1.ends, g.is.1.within) };
-    fault = inl (why, l, same);
   };
 }
 

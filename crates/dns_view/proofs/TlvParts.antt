@@ -72,15 +72,6 @@ pub record PartsOn (octets : List ℕ) (offset : ℕ) : Type 0 where
   pub fit : AreTlvs read
   pub only : AreComplete octets → (rest : List (Numbered (List ℕ))) × At octets offset (tlvs rest) (length octets) × AreTlvs rest
 
-pub parts_none : (octets : List ℕ) → PartsOn octets 0
-parts_none octets = record {
-  inside = omega arith;
-  read = [];
-  at = record { ends = omega arith; within = omega arith; same = refl };
-  fit = tt;
-  only = λ c. (c.read, c.at, c.fit);
-}
-
 tlvs_more : (xs : List (Numbered (List ℕ))) (x : Numbered (List ℕ)) → tlvs xs ++ tlv x ≡ tlvs (xs ++ x ∷ [])
 tlvs_more xs x = sym (flat_map-append tlv xs (x ∷ []) ∙ ap (λ (t : List ℕ). tlvs xs ++ t) (append-nil (tlv x)))
 
@@ -112,8 +103,3 @@ parts_stopped {octets} {offset} p lt none c =
     let r = p.only c in
     let x = next_part r.0 lt r.1 r.2 in
     none x.0.0 x.0.1 (offset + length (tlv x.0)) x.2
-
-pub parts_done : {octets : List ℕ} {offset : ℕ} → PartsOn octets offset → length octets ≤ offset → AreComplete octets
-parts_done {octets} {offset} p past =
-    let there : offset ≡ length octets = omega (arith, p.inside, past) in
-    record { read = p.read; at = subst (λ (q : ℕ). At octets 0 (tlvs p.read) q) there p.at; fit = p.fit }

@@ -10,7 +10,7 @@ use Rattle.dns_fields.specs.Tlvs.{Opaque, Nothing, PortNumber, Addresses4, Addre
 use Rattle.dns_fields.specs.Octets.{AreOctets}
 use Rattle.dns_fields.proofs.{Numbers.length-bytes, OctetLaws.AreOctets-take, OctetLaws.AreOctets-drop}
 use Rattle.dns_rows.specs.Rules.{is_text_key, HasText}
-use Rattle.dns_view.specs.Values.{HasValue, NoValue, HasForm, TruncatedName, WrongName, IsFormError, IsKeyError}
+use Rattle.dns_view.specs.Values.{HasValue, NoValue, HasForm, WrongName, IsFormError, IsKeyError}
 use Rattle.dns_view.proofs.{Splits.length_numbers, Splits.string_first, Splits.strings_prefix, Splits.all_behind, Splits.all_append, Numbers.number_of}
 use Rattle.dns_view.proofs.{Numbers.NumberOf}
 
@@ -232,15 +232,6 @@ names_more {octets} {rest} {n} f some count room text small =
 head_first : (rest : List ℕ) → 0 < length rest → rest ≡ get_or rest 0 0 ∷ drop 1 rest
 head_first [] h = absurd (omega arith)
 head_first (x ∷ xs) h = refl
-
-pub names_cut : {octets rest : List ℕ} → LeftNames octets rest → 0 < length rest → length rest - 1 < get_or rest 0 0 → TruncatedName octets
-names_cut {octets} {rest} f some cut = record {
-  names = f.names;
-  size = get_or rest 0 0;
-  octets = drop 1 rest;
-  split = f.front ∙ ap (λ (t : List ℕ). flat_map string f.names ++ t) (head_first rest some);
-  truncated = omega (arith, cut, length-drop 1 rest);
-}
 
 -- a name that is not UTF-8
 pub names_wrong : {octets rest : List ℕ} {n : ℕ} → LeftNames octets rest → 0 < length rest → get_or rest 0 0 ≡ n → n ≤ length rest - 1

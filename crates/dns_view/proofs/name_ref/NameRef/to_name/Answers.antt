@@ -1,5 +1,3 @@
-use Rattle.std.proofs.Common.{sym, ◌∙◌, ap}
-use Rattle.dns_names_wire.specs.State.{Reading}
 use Rattle.dns_fields.proofs.NameLaws.{name_same}
 use Rattle.dns_view.proofs.name_ref.NameRef.to_name.Goals as goal
 
