@@ -3,7 +3,7 @@ use Rattle.std.specs.Prelude.{◌≡◌, ◌⊎◌, ℕ, ◌+◌, ◌-◌, ◌�
 use Rattle.dns_types.specs.declared.error.DecodeError.{DecodeError}
 use Rattle.dns_types.specs.declared.error.DecodeError.TheVariants as decode
 use Rattle.dns_fields.specs.{Octets.At, declared.Kind.Kind, declared.Kind.TheVariants.Number}
-use Rattle.dns_fields.specs.{declared.Kind.TheVariants.Options, Fields.Values, Fields.CompleteOptions}
+use Rattle.dns_fields.specs.{Fields.Values, Fields.CompleteOptions}
 use Rattle.dns_fields.specs.Tlvs.{Numbered, tlv, IsTlv, OptionValue, OpaqueOption}
 use Rattle.dns_fields.specs.Tlvs as tlvs
 use Rattle.dns_rows.specs.Table.{kinds_of}

@@ -1,5 +1,5 @@
 -- Service bindings, compared field by field and parameter by parameter.
-use Rattle.std.proofs.Common.{◌≡◌, ◌≢◌, ℕ, ◌≤◌, true, false, true≢false, List, [], ◌∷◌, length, drop, map, sym, ◌-◌, min, ap, ◌∙◌, arith}
+use Rattle.std.proofs.Common.{◌≡◌, ◌≢◌, ℕ, ◌≤◌, false, true≢false, List, [], ◌∷◌, length, drop, map, sym, ◌-◌, min, ap, ◌∙◌, arith}
 use Rattle.std.proofs.lemmas.List.{length-drop}
 use Rattle.std.specs.declared.cmp.Ordering.{Ordering, TheVariants.Less, TheVariants.Equal, TheVariants.Greater}
 use Rattle.std.specs.{Ordering.nat_cmp, Ordering.ordering_then, Ordering.is_eq, Cmp.Derive.Mapped.lex_map, Cmp.Lexicographic.slice_cmp, Cmp.nat_cmp_is}

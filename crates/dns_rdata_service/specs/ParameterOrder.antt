@@ -1,8 +1,8 @@
 -- The order of parameters by their fields, and the octets of items.
-use Rattle.std.specs.{Prelude.ℕ, Prelude.◌≡◌, Prelude.List, Prelude.◌++◌, Prelude.length, Ordering.nat_cmp, Ordering.ordering_then, List.flat_map}
-use Rattle.std.specs.{declared.cmp.Ordering.Ordering, Cmp.Lexicographic.slice_cmp, Int.bytes_high_first}
-use Rattle.dns_fields.specs.{Tlvs.tlv, Tlvs.as_tlv, Tlvs.parameter_octets, Equal.key_cmp, Equal.parameter_key}
-use Rattle.dns_rdata_service.specs.Parameters.{Parameter, own_parameter, parameter_of}
+use Rattle.std.specs.{Prelude.ℕ, Prelude.List, List.flat_map}
+use Rattle.std.specs.{declared.cmp.Ordering.Ordering}
+use Rattle.dns_fields.specs.{Equal.key_cmp, Equal.parameter_key}
+use Rattle.dns_rdata_service.specs.Parameters.{Parameter, own_parameter}
 
 -- by the keys that parameters are compared by
 abbrev pub parameter_order : Parameter → Parameter → Ordering

@@ -1,6 +1,6 @@
-use Rattle.std.proofs.Common.{◌≡◌, ◌≤◌, [], length, arith, ap, sym, refl, Some, subst}
+use Rattle.std.proofs.Common.{[], arith, ap, sym, refl, Some, subst}
 use Rattle.dns_fields.specs.{Octets.At, Tlvs.tlvs}
-use Rattle.dns_rdata_options.proofs.OptionLists.{Counted, counts_more, counts_short, counts_all, counted_more}
+use Rattle.dns_rdata_options.proofs.OptionLists.{counts_more, counts_short, counts_all, counted_more}
 use Rattle.dns_rdata_options.proofs.opt.reading.count_options.Goals as goal
 
 pub loop-offset-init : goal.loop-offset-init
