@@ -1,7 +1,8 @@
 //! Answers runs of the program that standard input gives, one a line: the words with a tab between each two. The result
 //! to each is a line: the status, a tab, and the output. In both `\n` stands for a line end, `\t` for a tab and `\\` for a
-//! backslash.
+//! backslash. Where a view of octets that are read is another than their value, or fails otherwise, the status is 9.
 
+use crate::viewed::is_viewed;
 use anyhow::Result;
 use rdata_command::run;
 use replay::fields_of;
@@ -26,8 +27,10 @@ fn answer(alloc: Global, line: &str) -> Result<String> {
     let words = fields_of(alloc, line)?;
     let mut out: Vec<u8> = Vec::new(alloc);
     let status = run(alloc, words.as_slice(), &mut out, &mut io::sink());
-    let mut all = format!(in alloc; "{status}\t")?;
-    push_escaped(&mut all, std::str::from_utf8(out.as_slice())?)?;
+    let output = std::str::from_utf8(out.as_slice())?;
+    let is_same = is_viewed(alloc, words.as_slice(), status, output)?;
+    let mut all = format!(in alloc; "{}\t", if is_same { status } else { 9 })?;
+    push_escaped(&mut all, output)?;
     all.push('\n')?;
     Ok(all)
 }

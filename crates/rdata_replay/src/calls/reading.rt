@@ -14,7 +14,7 @@ use std::alloc::Global;
 use std::io;
 
 // Why a view of the data of so many octets is not made, and the offset where its check ends. The decoder stays where it is.
-pub fn view_end(
+fn view_end(
     decoder: &BinDecoder<'_>,
     record_type: RecordType,
     length: u16,
@@ -24,9 +24,9 @@ pub fn view_end(
     Some((error, other.index()))
 }
 
-// Why the data of so many octets is rejected, and the offset where reading ends; no offset of a message where a view of the
-// same octets tells otherwise.
-fn end(
+/// Why the data of so many octets is rejected, and the offset where reading ends; no offset of a message where a view of the
+/// same octets tells otherwise.
+pub fn end(
     decoder: &mut BinDecoder<'_>,
     record_type: RecordType,
     length: u16,
