@@ -1,7 +1,8 @@
 #!/usr/bin/env bash
 # Builds the archive for C, crates/dns_rdata_c/out/libdns_rdata_c.a, over the libraries that `rt ci` has proved and left in
 # crates/*/out/rlib: of all crates only dns_rdata_c is proved once more, which takes minutes where `rt lib` from nothing takes
-# the half of an hour. Ends with status 0 exactly if the compiler says that the crate is proved.
+# half an hour. Ends with status 0 exactly if the compiler says that the crate is proved.
+#   tools/archive.sh --if-new    ends with status 3 if a library is missing or older than one of its sources
 set -u
 top=$(cd "$(dirname "$0")/.." && pwd)
 . "$top/tests/build.sh"
@@ -26,6 +27,17 @@ done
 words+=(--antt-project "$kit/rattle/logic/antt-project.json" --logic-built "$kit/logic_built" --toolchain "$kit/toolchain")
 words+=(--links "$crate=" --jobs "$(lanes_of 4)" -o "$archive")
 
+# Whether every library is there, and no source of its crate is newer.
+are_new() {
+  local name
+  for name in $(in_order "$crate"); do
+    [ "$name" = "$crate" ] && continue
+    [ -d "$top/crates/$name/out/rlib/$name.rlib" ] || return 1
+    [ -z "$(find "$top/crates.txt" "$top/crates/$name" -path '*/out' -prune -o -type f -newer "$top/crates/$name/out/rlib/$name.rlib" -print -quit)" ] || return 1
+  done
+}
+
+if [ "${1:-}" = --if-new ] && ! are_new; then exit 3; fi
 cd "$top/crates/$crate" || exit 1
 mkdir -p out
 log=$(mktemp)

@@ -93,13 +93,6 @@ rust_side() {
   want 'the Rust example' prints "$top/rust/examples/records.out" cargo run --offline --locked --quiet --manifest-path "$top/rust/Cargo.toml" --example records
 }
 
-# Makes the archive by `rt lib`, which proves the crate, where it is not there or a source is newer.
-archive() {
-  if [ -f "$library" ] && [ -z "$(find "$top/crates.txt" "$top"/crates/*/src "$top"/crates/*/specs -newer "$library" -print -quit)" ]; then return; fi
-  (cd "$top/crates/dns_rdata_c" && rt lib >"$dir/lib.log" 2>&1) || { tail -n 20 "$dir/lib.log"; echo '0 as wanted, 1 not'; exit 1; }
-}
-
-archive
 c_side
 installed
 sanitized
