@@ -6,3 +6,4 @@ pub mod Follow
 pub mod Walks
 pub mod Asks
 pub mod Starts
+pub mod Examples

@@ -1,6 +1,6 @@
 -- The header of a message (RFC 1035, 4.1.1).
 use Rattle.std.specs.Prelude.{◌≡◌, ◌↔◌, ℕ, ◌+◌, ◌/◌, ◌%◌, ◌^◌, ◌<◌, List, [], ◌∷◌, IsTrue}
-use Rattle.std.specs.Int.{IsBitSet}
+use Rattle.std.specs.Int.{bit_at}
 use Rattle.dns_fields.specs.{Fields.Stands, declared.Kind.TheVariants.Number}
 use Rattle.dns_message.specs.declared.{header.Header.Header, error.Section.Section}
 use Rattle.dns_message.specs.declared.error.Section.TheVariants as sections
@@ -8,14 +8,14 @@ use Rattle.dns_message.specs.declared.error.Section.TheVariants as sections
 -- The second number of the header: QR, OPCODE, AA, TC, RD, RA, Z, AD, CD and RCODE, from the highest bit to the lowest.
 -- Bits are counted from the lowest. AD and CD are those of RFC 4035, 3.2.
 pub record IsFlags (flags : ℕ) (h : Header) : Type 0 where
-  pub response : IsTrue h.response ↔ IsBitSet flags 15
+  pub response : IsTrue h.response ↔ (bit_at flags 15 ≡ 1)
   pub opcode : h.opcode ≡ flags / 2 ^ 11 % 2 ^ 4
-  pub authoritative : IsTrue h.authoritative ↔ IsBitSet flags 10
-  pub truncated : IsTrue h.truncated ↔ IsBitSet flags 9
-  pub recursion_desired : IsTrue h.recursion_desired ↔ IsBitSet flags 8
-  pub recursion_available : IsTrue h.recursion_available ↔ IsBitSet flags 7
-  pub authentic_data : IsTrue h.authentic_data ↔ IsBitSet flags 5
-  pub checking_disabled : IsTrue h.checking_disabled ↔ IsBitSet flags 4
+  pub authoritative : IsTrue h.authoritative ↔ (bit_at flags 10 ≡ 1)
+  pub truncated : IsTrue h.truncated ↔ (bit_at flags 9 ≡ 1)
+  pub recursion_desired : IsTrue h.recursion_desired ↔ (bit_at flags 8 ≡ 1)
+  pub recursion_available : IsTrue h.recursion_available ↔ (bit_at flags 7 ≡ 1)
+  pub authentic_data : IsTrue h.authentic_data ↔ (bit_at flags 5 ≡ 1)
+  pub checking_disabled : IsTrue h.checking_disabled ↔ (bit_at flags 4 ≡ 1)
   pub rcode : h.rcode ≡ flags % 2 ^ 4
 
 -- the message begins with the header: six numbers of two octets

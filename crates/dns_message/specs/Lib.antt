@@ -8,3 +8,4 @@ pub mod Asks
 pub mod Walks
 pub mod Starts
 pub mod OptRecords
+pub mod Examples

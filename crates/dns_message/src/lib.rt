@@ -8,6 +8,8 @@
 //!   ends. A record whose owner, fixed fields or RDLENGTH are damaged gives one error and ends the walk.
 #![tactic(auto)]
 
+ghost use Rattle.dns_message.specs.Examples.{MessageExamples};
+
 pub mod edns;
 pub mod error;
 pub mod header;
@@ -26,3 +28,9 @@ pub use message::MessageRef;
 pub use question::{QuestionRef, Questions};
 pub use record_ref::RecordRef;
 pub use records::Records;
+
+/// The definitions at work: the query and the response of RFC 8484, sections 4.1.1 and 4.2.2, and the response of RFC 1034,
+/// section 6.2.1; RDLENGTH that passes the end of the message, sections, records without data, and EDNS.
+pub fn messages_hold()
+    ensures { MessageExamples }
+{}

@@ -1,7 +1,7 @@
-// Numbers in network order, and bits of numbers.
+//! Numbers in network order, and bits of numbers.
 
-ghost use Rattle.std.specs.Prelude.{◌+◌, ◌<◌, ◌≤◌, ◌↔◌, IsTrue, length};
-ghost use Rattle.std.specs.Int.{IsBitSet};
+ghost use Rattle.std.specs.Prelude.{◌≡◌, ◌+◌, ◌<◌, ◌≤◌, ◌↔◌, IsTrue, length};
+ghost use Rattle.std.specs.Int.{bit_at};
 ghost use Rattle.dns_fields.specs.{Fields.Field, declared.Kind.TheVariants.Number};
 
 use dns_view::Walk;
@@ -35,7 +35,7 @@ pub(crate) fn long_at(message: &[u8], offset: usize) -> u32
 // Whether a bit of a number is set, counted from the lowest.
 pub(crate) fn is_set(number: u32, bit: u32) -> bool
     requires { bit < 32 }
-    ensures { IsTrue result ↔ IsBitSet number bit }
+    ensures { IsTrue result ↔ (bit_at number bit ≡ 1) }
 {
     number >> bit & 1 == 1
 }

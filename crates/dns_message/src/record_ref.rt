@@ -77,7 +77,10 @@ fn has_no_data(record_type: u16, class: u16, length: u16) -> bool
     if length != 0 || record_type == OPT {
         return false;
     }
-    class == NONE || class == ANY
+    match class {
+        NONE | ANY => true,
+        _ => false,
+    }
 }
 
 // Checks the RDATA at an offset.

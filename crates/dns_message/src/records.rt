@@ -46,7 +46,8 @@ impl<'a> Records<'a> {
         ensures { MatchOption result (self.now.passed < record_count self.now.header)
             (λ s. (record_count self.now.header ≤ self.now.passed) × (s.now ≡ drop self.now.offset self.now.message)) }
     {
-        if self.passed < records_in(&self.header) {
+        let count = records_in(&self.header);
+        if self.passed < count {
             return None;
         }
         Some(&self.message[self.offset..])

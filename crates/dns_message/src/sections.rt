@@ -1,4 +1,4 @@
-// The sections of a message, and where a record is among them.
+//! The sections of a message, and where a record is among them.
 
 ghost use Rattle.std.specs.Prelude.{◌≡◌, ◌<◌};
 ghost use Rattle.dns_message.specs.Headers.{record_count, IsPlace};
