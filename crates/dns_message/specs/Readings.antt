@@ -19,7 +19,7 @@ record_of p owner f = record {
   type = f.record_type;
   class = f.class;
   ttl = f.ttl;
-  rdlength = f.length;
+  rdlength = f.rdlength;
   rdata = f.rdata;
 }
 

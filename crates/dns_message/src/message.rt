@@ -15,21 +15,6 @@ use crate::sections::records_in;
 use std::marker::Model;
 
 /// A message with a whole header. What follows the header is looked at by the iterators.
-///
-/// ```rust
-/// fn count_damaged(octets: &[u8]) -> Result<usize, RecordError> {
-///     let Ok(message) = MessageRef::read(octets) else {
-///         return Ok(0);
-///     };
-///     let mut damaged = 0usize;
-///     for item in message.records()? {
-///         if item.is_err() {
-///             damaged = damaged.saturating_add(1);
-///         }
-///     }
-///     Ok(damaged)
-/// }
-/// ```
 #[derive(Drop)]
 pub struct MessageRef<'a> {
     octets: &'a [u8],

@@ -37,7 +37,7 @@ pub struct Fixed {
     /// TTL.
     pub ttl: u32,
     /// RDLENGTH.
-    pub length: u16,
+    pub rdlength: u16,
     /// The offset of the RDATA.
     pub rdata: usize,
     /// The offset where the record ends.
@@ -101,19 +101,22 @@ fn read_fixed(message: &[u8], offset: usize, end: usize) -> Result<Fixed, Fault>
     let record_type = number_at(message, end);
     let class = number_at(message, end + 2);
     let ttl = long_at(message, end + 4);
-    let length = number_at(message, end + 8);
+    let rdlength = number_at(message, end + 8);
     let rdata = end + FIXED;
     let left = message.len() - rdata;
-    if left < length as usize {
-        return Err(Fault::Length { length, left });
+    if left < rdlength as usize {
+        return Err(Fault::Length {
+            length: rdlength,
+            left,
+        });
     }
     Ok(Fixed {
         record_type,
         class,
         ttl,
-        length,
+        rdlength,
         rdata,
-        end: rdata + length as usize,
+        end: rdata + rdlength as usize,
     })
 }
 

@@ -71,10 +71,10 @@ impl<'a> RecordRef<'a> {
 }
 
 // Whether a record is one of UPDATE that has no data.
-fn has_no_data(record_type: u16, class: u16, length: u16) -> bool
-    ensures { IsTrue result ↔ HasNoData record_type class length }
+fn has_no_data(record_type: u16, class: u16, rdlength: u16) -> bool
+    ensures { IsTrue result ↔ HasNoData record_type class rdlength }
 {
-    if length != 0 || record_type == OPT {
+    if rdlength != 0 || record_type == OPT {
         return false;
     }
     match class {
@@ -87,30 +87,30 @@ fn has_no_data(record_type: u16, class: u16, length: u16) -> bool
 fn read_rdata<'a>(
     message: &'a [u8],
     record_type: RecordType,
-    length: u16,
+    rdlength: u16,
     rdata: usize,
 ) -> Result<RDataRef<'a>, DecodeError>
     requires { rdata ≤ length message.now }
-    ensures found { IfOk result (IsViewOf message.now rdata length record_type) }
-    ensures refused { IfErr result (IsRefusedAt message.now rdata length record_type) }
+    ensures found { IfOk result (IsViewOf message.now rdata rdlength record_type) }
+    ensures refused { IfErr result (IsRefusedAt message.now rdata rdlength record_type) }
 {
     let mut walk = Walk::at(message, rdata);
-    RDataRef::read_in(&mut walk, record_type, Restrict::new(length))
+    RDataRef::read_in(&mut walk, record_type, Restrict::new(rdlength))
 }
 
 // The RDATA of a record, or none if it has no data.
 fn rdata_of<'a>(message: &'a [u8], fixed: &Fixed) -> Result<Option<RDataRef<'a>>, DecodeError>
     requires { fixed.now.rdata ≤ length message.now }
-    ensures found { IfOk result (IsDataOf message.now fixed.now.record_type fixed.now.class fixed.now.length fixed.now.rdata) }
-    ensures refused { IfErr result (IsRejected message.now fixed.now.record_type fixed.now.class fixed.now.length fixed.now.rdata) }
+    ensures found { IfOk result (IsDataOf message.now fixed.now.record_type fixed.now.class fixed.now.rdlength fixed.now.rdata) }
+    ensures refused { IfErr result (IsRejected message.now fixed.now.record_type fixed.now.class fixed.now.rdlength fixed.now.rdata) }
 {
-    if has_no_data(fixed.record_type, fixed.class, fixed.length) {
+    if has_no_data(fixed.record_type, fixed.class, fixed.rdlength) {
         return Ok(None);
     }
     match read_rdata(
         message,
         RecordType::from(fixed.record_type),
-        fixed.length,
+        fixed.rdlength,
         fixed.rdata,
     ) {
         Ok(rdata) => Ok(Some(rdata)),

@@ -8,16 +8,16 @@ returns-then-after-lt-FIXED-clause-none c = short_found c.requires.name (omega a
 pub returns-then-after-lt-FIXED-clause-fault : goal.returns-then-after-lt-FIXED-clause-fault
 returns-then-after-lt-FIXED-clause-fault c = ends_after 10 c.requires.name (omega arith)
 
-pub returns-then-left-length-clause-none : goal.returns-then-left-length-clause-none
-returns-then-left-length-clause-none c =
-    (length_passes _ c.requires.name c.number_at-record_type.ensures c.number_at-class.ensures c.long_at-ttl.ensures c.number_at-length.ensures
-    (omega arith) c.if-left-length.true).1
+pub returns-then-left-rdlength-clause-none : goal.returns-then-left-rdlength-clause-none
+returns-then-left-rdlength-clause-none c =
+    (length_passes _ c.requires.name c.number_at-record_type.ensures c.number_at-class.ensures c.long_at-ttl.ensures c.number_at-rdlength.ensures
+    (omega arith) c.if-left-rdlength.true).1
 
-pub returns-then-left-length-clause-fault : goal.returns-then-left-length-clause-fault
-returns-then-left-length-clause-fault c =
-    (length_passes _ c.requires.name c.number_at-record_type.ensures c.number_at-class.ensures c.long_at-ttl.ensures c.number_at-length.ensures
-    (omega arith) c.if-left-length.true).0
+pub returns-then-left-rdlength-clause-fault : goal.returns-then-left-rdlength-clause-fault
+returns-then-left-rdlength-clause-fault c =
+    (length_passes _ c.requires.name c.number_at-record_type.ensures c.number_at-class.ensures c.long_at-ttl.ensures c.number_at-rdlength.ensures
+    (omega arith) c.if-left-rdlength.true).0
 
 pub returns-clause-found : goal.returns-clause-found
 returns-clause-found c =
-    record_found c.requires.name c.number_at-record_type.ensures c.number_at-class.ensures c.long_at-ttl.ensures c.number_at-length.ensures (omega arith)
+    record_found c.requires.name c.number_at-record_type.ensures c.number_at-class.ensures c.long_at-ttl.ensures c.number_at-rdlength.ensures (omega arith)
