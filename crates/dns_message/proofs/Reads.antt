@@ -5,7 +5,7 @@ use Rattle.dns_types.specs.{declared.record_type.RecordType.RecordType, declared
 use Rattle.dns_types.specs.declared.error.DecodeError.TheVariants as decode
 use Rattle.dns_names_wire.specs.State.{Reading}
 use Rattle.dns_rdata.specs.{Data.NoValue, ReadErrors.IsReadError, Views.IsViewOf, declared.view.RDataRef.RDataRef}
-use Rattle.dns_message.specs.Records.{IsRefusedAt}
+use Rattle.dns_message.specs.Items.{IsRefusedAt}
 
 -- by a decoder that begins at q
 pub found_at : (m : List ℕ) (q n : ℕ) (t : RecordType) (r : Result RDataRef DecodeError) (d : Reading) → d ≡ record { message = m; index = q }

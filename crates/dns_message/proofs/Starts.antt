@@ -2,7 +2,7 @@
 use Rattle.std.proofs.Common.{◌≡◌, ℕ, ◌≤◌, List, Result, Ok, Err, arith}
 use Rattle.std.specs.{Result.IfOk, Result.IfErr, Iterator.Drains}
 use Rattle.dns_message.specs.declared.{header.Header.Header, error.RecordError.RecordError}
-use Rattle.dns_message.specs.{State.Walking, Headers.IsHeader, Records.Item, Walks.NextRecord, Walks.WalkGives}
+use Rattle.dns_message.specs.{State.Walking, Headers.IsHeader, Items.Item, Walks.NextRecord, Walks.WalkGives}
 use Rattle.dns_message.specs.Starts.{BeginsAt, Begins, Breaks, BreaksIn}
 use Rattle.dns_message.proofs.Walks.{walk_drains}
 

@@ -1,7 +1,7 @@
 -- What a walk over records gives, from what each call of `next` gives.
 use Rattle.std.proofs.Common.{◌≡◌, ℕ, suc, ◌+◌, ◌≤◌, ◌<◌, ◌⊎◌, inl, inr, List, [], ◌∷◌, length, Some, None, Err, refl, sym, ap, subst, arith}
 use Rattle.std.specs.Iterator.{Drains, Yields}
-use Rattle.dns_message.specs.{State.Walking, Headers.IsPlace, Records.Record, Records.Item}
+use Rattle.dns_message.specs.{State.Walking, Headers.IsPlace, Records.Record, Items.Item}
 use Rattle.dns_message.specs.Walks.{NextItem, NextRecord, PassesRecord, StopsAtRecord, AreItems, EndsWalk, WalkGives}
 
 -- after the last item there is none

@@ -5,6 +5,7 @@ pub mod Records
 pub mod Readings
 pub mod State
 pub mod Asks
+pub mod Items
 pub mod Walks
 pub mod Starts
 pub mod OptRecords

@@ -1,8 +1,8 @@
 -- A walk over the records of a message.
 use Rattle.std.specs.Prelude.{◌≡◌, ℕ, suc, ◌+◌, ◌<◌, ◌≤◌, ◌⊎◌, List, [], ◌∷◌, ◌++◌, length, Option, Some, None, Err}
 use Rattle.dns_message.specs.declared.{header.Header.Header, error.Section.Section, error.RecordError.RecordError}
-use Rattle.dns_message.specs.{State.Walking, Headers.IsPlace, Records.Record, Records.RecordsFrom, Records.Item}
-use Rattle.dns_message.specs.Records.{IsItem, GivesRecord, IsDamagedRecord}
+use Rattle.dns_message.specs.{State.Walking, Headers.IsPlace, Records.Record, Records.RecordsFrom, Records.IsDamagedRecord}
+use Rattle.dns_message.specs.Items.{Item, IsItem, GivesRecord}
 
 -- a record is there, it or the error of its RDATA is given, and the walk goes on after it
 pub record PassesRecord (s : Walking) (x : Item) (t : Walking) : Type 0 where

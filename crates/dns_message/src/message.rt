@@ -4,7 +4,7 @@ ghost use Rattle.std.specs.Prelude.{◌≡◌, ◌+◌, ◌≤◌, ◌<◌, ℕ,
 ghost use Rattle.std.specs.Iterator.{Drains};
 ghost use Rattle.dns_message.specs.Headers.{IsHeader, HasHeader, record_count};
 ghost use Rattle.dns_message.specs.Starts.{Begins, BreaksIn, BeginsAsking};
-ghost use Rattle.dns_message.specs.Walks.{Item, NextRecord, WalkGives};
+ghost use Rattle.dns_message.specs.{Items.Item, Walks.NextRecord, Walks.WalkGives};
 ghost use Rattle.dns_message.specs.Asks.{AskedItem, NextQuestion, AsksGive};
 
 use crate::error::{MessageError, RecordError};

@@ -3,7 +3,7 @@
 ghost use Rattle.std.specs.Prelude.{◌≡◌, ◌≢◌, ◌≤◌, ◌↔◌, IsTrue, length, IfOk, IfErr, MatchOption};
 ghost use Rattle.dns_rdata.specs.{Views.IsViewOf};
 ghost use Rattle.dns_message.specs.OptRecords.{IsEdns};
-ghost use Rattle.dns_message.specs.{Readings.IsFound, Records.HasNoData, Records.IsDataOf, Records.IsRefusedAt, Records.IsRejected, Records.GivesRecord};
+ghost use Rattle.dns_message.specs.{Readings.IsFound, Records.HasNoData, Items.IsDataOf, Items.IsRefusedAt, Items.IsRejected, Items.GivesRecord};
 
 use crate::edns::{Edns, edns_of};
 use crate::error::{Fault, RecordError, Section};
