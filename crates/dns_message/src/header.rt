@@ -8,7 +8,7 @@ use crate::numbers::{is_set, number_at};
 // How many octets the header has.
 pub(crate) const HEADER_OCTETS: usize = 12;
 
-/// The header of a message (RFC 1035, section 4.1.1; AD and CD: RFC 4035, section 3.2).
+/// The header of a message (RFC 1035, section 4.1.1). The bits AD and CD are those of RFC 4035, section 3.2.
 ///
 ///       0  1  2  3  4  5  6  7  8  9  0  1  2  3  4  5
 ///     +--+--+--+--+--+--+--+--+--+--+--+--+--+--+--+--+

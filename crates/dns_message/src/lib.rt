@@ -16,7 +16,7 @@ pub mod header;
 pub mod message;
 mod numbers;
 pub mod question;
-pub mod reading;
+mod reading;
 pub mod record_ref;
 pub mod records;
 mod sections;

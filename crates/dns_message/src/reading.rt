@@ -16,32 +16,23 @@ const ASKED: usize = 4;
 // How many octets are between the owner of a record and its RDATA (RFC 1035, section 4.1.3).
 const FIXED: usize = 10;
 
-/// What follows the name of a question, and where the question ends.
+// What follows the name of a question, and where the question ends.
 #[derive(Clone, Copy)]
-pub struct Asked {
-    /// QTYPE.
-    pub query_type: u16,
-    /// QCLASS.
-    pub class: u16,
-    /// The offset where the question ends.
-    pub end: usize,
+pub(crate) struct Asked {
+    pub(crate) query_type: u16,
+    pub(crate) class: u16,
+    pub(crate) end: usize,
 }
 
-/// What follows the owner of a record, and where the RDATA and the record end.
+// What follows the owner of a record, and where the RDATA and the record end.
 #[derive(Clone, Copy)]
-pub struct Fixed {
-    /// TYPE.
-    pub record_type: u16,
-    /// CLASS.
-    pub class: u16,
-    /// TTL.
-    pub ttl: u32,
-    /// RDLENGTH.
-    pub rdlength: u16,
-    /// The offset of the RDATA.
-    pub rdata: usize,
-    /// The offset where the record ends.
-    pub end: usize,
+pub(crate) struct Fixed {
+    pub(crate) record_type: u16,
+    pub(crate) class: u16,
+    pub(crate) ttl: u32,
+    pub(crate) rdlength: u16,
+    pub(crate) rdata: usize,
+    pub(crate) end: usize,
 }
 
 // Reads the fields after the name of a question, which ends at `end`.
@@ -66,13 +57,8 @@ fn read_asked(message: &[u8], offset: usize, end: usize) -> Result<Asked, Fault>
     })
 }
 
-/// Reads the question at an offset (RFC 1035, section 4.1.2). Allocates nothing.
-///
-/// # Errors
-///
-/// - [`Name`](Fault::Name): no name is encoded there.
-/// - [`Truncated`](Fault::Truncated): fewer than four octets follow the name.
-pub fn read_question(message: &[u8], offset: usize) -> Result<Asked, Fault>
+// Reads the question at an offset (RFC 1035, section 4.1.2).
+pub(crate) fn read_question(message: &[u8], offset: usize) -> Result<Asked, Fault>
     requires { offset ≤ length message.now }
     ensures found { IfOk result (IsAsked message.now offset) }
     ensures inside { IfOk result (λ q. q.end ≤ length message.now) }
@@ -120,14 +106,8 @@ fn read_fixed(message: &[u8], offset: usize, end: usize) -> Result<Fixed, Fault>
     })
 }
 
-/// Reads the record at an offset (RFC 1035, section 4.1.3), all but its RDATA, which is only bounded. Allocates nothing.
-///
-/// # Errors
-///
-/// - [`Name`](Fault::Name): no name is encoded there.
-/// - [`Truncated`](Fault::Truncated): fewer than ten octets follow the owner.
-/// - [`Length`](Fault::Length): RDLENGTH is greater than the number of octets that are left.
-pub fn read_record(message: &[u8], offset: usize) -> Result<Fixed, Fault>
+// Reads the record at an offset (RFC 1035, section 4.1.3), all but its RDATA, of which it only tells where it is.
+pub(crate) fn read_record(message: &[u8], offset: usize) -> Result<Fixed, Fault>
     requires { offset ≤ length message.now }
     ensures found { IfOk result (IsFound message.now offset) }
     ensures inside { IfOk result (λ r. (r.rdata ≤ length message.now) × (r.end ≤ length message.now)) }
