@@ -11,10 +11,10 @@ use crate::numbers::{long_at, number_at};
 use dns_view::names::skip_name;
 
 // How many octets follow the name of a question (RFC 1035, section 4.1.2).
-const ASKED: usize = 4;
+const AFTER_NAME: usize = 4;
 
 // How many octets are between the owner of a record and its RDATA (RFC 1035, section 4.1.3).
-const FIXED: usize = 10;
+const AFTER_OWNER: usize = 10;
 
 // What follows the name of a question, and where the question ends.
 #[derive(Clone, Copy)]
@@ -45,7 +45,7 @@ fn read_asked(message: &[u8], offset: usize, end: usize) -> Result<Asked, Fault>
     ensures fault { IfErr result (IsQuestionFault message.now offset) }
 {
     let left = message.len() - end;
-    if left < ASKED {
+    if left < AFTER_NAME {
         return Err(Fault::Truncated);
     }
     let query_type = number_at(message, end);
@@ -53,7 +53,7 @@ fn read_asked(message: &[u8], offset: usize, end: usize) -> Result<Asked, Fault>
     Ok(Asked {
         query_type,
         class,
-        end: end + ASKED,
+        end: end + AFTER_NAME,
     })
 }
 
@@ -81,14 +81,14 @@ fn read_fixed(message: &[u8], offset: usize, end: usize) -> Result<Fixed, Fault>
     ensures fault { IfErr result (IsRecordFault message.now offset) }
 {
     let after = message.len() - end;
-    if after < FIXED {
+    if after < AFTER_OWNER {
         return Err(Fault::Truncated);
     }
     let record_type = number_at(message, end);
     let class = number_at(message, end + 2);
     let ttl = long_at(message, end + 4);
     let rdlength = number_at(message, end + 8);
-    let rdata = end + FIXED;
+    let rdata = end + AFTER_OWNER;
     let left = message.len() - rdata;
     if left < rdlength as usize {
         return Err(Fault::Length {

@@ -2,11 +2,11 @@ use Rattle.std.proofs.Common.{arith}
 use Rattle.dns_message.proofs.Fields.{record_found, short_found, ends_after, length_passes}
 use Rattle.dns_message.proofs.reading.read_fixed.Goals as goal
 
-pub returns-then-after-lt-FIXED-clause-none : goal.returns-then-after-lt-FIXED-clause-none
-returns-then-after-lt-FIXED-clause-none c = short_found c.requires.name (omega arith)
+pub returns-then-after-lt-AFTER_OWNER-clause-none : goal.returns-then-after-lt-AFTER_OWNER-clause-none
+returns-then-after-lt-AFTER_OWNER-clause-none c = short_found c.requires.name (omega arith)
 
-pub returns-then-after-lt-FIXED-clause-fault : goal.returns-then-after-lt-FIXED-clause-fault
-returns-then-after-lt-FIXED-clause-fault c = ends_after 10 c.requires.name (omega arith)
+pub returns-then-after-lt-AFTER_OWNER-clause-fault : goal.returns-then-after-lt-AFTER_OWNER-clause-fault
+returns-then-after-lt-AFTER_OWNER-clause-fault c = ends_after 10 c.requires.name (omega arith)
 
 pub returns-then-left-rdlength-clause-none : goal.returns-then-left-rdlength-clause-none
 returns-then-left-rdlength-clause-none c =
