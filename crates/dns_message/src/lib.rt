@@ -20,6 +20,8 @@ mod reading;
 pub mod record_ref;
 pub mod records;
 mod sections;
+#[cfg(test)]
+mod tests;
 
 pub use edns::Edns;
 pub use error::{Fault, MessageError, RecordError, Section};
