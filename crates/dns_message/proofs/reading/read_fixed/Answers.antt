@@ -1,4 +1,4 @@
-use Rattle.std.proofs.Common.{arith}
+use Rattle.std.proofs.Common.{◌+◌, ◌-◌, length, arith}
 use Rattle.dns_message.proofs.Fields.{record_found, short_found, ends_after, length_passes}
 use Rattle.dns_message.proofs.reading.read_fixed.Goals as goal
 
@@ -10,12 +10,12 @@ returns-then-after-lt-AFTER_OWNER-clause-fault c = ends_after 10 c.requires.name
 
 pub returns-then-left-rdlength-clause-none : goal.returns-then-left-rdlength-clause-none
 returns-then-left-rdlength-clause-none c =
-    (length_passes _ c.requires.name c.number_at-record_type.ensures c.number_at-class.ensures c.long_at-ttl.ensures c.number_at-rdlength.ensures
+    (length_passes (length c.args.message.now - (c.args.end + 10)) c.requires.name c.number_at-record_type.ensures c.number_at-class.ensures c.long_at-ttl.ensures c.number_at-rdlength.ensures
     (omega arith) c.if-left-rdlength.true).1
 
 pub returns-then-left-rdlength-clause-fault : goal.returns-then-left-rdlength-clause-fault
 returns-then-left-rdlength-clause-fault c =
-    (length_passes _ c.requires.name c.number_at-record_type.ensures c.number_at-class.ensures c.long_at-ttl.ensures c.number_at-rdlength.ensures
+    (length_passes (length c.args.message.now - (c.args.end + 10)) c.requires.name c.number_at-record_type.ensures c.number_at-class.ensures c.long_at-ttl.ensures c.number_at-rdlength.ensures
     (omega arith) c.if-left-rdlength.true).0
 
 pub returns-clause-found : goal.returns-clause-found
