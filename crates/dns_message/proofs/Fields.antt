@@ -7,7 +7,7 @@ use Rattle.dns_view.specs.NameEnds.{NameEnds}
 use Rattle.dns_message.specs.{Entries.NoName, Entries.EndsAfterName, Questions.IsQuestion, Questions.NoQuestion}
 use Rattle.dns_message.specs.Records.{Record, HasFields, IsRecord, NoRecord, LengthPasses}
 use Rattle.dns_message.specs.Readings.{IsAsked, IsFound}
-use Rattle.dns_message.proofs.Numbers.{number_end, moved}
+use Rattle.dns_message.proofs.NumberFields.{number_end, moved}
 
 -- ---- names
 

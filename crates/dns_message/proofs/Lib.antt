@@ -1,4 +1,4 @@
-pub mod Numbers
+pub mod NumberFields
 pub mod Headers
 pub mod Fields
 pub mod Reads

@@ -1,6 +1,6 @@
 use Rattle.std.proofs.Common.{arith, ap, length}
 use Rattle.dns_names_wire.specs.State.{Reading}
-use Rattle.dns_message.proofs.Numbers.{number_there}
+use Rattle.dns_message.proofs.NumberFields.{number_there}
 use Rattle.dns_message.proofs.numbers.number_at.Goals as goal
 
 pub returns-in-Ok : goal.returns-in-Ok

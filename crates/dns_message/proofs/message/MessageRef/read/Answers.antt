@@ -6,4 +6,4 @@ pub returns-then-octets-lt-HEADER_OCTETS-clause-none : goal.returns-then-octets-
 returns-then-octets-lt-HEADER_OCTETS-clause-none c = no_header (omega arith)
 
 pub returns-clause-header : goal.returns-clause-header
-returns-clause-header c = record { header = c.header_of-_header.result; is = c.header_of-_header.ensures }
+returns-clause-header c = record { header = c.header_of-header.result; is = c.header_of-header.ensures }
