@@ -1,7 +1,7 @@
 pub mod NumberFields
 pub mod Headers
 pub mod Fields
-pub mod Reads
+pub mod RefusedRdata
 pub mod Follow
 pub mod Walks
 pub mod Asks

@@ -1,4 +1,4 @@
-use Rattle.dns_message.proofs.Reads.{refused_at, found_at}
+use Rattle.dns_message.proofs.RefusedRdata.{refused_at, found_at}
 use Rattle.dns_message.proofs.record_ref.read_rdata.Goals as goal
 
 pub returns-clause-found : goal.returns-clause-found
