@@ -11,11 +11,11 @@ name : {m : List ℕ} {p q : ℕ} {x : DomainName} → LabelsStand m p x.labels 
 name stands fits qualified = record { is = record { stands = stands; fits = fits; qualified = qualified } }
 
 -- a bit that is 1 is set, and one that is 0 is not
-set : IsTrue true ↔ (1 ≡ 1)
-set = (λ _. refl, λ _. refl)
+set : (n : ℕ) → n ≡ 1 → IsTrue true ↔ (n ≡ 1)
+set n e = (λ _. e, λ _. refl)
 
-unset : IsTrue false ↔ (0 ≡ 1)
-unset = (λ e. cc e, λ e. cc e)
+unset : (n : ℕ) → n ≡ 0 → IsTrue false ↔ (n ≡ 1)
+unset n e = (λ t. cc t, λ o. absurd (omega arith))
 
 abbrev long_record : Record
 long_record = record { offset = 33; owner = www_example_com; type = 28; class = 1; ttl = 3709; rdlength = 17; rdata = 45 }
@@ -44,14 +44,14 @@ message_examples = record {
     (next 12 (number (omega arith) refl (omega arith) refl)
     refl)))));
     bits = record {
-      response = unset;
+      response = unset _ refl;
       opcode = refl;
-      authoritative = unset;
-      truncated = unset;
-      recursion_desired = set;
-      recursion_available = unset;
-      authentic_data = unset;
-      checking_disabled = unset;
+      authoritative = unset _ refl;
+      truncated = unset _ refl;
+      recursion_desired = set _ refl;
+      recursion_available = unset _ refl;
+      authentic_data = unset _ refl;
+      checking_disabled = unset _ refl;
       rcode = refl;
     };
   };
@@ -75,14 +75,14 @@ message_examples = record {
     (next 12 (number (omega arith) refl (omega arith) refl)
     refl)))));
     bits = record {
-      response = set;
+      response = set _ refl;
       opcode = refl;
-      authoritative = unset;
-      truncated = unset;
-      recursion_desired = set;
-      recursion_available = set;
-      authentic_data = unset;
-      checking_disabled = unset;
+      authoritative = unset _ refl;
+      truncated = unset _ refl;
+      recursion_desired = set _ refl;
+      recursion_available = set _ refl;
+      authentic_data = unset _ refl;
+      checking_disabled = unset _ refl;
       rcode = refl;
     };
   };
@@ -120,14 +120,14 @@ message_examples = record {
     (next 12 (number (omega arith) refl (omega arith) refl)
     refl)))));
     bits = record {
-      response = set;
+      response = set _ refl;
       opcode = refl;
-      authoritative = set;
-      truncated = unset;
-      recursion_desired = unset;
-      recursion_available = unset;
-      authentic_data = unset;
-      checking_disabled = unset;
+      authoritative = set _ refl;
+      truncated = unset _ refl;
+      recursion_desired = unset _ refl;
+      recursion_available = unset _ refl;
+      authentic_data = unset _ refl;
+      checking_disabled = unset _ refl;
       rcode = refl;
     };
   };
@@ -161,5 +161,5 @@ message_examples = record {
     λ h. h.other refl,
     λ h. ⊎_elim (λ (e : 1 ≡ 254). omega arith) (λ (e : 1 ≡ 255). omega arith) h.class,
   );
-  edns_reads = record { size = refl; rcode = refl; version = refl; dnssec_ok = set; reserved = refl };
+  edns_reads = record { size = refl; rcode = refl; version = refl; dnssec_ok = set _ refl; reserved = refl };
 }
