@@ -1,8 +1,8 @@
 -- What a walk over questions gives, from what each call of `next` gives.
-use Rattle.std.proofs.Common.{◌≡◌, ℕ, suc, ◌+◌, ◌≤◌, ◌<◌, ◌⊎◌, inl, inr, List, [], ◌∷◌, length, Some, None, Ok, Err, refl, sym, ap, subst, arith}
+use Rattle.std.proofs.Common.{◌≡◌, ℕ, suc, ◌+◌, ◌≤◌, ◌<◌, ◌⊎◌, inl, inr, List, [], ◌∷◌, length, None, Ok, Err, refl, sym, ap, subst, arith}
 use Rattle.std.specs.Iterator.{Drains, Yields}
-use Rattle.dns_message.specs.{State.Asking, Questions.Question}
-use Rattle.dns_message.specs.Asks.{AskedItem, NextAsked, NextQuestion, PassesQuestion, StopsAtQuestion, ShowsAll, EndsAsking, AsksGive}
+use Rattle.dns_message.specs.{State.Asking}
+use Rattle.dns_message.specs.Asks.{AskedItem, NextQuestion, PassesQuestion, StopsAtQuestion, ShowsAll, EndsAsking, AsksGive}
 
 -- after the last item there is none
 no_more : (j : Asking) (xs : List AskedItem) (e : Asking) → j.until ≤ j.passed → Yields NextQuestion j xs e → xs ≡ []

@@ -1,11 +1,11 @@
 -- The fields of a question and of a record, and where there are none.
-use Rattle.std.proofs.Common.{◌≡◌, ℕ, ◌+◌, ◌≤◌, ◌<◌, List, length, refl, sym, ap, subst, arith}
+use Rattle.std.proofs.Common.{◌≡◌, ℕ, ◌+◌, ◌≤◌, ◌<◌, List, length, refl, arith}
 use Rattle.dns_fields.specs.{Fields.Field, Labels.DomainName, Names.IsNameIn}
 use Rattle.dns_fields.specs.declared.Kind.{TheVariants.Number, TheVariants.Name}
 use Rattle.dns_fields.proofs.FieldLaws.{field_end, field_same}
 use Rattle.dns_view.specs.NameEnds.{NameEnds}
-use Rattle.dns_message.specs.{Entries.NoName, Entries.EndsAfterName, Questions.IsQuestion, Questions.NoQuestion}
-use Rattle.dns_message.specs.Records.{Record, HasFields, IsRecord, NoRecord, LengthPasses}
+use Rattle.dns_message.specs.{Entries.EndsAfterName, Questions.NoQuestion}
+use Rattle.dns_message.specs.Records.{Record, HasFields, NoRecord, LengthPasses}
 use Rattle.dns_message.specs.Readings.{IsAsked, IsFound}
 use Rattle.dns_message.proofs.NumberFields.{number_end, moved}
 
@@ -111,8 +111,7 @@ pub length_passes : {m : List ℕ} {p e t c l n : ℕ} (left : ℕ) → NameEnds
     → LengthPasses m p n left × NoRecord m p
 length_passes {m} {p} {e} {t} {c} {l} {n} left w f g h k at few =
     let entry : Record = record { offset = p; owner = w.name; type = t; class = c; ttl = l; rdlength = n; rdata = e + 10 } in
-    let has : HasFields m p entry = fields_found w f g h k in
-    (
+    let has : HasFields m p entry = fields_found w f g h k in (
       record { entry = entry; fields = has; length_is = refl; left_is = at; passes = few },
       long_found entry has (omega (arith, at, few)),
     )

@@ -1,8 +1,8 @@
 -- Entries that follow each other.
-use Rattle.std.proofs.Common.{◌≡◌, ◌∙◌, ℕ, ◌+◌, List, [], ◌∷◌, ◌++◌, length, refl, sym, ap, subst, arith}
+use Rattle.std.proofs.Common.{◌≡◌, ◌∙◌, ℕ, ◌+◌, List, [], ◌∷◌, ◌++◌, refl, sym, ap, subst}
 use Rattle.std.proofs.lemmas.List.{length_push}
 use Rattle.dns_message.specs.Entries.{Follow}
-use Rattle.dns_message.specs.{Questions.Question, Questions.IsQuestion, Records.Record, Records.IsRecord}
+use Rattle.dns_message.specs.{Questions.IsQuestion, Records.IsRecord}
 use Rattle.dns_message.specs.{Readings.question_of, Readings.IsAsked, Readings.record_of, Readings.IsFound}
 use Rattle.dns_message.specs.{Starts.AskedBefore, Starts.FoundBetween}
 use Rattle.dns_message.specs.declared.{reading.Asked.Asked, reading.Fixed.Fixed}

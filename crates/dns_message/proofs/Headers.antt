@@ -1,6 +1,6 @@
 -- Where there is no header.
 use Rattle.std.proofs.Common.{ℕ, ◌<◌, List, length, arith}
-use Rattle.dns_message.specs.Headers.{IsHeader, HasHeader}
+use Rattle.dns_message.specs.Headers.{HasHeader}
 use Rattle.dns_message.proofs.NumberFields.{number_end}
 
 pub no_header : {m : List ℕ} → length m < 12 → HasHeader m → ⊥

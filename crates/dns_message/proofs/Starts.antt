@@ -1,5 +1,5 @@
 -- Walks that begin in a message with its header.
-use Rattle.std.proofs.Common.{◌≡◌, ℕ, ◌≤◌, List, Result, Ok, Err, arith}
+use Rattle.std.proofs.Common.{ℕ, ◌≤◌, List, Result, Ok, Err, arith}
 use Rattle.std.specs.{Result.IfOk, Result.IfErr, Iterator.Drains}
 use Rattle.dns_message.specs.declared.{header.Header.Header, error.RecordError.RecordError}
 use Rattle.dns_message.specs.{State.Walking, Headers.IsHeader, Items.Item, Walks.NextRecord, Walks.WalkGives}

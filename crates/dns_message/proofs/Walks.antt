@@ -1,8 +1,8 @@
 -- What a walk over records gives, from what each call of `next` gives.
-use Rattle.std.proofs.Common.{◌≡◌, ℕ, suc, ◌+◌, ◌≤◌, ◌<◌, ◌⊎◌, inl, inr, List, [], ◌∷◌, length, Some, None, Err, refl, sym, ap, subst, arith}
+use Rattle.std.proofs.Common.{◌≡◌, ℕ, suc, ◌+◌, ◌≤◌, ◌<◌, ◌⊎◌, inl, inr, List, [], ◌∷◌, length, None, Err, refl, sym, ap, subst, arith}
 use Rattle.std.specs.Iterator.{Drains, Yields}
-use Rattle.dns_message.specs.{State.Walking, Headers.IsPlace, Records.Record, Items.Item}
-use Rattle.dns_message.specs.Walks.{NextItem, NextRecord, PassesRecord, StopsAtRecord, AreItems, EndsWalk, WalkGives}
+use Rattle.dns_message.specs.{State.Walking, Items.Item}
+use Rattle.dns_message.specs.Walks.{NextRecord, PassesRecord, StopsAtRecord, AreItems, EndsWalk, WalkGives}
 
 -- after the last item there is none
 no_more : (j : Walking) (xs : List Item) (e : Walking) → j.until ≤ j.passed → Yields NextRecord j xs e → xs ≡ []

@@ -1,7 +1,7 @@
 -- The definitions at work, on messages of RFCs.
-use Rattle.std.specs.Prelude.{◌≡◌, ℕ, true, false, List, [], ◌∷◌}
+use Rattle.std.specs.Prelude.{ℕ, true, false, List, [], ◌∷◌}
 use Rattle.dns_fields.specs.{Labels.DomainName, Examples.full, Examples.www_label, Examples.example_label, Examples.com_label}
-use Rattle.dns_message.specs.declared.{header.Header.Header, edns.Edns.Edns}
+use Rattle.dns_message.specs.declared.{header.Header.Header}
 use Rattle.dns_message.specs.declared.error.Section.TheVariants as sections
 use Rattle.dns_message.specs.{Headers.IsHeader, Headers.IsPlace, Questions.QuestionsFrom, OptRecords.IsEdns}
 use Rattle.dns_message.specs.Records.{RecordsFrom, NoRecord, HasNoData}

@@ -3,7 +3,7 @@ use Rattle.std.specs.Prelude.{◌≡◌, ℕ, List, [], ◌∷◌, length}
 use Rattle.dns_types.specs.RecordTypes.{record_type_of}
 use Rattle.dns_fields.specs.{Labels.DomainName, Fields.Stands, declared.Kind.TheVariants.Number, declared.Kind.TheVariants.Name}
 use Rattle.dns_message.specs.Entries.{Follow, NoName, EndsAfterName}
-use Rattle.dns_message.specs.declared.{error.Fault.Fault, error.Section.Section, error.RecordError.RecordError}
+use Rattle.dns_message.specs.declared.{error.Fault.Fault, error.RecordError.RecordError}
 use Rattle.dns_message.specs.declared.question.QuestionRef.{QuestionRef}
 use Rattle.dns_message.specs.declared.error.Fault.TheVariants as faults
 use Rattle.dns_message.specs.declared.error.Section.TheVariants as sections

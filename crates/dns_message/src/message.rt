@@ -125,7 +125,12 @@ impl<'a> MessageRef<'a> {
     {
         let header = header_of(self.octets);
         let from = header.answer_count as usize;
-        records_between(self.octets, header, from, from + header.authority_count as usize)
+        records_between(
+            self.octets,
+            header,
+            from,
+            from + header.authority_count as usize,
+        )
     }
 
     /// The additional records. Allocates nothing.

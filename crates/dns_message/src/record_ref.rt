@@ -15,6 +15,7 @@ use dns_view::{NameRef, Walk};
 
 // The classes of records of UPDATE that have no data (RFC 2136, sections 2.4 and 2.5).
 const NONE: u16 = 254;
+
 const ANY: u16 = 255;
 
 // The number of OPT.

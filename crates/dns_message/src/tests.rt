@@ -5,7 +5,8 @@ use dns_rdata::{DecodeError, RecordType};
 use std::test::Fail;
 
 // The response of RFC 8484, section 4.2.2: `www.example.com. 3709 IN AAAA 2001:db8:abcd:12:1:2:3:4`.
-const ADDRESS: [u8; 61] = *b"\x00\x00\x81\x80\x00\x01\x00\x01\x00\x00\x00\x00\x03www\x07example\x03com\x00\x00\x1c\x00\
+const ADDRESS: [u8; 61] =
+    *b"\x00\x00\x81\x80\x00\x01\x00\x01\x00\x00\x00\x00\x03www\x07example\x03com\x00\x00\x1c\x00\
     \x01\xc0\x0c\x00\x1c\x00\x01\x00\x00\x0e\x7d\x00\x10\x20\x01\x0d\xb8\xab\xcd\x00\x12\x00\x01\x00\x02\x00\x03\x00\x04";
 
 // A response with three answers, and three octets after them. RDATA of the second answer is damaged.
@@ -38,7 +39,10 @@ fn goes_on_after_damaged_rdata(rt: HostRuntime) -> Result<(), Fail> {
     let error = second.err().ok_or("the second record is damaged")?;
     assert_eq!(rt; error.section, Section::Answer);
     assert_eq!(rt; error.index, 1);
-    assert_eq!(rt; error.fault, Fault::RData(DecodeError::IncorrectRDataLengthRead { read: 11, len: 3 }));
+    assert_eq!(rt;
+        error.fault,
+        Fault::RData(DecodeError::IncorrectRDataLengthRead { read: 11, len: 3 })
+    );
     records.next().ok_or("no third record")??;
     assert!(rt; records.next().is_none());
     assert_eq!(rt; records.trailing().ok_or("records are left")?.len(), 3);

@@ -6,9 +6,17 @@ pub returns : goal.returns
 returns c = record {
   flags = c.number_at-flags.result;
   numbers = (
-    2, c.number_at-id.ensures,
-    (4, c.number_at-flags.ensures, (6, c.number_at-question_count.ensures,
-    (8, c.number_at-answer_count.ensures, (10, c.number_at-authority_count.ensures, (12, c.number_at-additional_count.ensures, refl))))),
+    2,
+    c.number_at-id.ensures,
+    (
+      4,
+      c.number_at-flags.ensures,
+      (
+        6,
+        c.number_at-question_count.ensures,
+        (8, c.number_at-answer_count.ensures, (10, c.number_at-authority_count.ensures, (12, c.number_at-additional_count.ensures, refl))),
+      ),
+    ),
   );
   bits = record {
     response = c.is_set-response.ensures;

@@ -1,4 +1,3 @@
-use Rattle.std.proofs.Common.{true, false, ◌≡◌}
 use Rattle.dns_message.proofs.record_ref.rdata_of.Goals as goal
 
 pub returns-then-has_no_data-clause-found : goal.returns-then-has_no_data-clause-found

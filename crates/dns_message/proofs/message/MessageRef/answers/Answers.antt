@@ -1,5 +1,4 @@
-use Rattle.std.proofs.Common.{◌+◌, arith}
-use Rattle.dns_message.specs.Headers.{record_count}
+use Rattle.std.proofs.Common.{arith}
 use Rattle.dns_message.proofs.Starts.{begins_as, breaks_as, all_given}
 use Rattle.dns_message.proofs.message.MessageRef.answers.Goals as goal
 

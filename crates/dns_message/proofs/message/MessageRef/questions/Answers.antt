@@ -1,4 +1,4 @@
-use Rattle.std.proofs.Common.{◌∙◌, ◌≤◌, ap, arith}
+use Rattle.std.proofs.Common.{ap, arith}
 use Rattle.dns_message.specs.State.{Asking}
 use Rattle.dns_message.proofs.Asks.{asks_drain}
 use Rattle.dns_message.proofs.message.MessageRef.questions.Goals as goal
