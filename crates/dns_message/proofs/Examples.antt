@@ -1,14 +1,20 @@
 -- The definitions, checked against messages of RFCs.
-use Rattle.std.proofs.Common.{◌≡◌, ℕ, ◌↔◌, true, false, IsTrue, List, [], ◌∷◌, refl, arith, inr, ⊎_elim}
-use Rattle.dns_fields.specs.{Labels.DomainName, Labels.FitsName, Names.LabelsStand, Names.LabelsStand.whole, Names.LabelsStand.pointed}
+use Rattle.std.proofs.Common.{◌≡◌, ℕ, ◌+◌, ◌↔◌, true, false, IsTrue, List, [], ◌∷◌, take, drop, refl, arith, inl, inr, ⊎_elim}
+use Rattle.dns_fields.specs.{Labels.DomainName, Labels.AreLabels, Labels.FitsName, Names.LabelsStand, Names.LabelsStand.whole, Names.LabelsStand.pointed}
 use Rattle.dns_fields.specs.{Fields.Field, declared.Kind.TheVariants.Name}
 use Rattle.dns_fields.proofs.Examples.{next, number}
 use Rattle.dns_message.specs.Records.{Record, HasFields}
-use Rattle.dns_message.specs.Examples.{MessageExamples, long_response, www_example_com, sri_nic_arpa}
+use Rattle.dns_message.specs.Examples.{MessageExamples, www_query, www_response, long_response, nic_response, www_example_com, sri_nic_arpa}
 use Rattle.dns_message.proofs.Fields.{long_found}
 
 name : {m : List ℕ} {p q : ℕ} {x : DomainName} → LabelsStand m p x.labels q → FitsName x.labels → x.fully_qualified ≡ true → Field m p Name x q
 name stands fits qualified = record { is = record { stands = stands; fits = fits; qualified = qualified } }
+
+www : AreLabels www_example_com.labels
+www = ((omega arith, omega arith), ((omega arith, omega arith), ((omega arith, omega arith), tt)))
+
+nic : AreLabels sri_nic_arpa.labels
+nic = ((omega arith, omega arith), ((omega arith, omega arith), tt))
 
 -- a bit that is 1 is set, and one that is 0 is not
 set : (n : ℕ) → n ≡ 1 → IsTrue true ↔ (n ≡ 1)
@@ -23,8 +29,8 @@ long_record = record { offset = 33; owner = www_example_com; type = 28; class = 
 long_fields : HasFields long_response 33 long_record
 long_fields = record {
   starts = refl;
-  fields = next 35 (name (pointed [] www_example_com.labels 12 29 (0x00 ∷ 0x1c ∷ 0x00 ∷ 0x01 ∷ 0x00 ∷ 0x00 ∷ 0x0e ∷ 0x7d ∷ 0x00 ∷ 0x11 ∷ 0x20 ∷ 0x01 ∷ 0x0d ∷ 0xb8 ∷ 0xab ∷ 0xcd ∷ 0x00 ∷ 0x12 ∷ 0x00 ∷ 0x01 ∷ 0x00 ∷ 0x02 ∷ 0x00 ∷ 0x03 ∷ 0x00 ∷ 0x04 ∷ []) tt refl (omega arith) (omega arith)
-      (whole (0x00 ∷ 0x1c ∷ 0x00 ∷ 0x01 ∷ []) ((omega arith, omega arith), ((omega arith, omega arith), ((omega arith, omega arith), tt))) refl refl) refl refl) (omega arith) refl)
+  fields = next 35 (name (pointed [] www_example_com.labels 12 29 (drop 35 long_response) tt refl (omega arith) (omega arith)
+      (whole (drop 29 (take 33 long_response)) www refl refl) refl refl) (omega arith) refl)
       (next 37 (number (omega arith) refl (omega arith) refl)
       (next 39 (number (omega arith) refl (omega arith) refl)
       (next 43 (number (omega arith) refl (omega arith) refl)
@@ -59,7 +65,7 @@ message_examples = record {
     many = refl;
     follow = next 33 (record {
       starts = refl;
-      fields = next 29 (name (whole (0x00 ∷ 0x01 ∷ 0x00 ∷ 0x01 ∷ []) ((omega arith, omega arith), ((omega arith, omega arith), ((omega arith, omega arith), tt))) refl refl) (omega arith) refl)
+      fields = next 29 (name (whole (drop 29 www_query) www refl refl) (omega arith) refl)
           (next 31 (number (omega arith) refl (omega arith) refl)
           (next 33 (number (omega arith) refl (omega arith) refl)
           refl));
@@ -90,19 +96,19 @@ message_examples = record {
     many = refl;
     follow = next 33 (record {
       starts = refl;
-      fields = next 29 (name (whole (0x00 ∷ 0x1c ∷ 0x00 ∷ 0x01 ∷ 0xc0 ∷ 0x0c ∷ 0x00 ∷ 0x1c ∷ 0x00 ∷ 0x01 ∷ 0x00 ∷ 0x00 ∷ 0x0e ∷ 0x7d ∷ 0x00 ∷ 0x10 ∷ 0x20 ∷ 0x01 ∷ 0x0d ∷ 0xb8 ∷ 0xab ∷ 0xcd ∷ 0x00 ∷ 0x12 ∷ 0x00 ∷ 0x01 ∷ 0x00 ∷ 0x02 ∷ 0x00 ∷ 0x03 ∷ 0x00 ∷ 0x04 ∷ []) ((omega arith, omega arith), ((omega arith, omega arith), ((omega arith, omega arith), tt))) refl refl) (omega arith) refl)
+      fields = next 29 (name (whole (drop 29 www_response) www refl refl) (omega arith) refl)
           (next 31 (number (omega arith) refl (omega arith) refl)
           (next 33 (number (omega arith) refl (omega arith) refl)
           refl));
     }) refl;
   };
-  response_answers = record {
+  response_records = record {
     many = refl;
     follow = next 61 (record {
       fields = record {
         starts = refl;
-        fields = next 35 (name (pointed [] www_example_com.labels 12 29 (0x00 ∷ 0x1c ∷ 0x00 ∷ 0x01 ∷ 0x00 ∷ 0x00 ∷ 0x0e ∷ 0x7d ∷ 0x00 ∷ 0x10 ∷ 0x20 ∷ 0x01 ∷ 0x0d ∷ 0xb8 ∷ 0xab ∷ 0xcd ∷ 0x00 ∷ 0x12 ∷ 0x00 ∷ 0x01 ∷ 0x00 ∷ 0x02 ∷ 0x00 ∷ 0x03 ∷ 0x00 ∷ 0x04 ∷ []) tt refl (omega arith) (omega arith)
-            (whole (0x00 ∷ 0x1c ∷ 0x00 ∷ 0x01 ∷ []) ((omega arith, omega arith), ((omega arith, omega arith), ((omega arith, omega arith), tt))) refl refl) refl refl) (omega arith) refl)
+        fields = next 35 (name (pointed [] www_example_com.labels 12 29 (drop 35 www_response) tt refl (omega arith) (omega arith)
+            (whole (drop 29 (take 33 www_response)) www refl refl) refl refl) (omega arith) refl)
             (next 37 (number (omega arith) refl (omega arith) refl)
             (next 39 (number (omega arith) refl (omega arith) refl)
             (next 43 (number (omega arith) refl (omega arith) refl)
@@ -113,7 +119,7 @@ message_examples = record {
       within = omega arith;
     }) refl;
   };
-  long_answer = long_found long_record long_fields (omega arith);
+  long_record_is_none = long_found long_record long_fields (omega arith);
   nic_header_reads = record {
     flags = 33792;
     numbers = next 2 (number (omega arith) refl (omega arith) refl)
@@ -135,13 +141,13 @@ message_examples = record {
       rcode = refl;
     };
   };
-  nic_answers = record {
+  nic_records = record {
     many = refl;
     follow = next 46 (record {
       fields = record {
         starts = refl;
-        fields = next 32 (name (pointed [] sri_nic_arpa.labels 12 26 (0x00 ∷ 0x01 ∷ 0x00 ∷ 0x01 ∷ 0x00 ∷ 0x01 ∷ 0x51 ∷ 0x80 ∷ 0x00 ∷ 0x04 ∷ 0x1a ∷ 0x00 ∷ 0x00 ∷ 0x49 ∷ 0xc0 ∷ 0x0c ∷ 0x00 ∷ 0x01 ∷ 0x00 ∷ 0x01 ∷ 0x00 ∷ 0x01 ∷ 0x51 ∷ 0x80 ∷ 0x00 ∷ 0x04 ∷ 0x0a ∷ 0x00 ∷ 0x00 ∷ 0x33 ∷ []) tt refl (omega arith) (omega arith)
-            (whole (0x00 ∷ 0x01 ∷ 0x00 ∷ 0x01 ∷ []) ((omega arith, omega arith), ((omega arith, omega arith), tt)) refl refl) refl refl) (omega arith) refl)
+        fields = next 32 (name (pointed [] sri_nic_arpa.labels 12 26 (drop 32 nic_response) tt refl (omega arith) (omega arith)
+            (whole (drop 26 (take 30 nic_response)) nic refl refl) refl refl) (omega arith) refl)
             (next 34 (number (omega arith) refl (omega arith) refl)
             (next 36 (number (omega arith) refl (omega arith) refl)
             (next 40 (number (omega arith) refl (omega arith) refl)
@@ -154,8 +160,8 @@ message_examples = record {
         (next 62 (record {
           fields = record {
             starts = refl;
-            fields = next 48 (name (pointed [] sri_nic_arpa.labels 12 26 (0x00 ∷ 0x01 ∷ 0x00 ∷ 0x01 ∷ 0x00 ∷ 0x01 ∷ 0x51 ∷ 0x80 ∷ 0x00 ∷ 0x04 ∷ 0x0a ∷ 0x00 ∷ 0x00 ∷ 0x33 ∷ []) tt refl (omega arith) (omega arith)
-                (whole (0x00 ∷ 0x01 ∷ 0x00 ∷ 0x01 ∷ 0xc0 ∷ 0x0c ∷ 0x00 ∷ 0x01 ∷ 0x00 ∷ 0x01 ∷ 0x00 ∷ 0x01 ∷ 0x51 ∷ 0x80 ∷ 0x00 ∷ 0x04 ∷ 0x1a ∷ 0x00 ∷ 0x00 ∷ 0x49 ∷ []) ((omega arith, omega arith), ((omega arith, omega arith), tt)) refl refl) refl refl) (omega arith) refl)
+            fields = next 48 (name (pointed [] sri_nic_arpa.labels 12 26 (drop 48 nic_response) tt refl (omega arith) (omega arith)
+                (whole (drop 26 (take 46 nic_response)) nic refl refl) refl refl) (omega arith) refl)
                 (next 50 (number (omega arith) refl (omega arith) refl)
                 (next 52 (number (omega arith) refl (omega arith) refl)
                 (next 56 (number (omega arith) refl (omega arith) refl)

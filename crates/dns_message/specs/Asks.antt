@@ -1,5 +1,6 @@
 -- A walk over the questions of a message.
-use Rattle.std.specs.Prelude.{◌≡◌, ℕ, suc, ◌+◌, ◌<◌, ◌≤◌, ◌⊎◌, List, [], ◌∷◌, ◌++◌, length, Option, Some, None, Result, Ok, Err}
+use Rattle.std.specs.Prelude.{◌≡◌, ℕ, suc, ◌+◌, ◌<◌, ◌≤◌, ◌⊎◌, List, [], ◌∷◌, ◌++◌, length}
+use Rattle.std.specs.Prelude.{Option, Some, None, Result, Ok, Err}
 use Rattle.dns_message.specs.declared.{question.QuestionRef.QuestionRef, error.RecordError.RecordError}
 use Rattle.dns_message.specs.{State.Asking, Questions.Question, Questions.QuestionsFrom, Questions.ShowsQuestion}
 use Rattle.dns_message.specs.Questions.{GivesQuestion, IsDamagedQuestion}
@@ -43,8 +44,8 @@ pub record EndsAsking (m : List ℕ) (i p : ℕ) (xs : List AskedItem) : Type 0 
   pub last : xs ≡ Err error ∷ []
   pub damaged : IsDamagedQuestion m i p error
 
--- All that a walk gives from a state on: questions that follow each other, in order, and then nothing if they are as many
--- as were left, and else one error, since the next question is damaged.
+-- All that a walk gives from a state on: questions that follow each other, in order, and then nothing if they are as
+-- many as were left, and else one error, since the next question is damaged.
 pub record AsksGive (s : Asking) (items : List AskedItem) : Type 0 where
   pub questions : List Question
   pub end : ℕ

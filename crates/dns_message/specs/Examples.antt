@@ -1,6 +1,7 @@
 -- The definitions at work, on messages of RFCs.
 use Rattle.std.specs.Prelude.{ℕ, true, false, List, [], ◌∷◌}
-use Rattle.dns_fields.specs.{Labels.DomainName, Examples.full, Examples.www_label, Examples.example_label, Examples.com_label}
+use Rattle.dns_fields.specs.Labels.{DomainName}
+use Rattle.dns_fields.specs.Examples.{full, www_label, example_label, com_label}
 use Rattle.dns_message.specs.declared.{header.Header.Header}
 use Rattle.dns_message.specs.declared.error.Section.TheVariants as sections
 use Rattle.dns_message.specs.{Headers.IsHeader, Headers.IsPlace, Questions.QuestionsFrom, OptRecords.IsEdns}
@@ -122,10 +123,12 @@ counts = record {
 
 pub record MessageExamples : Type 0 where
   pub query_header_reads : IsHeader www_query query_header
-  pub query_asks : QuestionsFrom www_query 12 1 (record { offset = 12; name = www_example_com; type = 1; class = 1 } ∷ []) 33
+  pub query_asks : QuestionsFrom www_query 12 1
+      (record { offset = 12; name = www_example_com; type = 1; class = 1 } ∷ []) 33
   pub response_header_reads : IsHeader www_response response_header
-  pub response_asks : QuestionsFrom www_response 12 1 (record { offset = 12; name = www_example_com; type = 28; class = 1 } ∷ []) 33
-  pub response_answers : RecordsFrom www_response 33 1 (record {
+  pub response_asks : QuestionsFrom www_response 12 1
+      (record { offset = 12; name = www_example_com; type = 28; class = 1 } ∷ []) 33
+  pub response_records : RecordsFrom www_response 33 1 (record {
     offset = 33;
     owner = www_example_com;
     type = 28;
@@ -135,9 +138,9 @@ pub record MessageExamples : Type 0 where
     rdata = 45;
   } ∷ []) 61
   -- RDLENGTH passes the end of the message
-  pub long_answer : NoRecord long_response 33
+  pub long_record_is_none : NoRecord long_response 33
   pub nic_header_reads : IsHeader nic_response nic_header
-  pub nic_answers : RecordsFrom nic_response 30 2 (record {
+  pub nic_records : RecordsFrom nic_response 30 2 (record {
     offset = 30;
     owner = sri_nic_arpa;
     type = 1;
@@ -155,7 +158,8 @@ pub record MessageExamples : Type 0 where
     rdata = 58;
   } ∷ []) 62
   -- of six records, the first, the third and the last
-  pub places : IsPlace counts 0 sections.Answer 0 × IsPlace counts 2 sections.Authority 1 × IsPlace counts 5 sections.Additional 2
+  pub places : IsPlace counts 0 sections.Answer 0 × IsPlace counts 2 sections.Authority 1
+      × IsPlace counts 5 sections.Additional 2
   -- a name is in use, an address is deleted; OPT with 255 octets of UDP, and an address without octets
   pub without_data : HasNoData 255 255 0 × HasNoData 1 255 0 × (HasNoData 41 255 0 → ⊥) × (HasNoData 1 1 0 → ⊥)
   -- 1232 octets of UDP, extended RCODE 1, version 0, DO

@@ -6,7 +6,8 @@ use Rattle.dns_types.specs.declared.error.DecodeError.TheVariants as decode
 use Rattle.dns_names_wire.specs.State.{Reading}
 use Rattle.dns_rdata.specs.{Data.NoValue, ReadErrors.IsReadError, Views.IsViewOf, declared.view.RDataRef.RDataRef}
 use Rattle.dns_message.specs.Records.{Record, IsRecord, HasNoData}
-use Rattle.dns_message.specs.declared.{error.Section.Section, error.RecordError.RecordError, record_ref.RecordRef.RecordRef}
+use Rattle.dns_message.specs.declared.{error.Section.Section, error.RecordError.RecordError}
+use Rattle.dns_message.specs.declared.record_ref.RecordRef.{RecordRef}
 use Rattle.dns_message.specs.declared.error.Fault.TheVariants as faults
 
 -- a view of the n octets of RDATA at q, or that the record has no data

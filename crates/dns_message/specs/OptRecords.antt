@@ -3,8 +3,8 @@ use Rattle.std.specs.Prelude.{◌≡◌, ◌↔◌, ℕ, ◌/◌, ◌%◌, ◌^�
 use Rattle.std.specs.Int.{bit_at}
 use Rattle.dns_message.specs.declared.edns.Edns.{Edns}
 
--- The class is the UDP payload size. The TTL is the extended RCODE, the version, the bit DO and 15 bits Z, from the highest
--- bit to the lowest.
+-- The class is the UDP payload size. The TTL is the extended RCODE, the version, the bit DO and 15 bits Z, from the
+-- highest bit to the lowest.
 pub record IsEdns (class ttl : ℕ) (e : Edns) : Type 0 where
   pub size : e.udp_payload_size ≡ class
   pub rcode : e.extended_rcode ≡ ttl / 2 ^ 24

@@ -1,7 +1,8 @@
 -- Questions (RFC 1035, 4.1.2).
 use Rattle.std.specs.Prelude.{◌≡◌, ℕ, List, [], ◌∷◌, length}
 use Rattle.dns_types.specs.RecordTypes.{record_type_of}
-use Rattle.dns_fields.specs.{Labels.DomainName, Fields.Stands, declared.Kind.TheVariants.Number, declared.Kind.TheVariants.Name}
+use Rattle.dns_fields.specs.{Labels.DomainName, Fields.Stands}
+use Rattle.dns_fields.specs.declared.Kind.{TheVariants.Number, TheVariants.Name}
 use Rattle.dns_message.specs.Entries.{Follow, NoName, EndsAfterName}
 use Rattle.dns_message.specs.declared.{error.Fault.Fault, error.RecordError.RecordError}
 use Rattle.dns_message.specs.declared.question.QuestionRef.{QuestionRef}

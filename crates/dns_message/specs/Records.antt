@@ -1,6 +1,7 @@
 -- Records (RFC 1035, 4.1.3).
 use Rattle.std.specs.Prelude.{◌≡◌, ◌≢◌, ℕ, ◌+◌, ◌<◌, ◌≤◌, ◌⊎◌, List, [], ◌∷◌, length}
-use Rattle.dns_fields.specs.{Labels.DomainName, Fields.Stands, declared.Kind.TheVariants.Number, declared.Kind.TheVariants.Name}
+use Rattle.dns_fields.specs.{Labels.DomainName, Fields.Stands}
+use Rattle.dns_fields.specs.declared.Kind.{TheVariants.Number, TheVariants.Name}
 use Rattle.dns_message.specs.Entries.{Follow, NoName, EndsAfterName}
 use Rattle.dns_message.specs.declared.{error.Fault.Fault, error.Section.Section, error.RecordError.RecordError}
 use Rattle.dns_message.specs.declared.error.Fault.TheVariants as faults

@@ -1,7 +1,8 @@
 -- A walk over the records of a message.
 use Rattle.std.specs.Prelude.{◌≡◌, ℕ, suc, ◌+◌, ◌<◌, ◌≤◌, ◌⊎◌, List, [], ◌∷◌, ◌++◌, length, Option, Some, None, Err}
 use Rattle.dns_message.specs.declared.{header.Header.Header, error.Section.Section, error.RecordError.RecordError}
-use Rattle.dns_message.specs.{State.Walking, Headers.IsPlace, Records.Record, Records.RecordsFrom, Records.IsDamagedRecord}
+use Rattle.dns_message.specs.{State.Walking, Headers.IsPlace}
+use Rattle.dns_message.specs.Records.{Record, RecordsFrom, IsDamagedRecord}
 use Rattle.dns_message.specs.Items.{Item, IsItem, GivesRecord}
 
 -- a record is there, it or the error of its RDATA is given, and the walk goes on after it
@@ -36,7 +37,7 @@ pub record StopsAtRecord (s : Walking) (x : Item) (t : Walking) : Type 0 where
     until = s.passed;
   }
 
--- a call of `next`: nothing is left, or the next record or why its RDATA is rejected is given, or why there is no record
+-- a call of `next`: nothing is left; or the next record, or why its RDATA is rejected, is given; or why there is none
 abbrev pub NextItem : Walking → Option Item → Walking → Type 0
 NextItem s None t = (s.until ≤ s.passed) × (t ≡ s)
 NextItem s (Some x) t = PassesRecord s x t ⊎ StopsAtRecord s x t
@@ -66,8 +67,8 @@ pub record EndsWalk (m : List ℕ) (h : Header) (n p : ℕ) (xs : List Item) : T
   pub last : xs ≡ Err error ∷ []
   pub damaged : IsDamagedRecord m section index p error
 
--- All that a walk gives from a state on: an item for each of the records that follow each other, and then nothing if they
--- are as many as were left, and else one error, since the next record is damaged.
+-- All that a walk gives from a state on: an item for each of the records that follow each other, and then nothing if
+-- they are as many as were left, and else one error, since the next record is damaged.
 pub record WalkGives (s : Walking) (items : List Item) : Type 0 where
   pub records : List Record
   pub end : ℕ

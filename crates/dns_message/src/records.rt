@@ -73,9 +73,10 @@ impl<'a> Iterator for Records<'a> {
         let position = position_of(&self.header, passed);
         match read_record(message, offset) {
             Ok(fixed) => {
+                let item = record_at(message, position, offset, fixed);
                 self.offset = fixed.end;
                 self.passed = passed + 1;
-                Some(record_at(message, position, offset, fixed))
+                Some(item)
             }
             Err(fault) => {
                 self.until = passed;

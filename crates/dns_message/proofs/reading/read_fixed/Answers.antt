@@ -10,12 +10,14 @@ returns-then-after-lt-AFTER_OWNER-clause-fault c = ends_after 10 c.requires.name
 
 pub returns-then-left-rdlength-clause-none : goal.returns-then-left-rdlength-clause-none
 returns-then-left-rdlength-clause-none c =
-    (length_passes (length c.args.message.now - (c.args.end + 10)) c.requires.name c.number_at-record_type.ensures c.number_at-class.ensures c.long_at-ttl.ensures c.number_at-rdlength.ensures
+    let left = length c.args.message.now - (c.args.end + 10) in
+    (length_passes left c.requires.name c.number_at-record_type.ensures c.number_at-class.ensures c.long_at-ttl.ensures c.number_at-rdlength.ensures
     (omega arith) c.if-left-rdlength.true).1
 
 pub returns-then-left-rdlength-clause-fault : goal.returns-then-left-rdlength-clause-fault
 returns-then-left-rdlength-clause-fault c =
-    (length_passes (length c.args.message.now - (c.args.end + 10)) c.requires.name c.number_at-record_type.ensures c.number_at-class.ensures c.long_at-ttl.ensures c.number_at-rdlength.ensures
+    let left = length c.args.message.now - (c.args.end + 10) in
+    (length_passes left c.requires.name c.number_at-record_type.ensures c.number_at-class.ensures c.long_at-ttl.ensures c.number_at-rdlength.ensures
     (omega arith) c.if-left-rdlength.true).0
 
 pub returns-clause-found : goal.returns-clause-found

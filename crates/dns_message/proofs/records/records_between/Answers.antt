@@ -14,4 +14,5 @@ returns-in-Ok-skip_records-clause-begins c = record {
 }
 
 pub returns-in-Err-skip_records-clause-damaged : goal.returns-in-Err-skip_records-clause-damaged
-returns-in-Err-skip_records-clause-damaged c = inr (record { first = c.in-Ok.first; asked = c.in-Ok.ensures.found; breaks = c.in-Err-skip_records.ensures.damaged })
+returns-in-Err-skip_records-clause-damaged c =
+    inr (record { first = c.in-Ok.first; asked = c.in-Ok.ensures.found; breaks = c.in-Err-skip_records.ensures.damaged })

@@ -7,7 +7,14 @@ returns-then-passed-self-clause-steps c = rw (← c.self.view_is) (record { is =
 pub returns-in-Ok-clause-steps : goal.returns-in-Ok-clause-steps
 returns-in-Ok-clause-steps c =
     rw (← c.self.view_is) (record {
-      is = inl (record { section = c.position_of-position.result.section; index = c.position_of-position.result.index; place = c.position_of-position.ensures; left = omega arith; is = c.record_at.ensures; after = refl });
+      is = inl (record {
+        section = c.position_of-position.result.section;
+        index = c.position_of-position.result.index;
+        place = c.position_of-position.ensures;
+        left = omega arith;
+        is = c.record_at-item.ensures;
+        after = refl;
+      });
     })
 
 pub returns-in-Ok-clause-goes : goal.returns-in-Ok-clause-goes
