@@ -1,5 +1,5 @@
 -- The definitions, checked against messages of RFCs.
-use Rattle.std.proofs.Common.{◌≡◌, ℕ, ◌+◌, ◌↔◌, true, false, IsTrue, List, [], ◌∷◌, take, drop, refl, arith, inl, inr, ⊎_elim}
+use Rattle.std.proofs.Common.{◌≡◌, ℕ, ◌↔◌, true, false, IsTrue, List, [], take, drop, refl, arith, inr, ⊎_elim}
 use Rattle.dns_fields.specs.{Labels.DomainName, Labels.AreLabels, Labels.FitsName, Names.LabelsStand, Names.LabelsStand.whole, Names.LabelsStand.pointed}
 use Rattle.dns_fields.specs.{Fields.Field, declared.Kind.TheVariants.Name}
 use Rattle.dns_fields.proofs.Examples.{next, number}

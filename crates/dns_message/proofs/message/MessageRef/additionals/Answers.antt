@@ -8,7 +8,8 @@ returns-clause-begins c =
     let m = c.self.inside.octets.now in
     let h = c.header_of-header in
     let b = c.records_between.ensures.begins in
-    rw (← c.self.view_is) (begins_as m h.result (λ h. h.answer_count + h.authority_count) record_count c.records_between.result h.ensures (rw c.records_in-until.ensures at b))
+    rw (← c.self.view_is) (begins_as m h.result (λ h. h.answer_count + h.authority_count) record_count c.records_between.result h.ensures
+    (rw c.records_in-until.ensures at b))
 
 pub returns-clause-all : goal.returns-clause-all
 returns-clause-all c =
