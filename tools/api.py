@@ -14,7 +14,7 @@ from made import write_or_check
 
 TOP = pathlib.Path(__file__).resolve().parent.parent
 PAGE = TOP / "docs/API.md"
-USERS = ["dns_rdata", "dns_rdata_zone", "dns_rdata_laws"]
+USERS = ["dns_rdata", "dns_message", "dns_rdata_zone", "dns_rdata_laws"]
 ITEM = re.compile(r"^( *)pub (?:const |unsafe |extern \"C\" )*(struct|enum|trait|fn|const|static|type|macro) (\w+)")
 IMPL = re.compile(r"^impl(?:<[^{]*?>)? (?:(?P<trait>[\w:]+)(?:<.*?>)? for )?&?(?:'\w+ )?(?P<type>\w+)")
 

@@ -110,6 +110,35 @@ impl<'a> RDataRef<'a> {
         }
     }
 
+    /// The same by a decoder without an allocator: checks that the next `length` octets are the RDATA of a record of this type.
+    /// The decoder is then at their end. Allocates nothing.
+    ///
+    /// # Errors
+    ///
+    /// Those of [`read`](RDataRef::read), and the decoder is where that leaves it.
+    pub fn read_in(
+        walk: &mut Walk<'a>,
+        record_type: RecordType,
+        length: Restrict<u16>,
+    ) -> Result<RDataRef<'a>, DecodeError>
+        ensures found { IfOk result (IsViewOf walk.old.message walk.old.index length record_type) }
+        ensures after { OnOk result (walk.new.index ≡ walk.old.index + length) }
+        ensures refused { IfErr result (λ e. NoValue walk.old.message walk.old.index length record_type) }
+        ensures why { IfErr result (IsReadError record_type length walk.old walk.new) }
+        ensures allocates_nothing { IfErr result (λ e. e ≢ DecodeError.Memory) }
+        ensures behind { StaysBehind walk.old walk.new }
+    {
+        // For the proof: brings in that the offset is inside the message.
+        let _start = walk.index();
+        let Some(parts) = parts_of_type(record_type) else {
+            return Err(DecodeError::UnknownRecordTypeValue(record_type.into()));
+        };
+        match RowView::read(walk, parts, length) {
+            Ok(view) => Ok(RDataRef { view, record_type }),
+            Err(e) => Err(e),
+        }
+    }
+
     /// The record's own result for RDATA of this type, before its octets are counted: that of
     /// [`RData::own_result`], but never [`Memory`](DecodeError::Memory). Allocates nothing.
     ///

@@ -1,0 +1,9 @@
+pub mod NumberFields
+pub mod Headers
+pub mod Fields
+pub mod RefusedRdata
+pub mod Follow
+pub mod Walks
+pub mod Asks
+pub mod Starts
+pub mod Examples

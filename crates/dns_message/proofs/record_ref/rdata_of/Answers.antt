@@ -1,0 +1,14 @@
+use Rattle.dns_message.proofs.record_ref.rdata_of.Goals as goal
+
+pub returns-then-has_no_data-clause-found : goal.returns-then-has_no_data-clause-found
+returns-then-has_no_data-clause-found c = c.has_no_data.ensures.0 c.if-has_no_data.true
+
+pub returns-in-Ok-clause-found : goal.returns-in-Ok-clause-found
+returns-in-Ok-clause-found c =
+    (λ none. let t = c.has_no_data.ensures.1 none in let f = c.if-has_no_data.false in cc, rw c.from.ensures.0 at c.in-Ok.ensures.found)
+
+pub returns-in-Err-clause-refused : goal.returns-in-Err-clause-refused
+returns-in-Err-clause-refused c = record {
+  some = λ none. let t = c.has_no_data.ensures.1 none in let f = c.if-has_no_data.false in cc;
+  refused = rw c.from.ensures.0 at c.in-Err.ensures.refused;
+}

@@ -1,0 +1,39 @@
+use Rattle.std.proofs.Common.{refl, arith, inl, inr}
+use Rattle.dns_message.proofs.records.RecordsIterator.next.Goals as goal
+
+pub returns-then-passed-self-clause-steps : goal.returns-then-passed-self-clause-steps
+returns-then-passed-self-clause-steps c = rw (← c.self.view_is) (record { is = (omega arith, refl) })
+
+pub returns-in-Ok-clause-steps : goal.returns-in-Ok-clause-steps
+returns-in-Ok-clause-steps c =
+    rw (← c.self.view_is) (record {
+      is = inl (record {
+        section = c.position_of-position.result.section;
+        index = c.position_of-position.result.index;
+        place = c.position_of-position.ensures;
+        left = omega arith;
+        is = c.record_at-item.ensures;
+        after = refl;
+      });
+    })
+
+pub returns-in-Ok-clause-goes : goal.returns-in-Ok-clause-goes
+returns-in-Ok-clause-goes c = rw (← c.self.view_is) (record { on = λ _. (tt, tt, omega arith); keeps = tt; rests = λ _. tt })
+
+pub returns-in-Err-clause-steps : goal.returns-in-Err-clause-steps
+returns-in-Err-clause-steps c =
+    rw (← c.self.view_is) (record {
+      is = inr (record {
+        section = c.position_of-position.result.section;
+        index = c.position_of-position.result.index;
+        place = c.position_of-position.ensures;
+        error = _;
+        given = refl;
+        left = omega arith;
+        damaged = record { section = refl; index = refl; offset = refl; none = c.in-Err.ensures.none; fault = c.in-Err.ensures.fault };
+        after = refl;
+      });
+    })
+
+pub returns-in-Err-clause-goes : goal.returns-in-Err-clause-goes
+returns-in-Err-clause-goes c = rw (← c.self.view_is) (record { on = λ _. (tt, tt, omega arith); keeps = tt; rests = λ _. tt })

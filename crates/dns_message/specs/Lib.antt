@@ -1,0 +1,12 @@
+pub mod Entries
+pub mod Headers
+pub mod Questions
+pub mod Records
+pub mod Readings
+pub mod State
+pub mod Asks
+pub mod Items
+pub mod Walks
+pub mod Starts
+pub mod OptRecords
+pub mod Examples

@@ -1,0 +1,153 @@
+//! Records, one after the other.
+
+ghost use Rattle.std.specs.Prelude.{◌≡◌, ◌+◌, ◌-◌, ◌≤◌, ◌^◌, ◌<◌, length, drop, IfOk, IfErr, MatchOption};
+ghost use Rattle.std.specs.Iterator.{at_most};
+ghost use Rattle.dns_message.specs.{Headers.record_count, Starts.FoundBetween, Starts.Breaks, Starts.BreaksFound, Starts.BeginsAt};
+
+use crate::error::RecordError;
+use crate::header::Header;
+use crate::question::skip_questions;
+use crate::reading::read_record;
+use crate::record_ref::{RecordRef, record_at};
+use crate::sections::{position_of, records_in};
+use std::marker::Model;
+
+/// Records of a message, one after the other. Allocates nothing.
+///
+/// An item is a record, or why its RDATA is rejected; the walk goes on after both, since RDLENGTH says where the record ends.
+/// A record whose owner, fixed fields or RDLENGTH are damaged gives one error, and it is the last item. There are at most as
+/// many items as the counts of the header say.
+///
+/// [`MessageRef`](crate::MessageRef) makes it, for all records or those of a section.
+#[derive(Drop)]
+pub struct Records<'a> {
+    message: &'a [u8],
+    header: Header,
+    offset: usize,
+    passed: usize,
+    until: usize,
+}
+
+impl<'a> Model for Records<'a> {
+    ghost use Rattle.std.specs.Prelude.{◌≤◌, length};
+    ghost use Rattle.dns_message.specs.{State.Walking, Headers.record_count};
+
+    ghost Value = { Walking };
+
+    ghost view = { λ s. record { message = s.message.now; header = s.header; offset = s.offset; passed = s.passed; until = s.until } };
+
+    ghost invariant = { λ s. (s.offset ≤ length s.message.now) × (s.until ≤ record_count s.header) };
+}
+
+impl<'a> Records<'a> {
+    /// The octets after the last record of the message, or `None` if the walk has not come there: records are left, in its own
+    /// section or a later one, or one was damaged. Allocates nothing.
+    pub fn trailing(&self) -> Option<&'a [u8]>
+        ensures { MatchOption result (self.now.passed < record_count self.now.header)
+            (λ s. (record_count self.now.header ≤ self.now.passed) × (s.now ≡ drop self.now.offset self.now.message)) }
+    {
+        let count = records_in(&self.header);
+        if self.passed < count {
+            return None;
+        }
+        Some(&self.message[self.offset..])
+    }
+}
+
+impl<'a> Iterator for Records<'a> {
+    type Item = Result<RecordRef<'a>, RecordError>;
+
+    ghost use Rattle.dns_message.specs.Walks.{NextRecord};
+
+    ghost next_gives = { NextRecord };
+
+    ghost remaining = { λ s. at_most (s.until - s.passed) };
+
+    fn next(&mut self) -> Option<Result<RecordRef<'a>, RecordError>> {
+        let passed = self.passed;
+        if passed >= self.until {
+            return None;
+        }
+        let message = self.message;
+        let offset = self.offset;
+        let position = position_of(&self.header, passed);
+        match read_record(message, offset) {
+            Ok(fixed) => {
+                let item = record_at(message, position, offset, fixed);
+                self.offset = fixed.end;
+                self.passed = passed + 1;
+                Some(item)
+            }
+            Err(fault) => {
+                self.until = passed;
+                Some(Err(RecordError {
+                    section: position.section,
+                    index: position.index,
+                    offset,
+                    fault,
+                }))
+            }
+        }
+    }
+}
+
+// Goes over so many records from an offset on, whatever their RDATA is, and returns the offset where they end.
+fn skip_records(
+    message: &[u8],
+    header: &Header,
+    start: usize,
+    count: usize,
+) -> Result<usize, RecordError>
+    requires inside { start ≤ length message.now }
+    requires few { count ≤ record_count header.now }
+    ensures found { IfOk result (FoundBetween message.now start count) }
+    ensures inside { IfOk result (λ p. p ≤ length message.now) }
+    ensures damaged { IfErr result (BreaksFound message.now header.now start count) }
+{
+    let mut offset = start;
+    for passed in 0..count {
+        let fixed = match read_record(message, offset) {
+            Ok(fixed) => fixed,
+            Err(fault) => {
+                let position = position_of(header, passed);
+                return Err(RecordError {
+                    section: position.section,
+                    index: position.index,
+                    offset,
+                    fault,
+                });
+            }
+        };
+        offset = fixed.end;
+    }
+    Ok(offset)
+}
+
+// A walk over records, of which so many are passed when it begins, and so many when it ends.
+pub(crate) fn records_between<'a>(
+    message: &'a [u8],
+    header: Header,
+    from: usize,
+    until: usize,
+) -> Result<Records<'a>, RecordError>
+    requires long { 12 ≤ length message.now }
+    requires order { from ≤ until }
+    requires few { until ≤ record_count header }
+    ensures begins { IfOk result (BeginsAt message.now header from until) }
+    ensures damaged { IfErr result (Breaks message.now header from) }
+{
+    let first = match skip_questions(message, header.question_count as usize) {
+        Ok(first) => first,
+        Err(error) => return Err(error),
+    };
+    match skip_records(message, &header, first, from) {
+        Ok(offset) => Ok(Records {
+            message,
+            header,
+            offset,
+            passed: from,
+            until,
+        }),
+        Err(error) => Err(error),
+    }
+}

@@ -1,0 +1,28 @@
+use Rattle.std.proofs.Common.{◌≢◌, ◌∙◌, ap, refl}
+use Rattle.dns_types.specs.declared.error.DecodeError.TheVariants as decode
+use Rattle.dns_view.specs.Rows.{is_row}
+use Rattle.dns_rdata.specs.ReadErrors.{IsReadError}
+use Rattle.dns_rdata.proofs.Views.{rows_checked, view_found, view_none, view_why}
+use Rattle.dns_rdata.proofs.view.RDataRef.read_in.Goals as goal
+
+pub read-requires : goal.read-requires
+read-requires c = record { row = ap is_row c.in-Some.ensures.some ∙ rows_checked c.args.record_type }
+
+pub returns-in-Ok-clause-found : goal.returns-in-Ok-clause-found
+returns-in-Ok-clause-found c = view_found c.args.record_type c.args.length c.args.walk.now c.args.walk.now c.in-Some.parts.now c.in-Ok.view refl
+    c.in-Some.ensures.some c.in-Some.ensures.read c.in-Ok.ensures.found
+
+pub returns-in-Err-clause-refused : goal.returns-in-Err-clause-refused
+returns-in-Err-clause-refused c =
+    view_none c.args.record_type c.args.length c.args.walk.now c.args.walk.now c.in-Some.parts.now refl c.in-Some.ensures.some c.in-Err.ensures.refused
+
+-- the error of the row is that of the type
+why : (c : goal.In-Err) → IsReadError c.args.record_type c.args.length c.args.walk.now c.read.new.walk c.in-Err.e × (c.in-Err.e ≢ decode.Memory)
+why c = view_why c.args.record_type c.args.length c.args.walk.now c.args.walk.now c.read.new.walk c.read.new.walk c.in-Err.e c.in-Some.parts.now refl
+    c.in-Some.ensures.some c.in-Some.ensures.read c.index-start.ensures.inside refl c.in-Err.ensures.why
+
+pub returns-in-Err-clause-why : goal.returns-in-Err-clause-why
+returns-in-Err-clause-why c = (why c).0
+
+pub returns-in-Err-clause-allocates_nothing : goal.returns-in-Err-clause-allocates_nothing
+returns-in-Err-clause-allocates_nothing c = (why c).1
