@@ -1,11 +1,7 @@
 pub mod Whole
 pub mod ViewCalls
 pub mod Readings
-pub mod NameWalks
-pub mod TlvWalks
-pub mod Walking
-pub mod PartWalks
-pub mod PartCursor
-pub mod NamesStand
+pub mod Fronts
+pub mod PartSteps
 pub mod PartTies
 pub mod ZoneReads

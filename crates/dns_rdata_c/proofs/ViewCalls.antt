@@ -1,5 +1,5 @@
 -- What the calls give of RDATA that is looked at in the message.
-use Rattle.std.proofs.Common.{◌≡◌, ◌≢◌, ℕ, ◌<◌, ◌≤◌, ◌⊎◌, inl, inr, pos, Bool, true, false, List, ◌++◌, length, drop, Some, None, refl, sym, ap, ◌∙◌, arith, true≢false, subst}
+use Rattle.std.proofs.Common.{◌≡◌, ℕ, ◌<◌, ◌≤◌, inl, inr, pos, Bool, true, false, List, ◌++◌, length, drop, Some, None, refl, sym, ap, ◌∙◌, arith, true≢false, subst}
 use Rattle.std.specs.{declared.cmp.Ordering.Ordering}
 use Rattle.dns_types.specs.{declared.record_type.RecordType.RecordType, declared.error.DecodeError.DecodeError}
 use Rattle.dns_names_wire.specs.State.{Reading}
@@ -9,8 +9,8 @@ use Rattle.dns_view.proofs.Puts.{put_fits}
 use Rattle.dns_rdata.specs.{declared.record_data.RData.RData, declared.view.RDataRef.RDataRef, Data.Fills, Data.NoValue, Data.fields_of, Data.data_octets, Equal.equal, ReadErrors.IsReadError}
 use Rattle.dns_rdata.specs.{Views.IsViewOf, Views.ComparesAs}
 use Rattle.dns_rdata.proofs.{DataLaws.tells_apart, OrderReads.orders_read}
-use Rattle.dns_rdata_c.specs.{Reading.HasData, Reading.IsRejected, Status.decode_status, Buffers.IsPut, Buffers.IsTooMany, Buffers.Puts, Names.HasName}
-use Rattle.dns_rdata_c.specs.Calls.{HasOrder, HasEquality, TellsSame, order_number}
+use Rattle.dns_rdata_c.specs.{Reading.HasData, Reading.IsRejected, Status.decode_status, Buffers.IsPut, Buffers.IsTooMany, Names.HasName}
+use Rattle.dns_rdata_c.specs.Calls.{HasOrder, HasEquality, order_number}
 
 -- a view is of a value
 pub has_data : {m : List ℕ} {p n : ℕ} {t : RecordType} {r : RDataRef} (P : RData → Type 0) → IsViewOf m p n t r → ((v : RData) → Fills m p n t v → P v)
@@ -48,29 +48,19 @@ no_order a b h = h a.filled.value b.filled.value a.filled.fills b.filled.fills r
 
 -- ---- whether two are equal
 
-tells : (same : Bool) (v w : RData) {t : RecordType} {m l : List ℕ} {p n q k : ℕ} → Fills m p n t v → Fills l q k t w → same ≡ equal v w
-    → (same ≡ true → TellsSame (data_octets v) (data_octets w) (pos 1)) × (same ≡ false → TellsSame (data_octets v) (data_octets w) (pos 0))
-tells same v w {t} {m} {l} {p} {n} {q} {k} f g is =
+pub has_equality : {m l : List ℕ} {p n q k : ℕ} {t : RecordType} {r s : RDataRef} {same : Bool} → IsViewOf m p n t r → IsViewOf l q k t s
+    → ((v w : RData) → Fills m p n t v → Fills l q k t w → same ≡ equal v w)
+    → (same ≡ true → HasEquality t m p n l q k (pos 1)) × (same ≡ false → HasEquality t m p n l q k (pos 0))
+has_equality {m} {l} {p} {n} {q} {k} {t} {same = same} a b h =
+    let v = a.filled.value in
+    let w = b.filled.value in
+    let f = a.filled.fills in
+    let g = b.filled.fills in
     let d = tells_apart v w t m p n l q k f g in
-    (λ e. inl (refl, d.0 (sym is ∙ e)), λ e. inr (refl, λ h. absurd (true≢false (sym (d.1 h) ∙ sym is ∙ e))))
-
-pub are_equal : {m l : List ℕ} {p n q k : ℕ} {t : RecordType} {r s : RDataRef} {same : Bool} → IsViewOf m p n t r → IsViewOf l q k t s
-    → ((v w : RData) → Fills m p n t v → Fills l q k t w → same ≡ equal v w) → same ≡ true → HasEquality t m p n l q k (pos 1)
-are_equal {same = same} a b h e =
-    let v = a.filled.value in
-    let w = b.filled.value in
-    let f = a.filled.fills in
-    let g = b.filled.fills in
-    record { value = v; other = w; fills = f; other_fills = g; tells = (tells same v w f g (h v w f g)).0 e }
-
-pub are_unequal : {m l : List ℕ} {p n q k : ℕ} {t : RecordType} {r s : RDataRef} {same : Bool} → IsViewOf m p n t r → IsViewOf l q k t s
-    → ((v w : RData) → Fills m p n t v → Fills l q k t w → same ≡ equal v w) → same ≡ false → HasEquality t m p n l q k (pos 0)
-are_unequal {same = same} a b h e =
-    let v = a.filled.value in
-    let w = b.filled.value in
-    let f = a.filled.fills in
-    let g = b.filled.fills in
-    record { value = v; other = w; fills = f; other_fills = g; tells = (tells same v w f g (h v w f g)).1 e }
+    let is = h v w f g in (
+      λ e. record { value = v; other = w; fills = f; other_fills = g; tells = inl (refl, d.0 (sym is ∙ e)) },
+      λ e. record { value = v; other = w; fills = f; other_fills = g; tells = inr (refl, λ o. true≢false (sym (d.1 o) ∙ sym is ∙ e)) },
+    )
 
 -- ---- names
 
@@ -106,35 +96,3 @@ view_rejected {m} {p} {n} {k} {t} {u} e {s} {old} new is same kind told none why
             (subst (λ (x : ℕ). IsReadError u x at new e) same (subst (λ (x : Reading). IsReadError u k x new e) is why)),
       );
     }
-
--- ---- uncompressed octets
-
-pub puts_none : {octets old : List ℕ} {before count answer len : ℕ} → len ≡ length octets → answer ≢ 0
-    → (answer ≡ 2 → (length old < len) × (len ≤ 65535) × (count ≡ len)) → (answer ≡ 3 → 65535 < len) → (answer ≡ 0) ⊎ (answer ≡ 2) ⊎ (answer ≡ 3)
-    → (answer ≢ 0 → answer ≢ 2 → count ≡ before) → Puts octets old old before count answer
-puts_none {octets} {old} {before} {count} {answer} {len} e ne full long status untold = record {
-  ok = λ z. absurd (ne z);
-  buffer = λ z. too_many e (full z).0 (full z).2;
-  too_long = λ z. omega (arith, e, long z);
-  short = λ n. few n status;
-  status = status;
-  kept = λ z. refl;
-  untold = untold;
-}
-  where
-    few : answer ≢ 3 → (answer ≡ 0) ⊎ (answer ≡ 2) ⊎ (answer ≡ 3) → length octets ≤ 65535
-    few n (inl z) = absurd (ne z)
-    few n (inr (inl z)) = omega (arith, e, (full z).1)
-    few n (inr (inr z)) = absurd (n z)
-
-pub puts_all : {octets old new : List ℕ} {before count len end : ℕ} → len ≡ length octets → Put old new 0 end octets
-    → (len ≤ length old) × (len ≤ 65535) × (count ≡ len) → Puts octets old new before count 0
-puts_all {octets} {old} {new} {before} {count} {len} {end} e p h = record {
-  ok = λ z. is_put p (omega (arith, e, p.ends, h.0)) (omega (arith, e, p.ends, h.2));
-  buffer = λ z. absurd (omega (arith, z));
-  too_long = λ z. absurd (omega (arith, z));
-  short = λ z. omega (arith, e, h.1);
-  status = inl refl;
-  kept = λ z. absurd (z refl);
-  untold = λ z w. absurd (z refl);
-}

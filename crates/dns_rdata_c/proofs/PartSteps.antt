@@ -1,0 +1,226 @@
+-- Parts that follow each other.
+use Rattle.std.proofs.Common.{◌≡◌, ◌∙◌, ◌↔◌, ℕ, ◌+◌, ◌-◌, ◌*◌, ◌/◌, ◌%◌, ◌<◌, ◌≤◌, ◌^◌, zero, suc, inl, inr, Option, Some, None}
+use Rattle.std.proofs.Common.{List, [], ◌∷◌, ◌++◌, length, take, drop, get_or, refl, sym, ap, subst, arith, append_assoc, length-append, length-take-le}
+use Rattle.std.specs.Int.{bytes_high_first}
+use Rattle.std.proofs.lemmas.{Grind.flat_map-append, List.append-nil, List.drop_all, List.drop-drop, List.length-drop, List.take-append-drop, List.get_or-drop}
+use Rattle.dns_fields.specs.Tlvs.{Numbered, tlv, tlvs, IsTlv, AreTlvs, IsTruncated}
+use Rattle.dns_fields.proofs.Tlvs.{first_tlv, no_tlv, tlv_before, length-tlv, truncated_tlv}
+use Rattle.dns_view.specs.TlvList.{NoTlv}
+use Rattle.dns_view.proofs.{Splits.all_append, Splits.all_behind, TlvSteps.no_octets}
+use Rattle.dns_types.specs.declared.record_type.RecordType.{RecordType}
+use Rattle.dns_types.specs.declared.record_type.RecordType.TheVariants as types
+use Rattle.dns_rdata_c.specs.{Parts.after_front, Parts.AreParts, Parts.AreCutOptions, Parts.AreNoParts, Parts.AreFewParts}
+use Rattle.dns_rdata_c.specs.Parts.{IsPartOf, AreLeft, IsPartAt, AreBetween}
+
+-- ---- octets begin with parts
+
+abbrev two : ℕ → ℕ → ℕ
+two a b = a * 256 + b
+
+octets_of : (a b : ℕ) → a < 256 → b < 256 → bytes_high_first 2 (two a b) ≡ a ∷ b ∷ []
+octets_of a b high low =
+    let n = two a b in
+    let first : n / 256 % 256 ≡ a = omega (arith, high, low) in
+    let second : n % 256 ≡ b = omega (arith, high, low) in
+    ap (λ (x : ℕ). x ∷ n % 256 ∷ []) first ∙ ap (λ (x : ℕ). a ∷ x ∷ []) second
+
+-- four octets are a number and a length
+heads : (a b c d : ℕ) (s : List ℕ) → a < 256 → b < 256 → c < 256 → d < 256
+    → a ∷ (b ∷ (c ∷ (d ∷ s))) ≡ bytes_high_first 2 (two a b) ++ (bytes_high_first 2 (two c d) ++ s)
+heads a b c d s ha hb hc hd =
+    ap (λ (o : List ℕ). a ∷ (b ∷ (o ++ s))) (sym (octets_of c d hc hd))
+    ∙ ap (λ (o : List ℕ). o ++ (bytes_high_first 2 (two c d) ++ s)) (sym (octets_of a b ha hb))
+
+-- the length that they say
+says : (a b c d k l : ℕ) (s x : List ℕ) → l < 256 ^ 2 → a ∷ (b ∷ (c ∷ (d ∷ s))) ≡ bytes_high_first 2 k ++ (bytes_high_first 2 l ++ x)
+    → (two c d ≡ l) × (s ≡ x)
+says a b c d k l s x h e =
+    let whole : a ∷ (b ∷ (c ∷ (d ∷ s))) ≡ k / 256 % 256 ∷ (k % 256 ∷ (l / 256 % 256 ∷ (l % 256 ∷ x))) = e in
+    let third : c ≡ l / 256 % 256 = cc in
+    let fourth : d ≡ l % 256 = cc in
+    let rest : s ≡ x = cc in
+    (omega (arith, h, third, fourth), rest)
+
+abbrev code_in : List ℕ → ℕ
+code_in s = two (get_or s 0 0) (get_or s 1 0)
+
+abbrev length_in : List ℕ → ℕ
+length_in s = two (get_or s 2 0) (get_or s 3 0)
+
+-- ---- the part at an offset
+
+front_part : (s : List ℕ) → ((i : ℕ) → get_or s i 0 < 256) → 4 ≤ length s → length_in s ≤ length s - 4
+    → (s ≡ tlv (code_in s, take (length_in s) (drop 4 s)) ++ drop (length_in s) (drop 4 s)) × IsTlv (code_in s, take (length_in s) (drop 4 s))
+    × (length_in s ≡ length (take (length_in s) (drop 4 s)))
+front_part (a ∷ (b ∷ (c ∷ (d ∷ s)))) small few h =
+    let ha : a < 256 = small 0 in
+    let hb : b < 256 = small 1 in
+    let hc : c < 256 = small 2 in
+    let hd : d < 256 = small 3 in
+    let l = two c d in
+    let body = take l s in
+    let size : length body ≡ l = length-take-le l s (omega (arith, h)) in (
+      heads a b c d s ha hb hc hd
+          ∙ ap (λ (o : List ℕ). bytes_high_first 2 (two a b) ++ (bytes_high_first 2 l ++ o)) (sym (take-append-drop l s))
+          ∙ ap (λ (k : ℕ). bytes_high_first 2 (two a b) ++ (bytes_high_first 2 k ++ (body ++ drop l s))) (sym size)
+          ∙ sym (tlv_before (two a b, body) (drop l s)),
+      (omega (arith, ha, hb), omega (arith, hc, hd, size)),
+      sym size,
+    )
+front_part s small few h = absurd (omega (arith, few))
+
+pub part_found : (s : List ℕ) (at : ℕ) → ((i : ℕ) → get_or s i 0 < 256) → 4 ≤ length (drop at s) → length_in (drop at s) ≤ length (drop at s) - 4
+    → IsPartAt s at (code_in (drop at s)) (at + 4) (length_in (drop at s))
+part_found s at small few h =
+    let l = length_in (drop at s) in
+    let w = front_part (drop at s) (λ i. subst (λ (k : ℕ). k < 256) (sym (get_or-drop at s i 0)) (small (at + i))) few h in
+    let behind : drop l (drop 4 (drop at s)) ≡ drop (at + 4 + l) s = ap (drop l) (drop-drop 4 at s) ∙ drop-drop l (at + 4) s in
+    let body = take l (drop 4 (drop at s)) in
+    record { octets = body; fits = w.1; is = w.0 ∙ ap (λ (o : List ℕ). tlv (code_in (drop at s), body) ++ o) behind; begins = refl; told = w.2 }
+
+pub no_part : (s : List ℕ) → (4 ≤ length s → length s - 4 < length_in s) → NoTlv s
+no_part (a ∷ (b ∷ (c ∷ (d ∷ s)))) h = record {
+  none = λ x rest f e.
+      let t = says a b c d x.0 (length x.1) s (x.1 ++ rest) f.1 (e ∙ tlv_before x rest) in
+      omega (arith, h (omega arith), t.0, ap length t.1, length-append x.1 rest);
+}
+no_part s h = record { none = λ x rest f e. omega (arith, ap length e, length-append (tlv x) rest, length-tlv x) }
+
+pub part_room : {s : List ℕ} {at number begin count : ℕ} → IsPartAt s at number begin count → (begin + count ≤ length s) × (at < begin + count)
+part_room {s} {at} {number} {begin} {count} w =
+    let x : Numbered (List ℕ) = (number, w.octets) in
+    let behind = drop (begin + count) s in (
+      omega (arith, ap length w.is, length-append (tlv x) behind, length-tlv x, length-drop at s, length-drop (begin + count) s, w.begins, w.told),
+      omega (arith, w.begins),
+    )
+
+-- ---- parts one after the other
+
+pub parts_more : {s : List ℕ} {begin end number from count : ℕ} → AreBetween s begin end → IsPartAt s end number from count → AreBetween s begin (from + count)
+parts_more {s} {begin} {end} {number} {from} {count} p w =
+    let x : Numbered (List ℕ) = (number, w.octets) in
+    let rest = drop (from + count) s in
+    let more : tlvs (p.read ++ x ∷ []) ≡ tlvs p.read ++ tlv x =
+    flat_map-append tlv p.read (x ∷ []) ∙ ap (λ (o : List ℕ). tlvs p.read ++ o) (append-nil (tlv x)) in
+    record {
+      read = p.read ++ x ∷ [];
+      are = all_append IsTlv p.read (x ∷ []) p.are (w.fits, tt);
+      is = p.is ∙ ap (λ (o : List ℕ). tlvs p.read ++ o) w.is ∙ sym (append_assoc (tlvs p.read) (tlv x) rest) ∙ ap (λ (o : List ℕ). o ++ rest) (sym more);
+      inside = (part_room w).0;
+    }
+
+-- the part at the offset, and those after it
+pub step : {s : List ℕ} {p : ℕ} {t : RecordType} {i at number begin count : ℕ} → AreLeft s p t i at → IsPartAt s at number begin count
+    → IsPartOf s p t i number begin count × AreLeft s p t (i + 1) (begin + count)
+step {s} {p} {t} {i} {at} {number} {begin} {count} a w = of a.rest a.all a.here where
+  of : (rest : List (Numbered (List ℕ))) → AreParts t (drop p s) (a.before ++ rest) → drop at s ≡ tlvs rest
+      → IsPartOf s p t i number begin count × AreLeft s p t (i + 1) (begin + count)
+  of [] all here = absurd (no_tlv (number, w.octets) (drop (begin + count) s) (sym here ∙ w.is))
+  of (y ∷ ys) all here =
+      let x : Numbered (List ℕ) = (number, w.octets) in
+      let both = first_tlv y x (tlvs ys) (drop (begin + count) s) (all_behind IsTlv a.before (y ∷ ys) all.are).0 w.fits (sym here ∙ w.is) in
+      let parts : AreParts t (drop p s) (a.before ++ x ∷ ys) = subst (λ (z : Numbered (List ℕ)). AreParts t (drop p s) (a.before ++ z ∷ ys)) both.0 all in (
+        record {
+          before = a.before;
+          octets = w.octets;
+          after = ys;
+          all = parts;
+          many = a.many;
+          from = at;
+          here = w.is ∙ ap (λ (o : List ℕ). tlv x ++ o) (sym both.1);
+          begins = w.begins;
+          told = w.told;
+        },
+        record {
+          before = a.before ++ x ∷ [];
+          rest = ys;
+          all = subst (λ (l : List (Numbered (List ℕ))). AreParts t (drop p s) l) (sym (append_assoc a.before (x ∷ []) ys)) parts;
+          many = omega (arith, a.many, length-append a.before (x ∷ []));
+          here = sym both.1;
+        },
+      )
+
+pub none_left : {s : List ℕ} {p : ℕ} {t : RecordType} {i at : ℕ} (j : ℕ) → AreLeft s p t i at → NoTlv (drop at s) → i ≤ j → AreFewParts t (drop p s) j
+none_left {s} {p} {t} {i} {at} j a none h = of a.rest a.all a.here where
+  of : (rest : List (Numbered (List ℕ))) → AreParts t (drop p s) (a.before ++ rest) → drop at s ≡ tlvs rest → AreFewParts t (drop p s) j
+  of [] all here = record { parts = a.before ++ []; all = all; few = omega (arith, h, a.many, length-append a.before []) }
+  of (y ∷ ys) all here = absurd (none.none y (tlvs ys) (all_behind IsTlv a.before (y ∷ ys) all.are).0 here)
+
+-- ---- whether parts fill the octets
+
+same_split : (xs ys : List (Numbered (List ℕ))) (s t : List ℕ) → AreTlvs xs → AreTlvs ys → NoTlv s → NoTlv t → tlvs xs ++ s ≡ tlvs ys ++ t
+    → (xs ≡ ys) × (s ≡ t)
+same_split [] [] s t f g h k e = (refl, e)
+same_split [] (y ∷ ys) s t f g h k e = absurd (h.none y (tlvs ys ++ t) g.0 (e ∙ append_assoc (tlv y) (tlvs ys) t))
+same_split (x ∷ xs) [] s t f g h k e = absurd (k.none x (tlvs xs ++ s) f.0 (sym e ∙ append_assoc (tlv x) (tlvs xs) s))
+same_split (x ∷ xs) (y ∷ ys) s t f g h k e =
+    let p = first_tlv x y (tlvs xs ++ s) (tlvs ys ++ t) f.0 g.0 (sym (append_assoc (tlv x) (tlvs xs) s) ∙ e ∙ append_assoc (tlv y) (tlvs ys) t) in
+    let r = same_split xs ys s t f.1 g.1 h k p.1 in
+    (ap (λ (z : Numbered (List ℕ)). z ∷ xs) p.0 ∙ ap (λ (zs : List (Numbered (List ℕ))). y ∷ zs) r.0, r.1)
+
+pub same_some : (a b : List ℕ) → ◌≡◌ {A = Option (List ℕ)} (Some a) (Some b) → a ≡ b
+same_some a b e = cc
+
+-- nothing precedes options
+pub opt_whole : (t : RecordType) (s r : List ℕ) → t ≡ types.OPT → after_front t s ≡ Some r → s ≡ r
+opt_whole t s r e f = same_some s r (subst (λ (u : RecordType). after_front u s ≡ Some r) e f)
+
+pub parts_fill : {t : RecordType} {s : List ℕ} {p first end : ℕ} → after_front t (drop p s) ≡ Some (drop first s) → AreBetween s first end → length s ≤ end
+    → AreLeft s p t 0 first
+parts_fill {t} {s} {p} {first} {end} front w all =
+    let here : drop first s ≡ tlvs w.read = w.is ∙ ap (λ (o : List ℕ). tlvs w.read ++ o) (drop_all end s all) ∙ append-nil (tlvs w.read) in
+    record { before = []; rest = w.read; all = record { is = front ∙ ap (λ (o : List ℕ). Some o) here; are = w.are }; many = refl; here = here }
+
+pub cut_options : (t : RecordType) (s : List ℕ) (p first end : ℕ) → after_front t (drop p s) ≡ Some (drop first s) → AreBetween s first end → t ≡ types.OPT
+    → IsTruncated (length (drop p s)) (drop end s) → AreCutOptions t (drop p s)
+cut_options t s p first end front w opt cut =
+    record { is_opt = opt; parts = w.read; stub = drop end s; is = opt_whole t (drop p s) (drop first s) opt front ∙ w.is; are = w.are; cut = cut }
+
+pub damaged : (t : RecordType) (s : List ℕ) (p first end : ℕ) → after_front t (drop p s) ≡ Some (drop first s) → AreBetween s first end → NoTlv (drop end s)
+    → end < length s
+    → (t ≡ types.OPT → ¬ (IsTruncated (length (drop p s)) (drop end s))) → AreNoParts t (drop p s)
+damaged t s p first end front w last short uncut = record {
+  none = λ parts a.
+      let all : drop first s ≡ tlvs parts = same_some (drop first s) (tlvs parts) (sym front ∙ a.is) in
+      let both = same_split w.read parts (drop end s) [] w.are a.are last no_octets (sym w.is ∙ all ∙ sym (append-nil (tlvs parts))) in
+      omega (arith, short, ap length both.1, length-drop end s);
+  uncut = λ c.
+      let all = opt_whole t (drop p s) (drop first s) c.is_opt front in
+      let none : NoTlv c.stub = record { none = λ x rest f e. truncated_tlv (length (drop p s)) x rest f (subst (λ (o : List ℕ). IsTruncated (length (drop p s)) o) e c.cut) } in
+      let both = same_split w.read c.parts (drop end s) c.stub w.are c.are last none (sym w.is ∙ sym all ∙ c.is) in
+      uncut c.is_opt (subst (λ (o : List ℕ). IsTruncated (length (drop p s)) o) (sym both.1) c.cut);
+}
+
+-- ---- an option that is truncated
+
+pub code_alone : (s : List ℕ) (n : ℕ) → ((i : ℕ) → get_or s i 0 < 256) → length s ≡ 2 → IsTruncated n s
+code_alone (a ∷ (b ∷ [])) n small h =
+    let ha : a < 256 = small 0 in
+    let hb : b < 256 = small 1 in
+    (two a b, omega (arith, ha, hb), inl (sym (octets_of a b ha hb)))
+code_alone s n small h = absurd (omega (arith, h))
+
+pub cut_length : (s : List ℕ) (n : ℕ) → IsTruncated n s → length s < 4 → length s ≡ 2
+cut_length s n (code, h, inl e) few = ap length e
+cut_length s n (code, h, inr r) few = let long : length s ≡ suc (suc (suc (suc (length r.1)))) = ap length r.5 in absurd (omega (arith, few, long))
+
+cut_says : (a b c d : ℕ) (s : List ℕ) (n : ℕ) → IsTruncated n (a ∷ (b ∷ (c ∷ (d ∷ s)))) → (two c d ≤ n) × (length s < two c d)
+cut_says a b c d s n (code, h, inl e) = let long : suc (suc (suc (suc (length s)))) ≡ 2 = ap length e in absurd (omega (arith, long))
+cut_says a b c d s n (code, h, inr r) =
+    let t = says a b c d code r.0 s r.1 r.2 r.5 in
+    (omega (arith, t.0, r.3), omega (arith, t.0, ap length t.1, r.4))
+
+pub cut_body : (s : List ℕ) (n : ℕ) → ((i : ℕ) → get_or s i 0 < 256) → 4 ≤ length s
+    → ((length_in s ≤ n) × (length s - 4 < length_in s)) ↔ IsTruncated n s
+cut_body (a ∷ (b ∷ (c ∷ (d ∷ s)))) n small few =
+    let ha : a < 256 = small 0 in
+    let hb : b < 256 = small 1 in
+    let hc : c < 256 = small 2 in
+    let hd : d < 256 = small 3 in (
+      λ h.
+      let most : two c d ≤ n = h.0 in
+      let long : length s < two c d = omega (arith, h.1) in
+      (two a b, omega (arith, ha, hb), inr (two c d, s, omega (arith, hc, hd), most, long, heads a b c d s ha hb hc hd)),
+      λ cut. let t = cut_says a b c d s n cut in (t.0, omega (arith, t.1)),
+    )
+cut_body s n small few = absurd (omega (arith, few))
