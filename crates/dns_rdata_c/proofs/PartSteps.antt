@@ -10,7 +10,7 @@ use Rattle.dns_view.proofs.{Splits.all_append, Splits.all_behind, TlvSteps.no_oc
 use Rattle.dns_types.specs.declared.record_type.RecordType.{RecordType}
 use Rattle.dns_types.specs.declared.record_type.RecordType.TheVariants as types
 use Rattle.dns_rdata_c.specs.{Parts.after_front, Parts.AreParts, Parts.AreCutOptions, Parts.AreNoParts, Parts.AreFewParts}
-use Rattle.dns_rdata_c.specs.Parts.{IsPartOf, AreLeft, IsPartAt, AreBetween}
+use Rattle.dns_rdata_c.specs.Parts.{AreLeft, IsPartAt, AreBetween}
 
 -- ---- octets begin with parts
 
@@ -109,36 +109,21 @@ parts_more {s} {begin} {end} {number} {from} {count} p w =
       inside = (part_room w).0;
     }
 
--- the part at the offset, and those after it
+-- those that are left after one
 pub step : {s : List ℕ} {p : ℕ} {t : RecordType} {i at number begin count : ℕ} → AreLeft s p t i at → IsPartAt s at number begin count
-    → IsPartOf s p t i number begin count × AreLeft s p t (i + 1) (begin + count)
+    → AreLeft s p t (i + 1) (begin + count)
 step {s} {p} {t} {i} {at} {number} {begin} {count} a w = of a.rest a.all a.here where
-  of : (rest : List (Numbered (List ℕ))) → AreParts t (drop p s) (a.before ++ rest) → drop at s ≡ tlvs rest
-      → IsPartOf s p t i number begin count × AreLeft s p t (i + 1) (begin + count)
+  of : (rest : List (Numbered (List ℕ))) → AreParts t (drop p s) (a.before ++ rest) → drop at s ≡ tlvs rest → AreLeft s p t (i + 1) (begin + count)
   of [] all here = absurd (no_tlv (number, w.octets) (drop (begin + count) s) (sym here ∙ w.is))
   of (y ∷ ys) all here =
-      let x : Numbered (List ℕ) = (number, w.octets) in
-      let both = first_tlv y x (tlvs ys) (drop (begin + count) s) (all_behind IsTlv a.before (y ∷ ys) all.are).0 w.fits (sym here ∙ w.is) in
-      let parts : AreParts t (drop p s) (a.before ++ x ∷ ys) = subst (λ (z : Numbered (List ℕ)). AreParts t (drop p s) (a.before ++ z ∷ ys)) both.0 all in (
-        record {
-          before = a.before;
-          octets = w.octets;
-          after = ys;
-          all = parts;
-          many = a.many;
-          from = at;
-          here = w.is ∙ ap (λ (o : List ℕ). tlv x ++ o) (sym both.1);
-          begins = w.begins;
-          told = w.told;
-        },
-        record {
-          before = a.before ++ x ∷ [];
-          rest = ys;
-          all = subst (λ (l : List (Numbered (List ℕ))). AreParts t (drop p s) l) (sym (append_assoc a.before (x ∷ []) ys)) parts;
-          many = omega (arith, a.many, length-append a.before (x ∷ []));
-          here = sym both.1;
-        },
-      )
+      let first = all_behind IsTlv a.before (y ∷ ys) all.are in
+      record {
+        before = a.before ++ y ∷ [];
+        rest = ys;
+        all = subst (λ (l : List (Numbered (List ℕ))). AreParts t (drop p s) l) (sym (append_assoc a.before (y ∷ []) ys)) all;
+        many = omega (arith, a.many, length-append a.before (y ∷ []));
+        here = sym (first_tlv y (number, w.octets) (tlvs ys) (drop (begin + count) s) first.0 w.fits (sym here ∙ w.is)).1;
+      }
 
 pub none_left : {s : List ℕ} {p : ℕ} {t : RecordType} {i at : ℕ} (j : ℕ) → AreLeft s p t i at → NoTlv (drop at s) → i ≤ j → AreFewParts t (drop p s) j
 none_left {s} {p} {t} {i} {at} j a none h = of a.rest a.all a.here where

@@ -2,11 +2,11 @@
 use Rattle.std.proofs.Common.{◌≡◌, ◌∙◌, ◌⊎◌, ℕ, ◌+◌, ◌-◌, ◌≤◌, suc, false, true≢false, inl, inr, Option, Some, None, List, [], ◌∷◌, ◌++◌, length, take, drop}
 use Rattle.std.proofs.Common.{refl, sym, ap, subst, arith}
 use Rattle.std.specs.Int.{bytes_high_first}
-use Rattle.std.proofs.lemmas.List.{drop-take, length-append, length-drop, length-take}
+use Rattle.std.proofs.lemmas.List.{drop-take, length-take}
 use Rattle.dns_fields.specs.{Fields.Stands, Fields.Value, Fields.Values, declared.Kind.Kind, declared.Kind.TheVariants.Options, declared.Kind.TheVariants.Parameters}
-use Rattle.dns_fields.specs.{Octets.At, Tlvs.Numbered, Tlvs.tlv, Tlvs.tlvs, Tlvs.AllHeld, Tlvs.IsTruncated, Tlvs.OptionHeld, Tlvs.OptionValue}
+use Rattle.dns_fields.specs.{Octets.At, Tlvs.Numbered, Tlvs.tlvs, Tlvs.AllHeld, Tlvs.IsTruncated, Tlvs.OptionHeld, Tlvs.OptionValue}
 use Rattle.dns_fields.specs.Tlvs.{ParameterHeld, ParameterValue}
-use Rattle.dns_fields.proofs.Tlvs.{complete_or_truncated, length-tlv, tlvs_same}
+use Rattle.dns_fields.proofs.Tlvs.{complete_or_truncated, tlvs_same}
 use Rattle.dns_names_wire.proofs.Strings.{at_then}
 use Rattle.dns_view.specs.TlvList.{NoTlv}
 use Rattle.dns_types.specs.declared.record_type.RecordType.{RecordType}
@@ -122,11 +122,11 @@ not_cut t s xs a c = complete_or_truncated (length s) xs c.parts c.stub a.are c.
 
 pub same_part : {m : List ℕ} {p n : ℕ} {t : RecordType} {v : RData} {i number begin count : ℕ} → is_partless t ≡ false → HasPart m p n t i number begin count
     → Fills m p n t v → IsPartIn m p n t v i number begin count
-same_part {m} {p} {n} {t} {v} {i} {number} {begin} {count} h w f =
-    let parts = w.part.before ++ (number, w.part.octets) ∷ w.part.after in
+same_part {m} {p} {n} {t} {v} h w f =
+    let left = w.part.left in
     elim (tied m p n t v h f) [
-      | inl own ↦ record { part = w; hold = subst (HoldValue t v) (same_parts t (region m p n) own.parts parts own.all w.part.all) own.hold }
-      | inr c ↦ absurd (not_cut t (region m p n) parts w.part.all c.0)
+      | inl own ↦ record { part = w; hold = subst (HoldValue t v) (same_parts t (region m p n) own.parts (left.before ++ left.rest) own.all left.all) own.hold }
+      | inr c ↦ absurd (not_cut t (region m p n) (left.before ++ left.rest) left.all c.0)
     ]
 
 pub same_few : (m : List ℕ) (p n : ℕ) (t : RecordType) (v : RData) (i : ℕ) → is_partless t ≡ false → AreFewParts t (region m p n) i ⊎ AreCutOptions t (region m p n)
@@ -157,16 +157,14 @@ no_parts t s h = record {
 
 pub first_before : {m : List ℕ} {p n : ℕ} {t : RecordType} {number begin count : ℕ} (cursor : PartsCursor) → HasPart m p n t 0 number begin count
     → cursor.next ≡ begin - 4 → cursor.end ≡ p + n → IsBefore m p n t 0 cursor
-first_before {m} {p} {n} {t} {number} {begin} {count} cursor h next ends =
+first_before {m} {p} {n} {t} cursor h next ends =
     let w = h.part in
-    let s = take (p + n) m in
-    let x : Numbered (List ℕ) = (number, w.octets) in
-    let from : w.from ≡ cursor.next = omega (arith, next, w.begins) in
-    let here : drop cursor.next s ≡ tlvs (x ∷ w.after) = subst (λ (k : ℕ). drop k s ≡ tlvs (x ∷ w.after)) from w.here in
+    let from : w.from ≡ cursor.next = omega (arith, next, w.here.begins) in
+    let room = part_room w.here in
     record {
       within = h.within;
-      left = record { before = w.before; rest = x ∷ w.after; all = w.all; many = w.many; here = here };
-      inside = omega (arith, ends, ap length here, length-append (tlv x) (tlvs w.after), length-tlv x, length-drop cursor.next s, length-take (p + n) m);
+      left = subst (λ (k : ℕ). AreLeft (take (p + n) m) p t 0 k) from w.left;
+      inside = omega (arith, ends, from, room.0, room.1, length-take (p + n) m);
       ends = ends;
     }
 
@@ -174,11 +172,11 @@ pub next_part : {m : List ℕ} {p n : ℕ} {t : RecordType} {i number begin coun
     → IsPartAt (take cursor.end m) cursor.next number begin count → new.next ≡ begin + count → new.end ≡ cursor.end
     → HasPart m p n t i number begin count × IsBefore m p n t (i + 1) new
 next_part {m} {p} {n} {t} {i} {number} {begin} {count} cursor new b w moved same =
-    let r = step b.left (subst (λ (e : ℕ). IsPartAt (take e m) cursor.next number begin count) b.ends w) in (
-      record { within = b.within; part = r.0 },
+    let here = subst (λ (e : ℕ). IsPartAt (take e m) cursor.next number begin count) b.ends w in (
+      record { within = b.within; part = record { from = cursor.next; left = b.left; here = here } },
       record {
         within = b.within;
-        left = subst (λ (k : ℕ). AreLeft (take (p + n) m) p t (i + 1) k) (sym moved) r.1;
+        left = subst (λ (k : ℕ). AreLeft (take (p + n) m) p t (i + 1) k) (sym moved) (step b.left here);
         inside = omega (arith, moved, same, (part_room w).0, length-take cursor.end m);
         ends = same ∙ b.ends;
       },

@@ -71,19 +71,6 @@ pub record AreFewParts (t : RecordType) (s : List ℕ) (i : ℕ) : Type 0 where
 
 -- ---- of octets that end with the RDATA, which begins at p
 
--- The RDATA is parts, and part number i has this number, and its octets begin at this offset and are so many: from its first octet,
--- the octets are that part and those after it.
-pub record IsPartOf (s : List ℕ) (p : ℕ) (t : RecordType) (i number begin count : ℕ) : Type 0 where
-  pub before : List (Numbered (List ℕ))
-  pub octets : List ℕ
-  pub after : List (Numbered (List ℕ))
-  pub all : AreParts t (drop p s) (before ++ (number, octets) ∷ after)
-  pub many : length before ≡ i
-  pub from : ℕ
-  pub here : drop from s ≡ tlv (number, octets) ++ tlvs after
-  pub begins : begin ≡ from + 4
-  pub told : count ≡ length octets
-
 -- the RDATA is parts, and from this offset on the octets are those from number i on
 pub record AreLeft (s : List ℕ) (p : ℕ) (t : RecordType) (i at : ℕ) : Type 0 where
   pub before : List (Numbered (List ℕ))
@@ -99,6 +86,12 @@ pub record IsPartAt (s : List ℕ) (at number begin count : ℕ) : Type 0 where
   pub is : drop at s ≡ tlv (number, octets) ++ drop (begin + count) s
   pub begins : begin ≡ at + 4
   pub told : count ≡ length octets
+
+-- the RDATA is parts, and part number i has this number, and its octets begin at this offset and are so many
+pub record IsPartOf (s : List ℕ) (p : ℕ) (t : RecordType) (i number begin count : ℕ) : Type 0 where
+  pub from : ℕ
+  pub left : AreLeft s p t i from
+  pub here : IsPartAt s from number begin count
 
 -- from one offset to another there are parts
 pub record AreBetween (s : List ℕ) (begin end : ℕ) : Type 0 where
@@ -145,7 +138,7 @@ HoldValue types.SVCB v parts = AllHeld ParameterHeld parts (parameters_in v)
 HoldValue t v parts = ⊥
 
 -- Part number i of the n octets from p has this number, and its octets begin at this offset of the message and are so many; and the
--- parts hold the options or parameters of the value.
+-- parts hold the options or parameters of the value, each that of its index.
 pub record IsPartIn (m : List ℕ) (p n : ℕ) (t : RecordType) (v : RData) (i number begin count : ℕ) : Type 0 where
   pub part : HasPart m p n t i number begin count
-  pub hold : HoldValue t v (part.part.before ++ (number, part.part.octets) ∷ part.part.after)
+  pub hold : HoldValue t v (part.part.left.before ++ part.part.left.rest)
