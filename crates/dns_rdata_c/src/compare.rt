@@ -1,11 +1,9 @@
 //! The order of record data, and whether it is equal.
 
 ghost use Rattle.std.specs.Prelude.{◌≡◌, ◌≢◌, ◌≤◌, ◌⊎◌, ℕ, List};
-ghost use Rattle.dns_types.specs.RecordTypes.{record_type_of};
-ghost use Rattle.dns_types.specs.declared.record_type.RecordType.{RecordType};
-ghost use Rattle.dns_rdata.specs.{Views.IsViewOf};
-ghost use Rattle.dns_rdata_c.specs.Reading.{IsRejected};
-ghost use Rattle.dns_rdata_c.specs.Calls.{HasOrder, HasEquality, order_number, octets_order};
+ghost use Rattle.dns_types.specs.{RecordTypes.record_type_of, declared.record_type.RecordType.RecordType};
+ghost use Rattle.dns_rdata.specs.Views.{IsViewOf};
+ghost use Rattle.dns_rdata_c.specs.{Reading.IsRejected, Calls.HasOrder, Calls.HasEquality, Calls.order_number, Calls.octets_order};
 
 use crate::reading::view_at;
 use crate::status::{OK, REFUSED};

@@ -1,9 +1,8 @@
 //! The options of OPT and the parameters of SVCB and HTTPS: one by its index, or all one after the other.
 
 ghost use Rattle.std.specs.Prelude.{◌≡◌, ◌≢◌, ◌↔◌, ◌+◌, ◌<◌, ◌≤◌, ◌⊎◌, ℕ, Some, None, length as size, take, drop, IfOk, IfErr, MatchOption, IsTrue};
-ghost use Rattle.dns_types.specs.declared.record_type.RecordType.{RecordType as RecordTypeValue};
+ghost use Rattle.dns_types.specs.{RecordTypes.record_type_of, declared.record_type.RecordType.RecordType as RecordTypeValue};
 ghost use Rattle.dns_types.specs.declared.record_type.RecordType.TheVariants as types;
-ghost use Rattle.dns_types.specs.RecordTypes.{record_type_of};
 ghost use Rattle.dns_fields.specs.Tlvs.{IsTruncated};
 ghost use Rattle.dns_view.specs.TlvList.{NoTlv};
 ghost use Rattle.dns_rdata.specs.Data.{Fills, NoValue};
@@ -269,9 +268,7 @@ pub extern "C" fn dns_rdata_parts_begin(
     ensures emptied { result ≢ OK → (parts.new.next ≡ 0) × (parts.new.end ≡ 0) }
 {
     *parts = PartsCursor { next: 0, end: 0 };
-    let mut number = 0;
-    let mut begin = 0;
-    let mut count = 0;
+    let (mut number, mut begin, mut count) = (0, 0, 0);
     let status = dns_rdata_part(
         message,
         offset,
