@@ -15,8 +15,3 @@ returns-then-count-most c =
       λ e. b.0 (c.if-count-most.true, ltb-true _ _ e),
       λ cut. lt-ltb _ _ (b.1 cut).1,
     )
-
-pub returns-else-count-most : goal.returns-else-count-most
-returns-else-count-most c =
-    let b = cut_body c.args.octets.now c.args.most (λ i. omega (arith, c.type_inv.octets i)) (omega (arith, c.if-len-lt4.false)) in
-    (λ e. absurd e, λ cut. absurd (omega (arith, (b.1 cut).0, c.if-count-most.false)))

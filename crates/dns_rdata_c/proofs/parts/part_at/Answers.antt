@@ -1,6 +1,4 @@
-use Rattle.std.proofs.{Common.ap, Common.length, Common.drop, Common.arith, Common.subst, lemmas.List.take_rest, lemmas.List.drop_all}
-use Rattle.dns_view.specs.TlvList.{NoTlv}
-use Rattle.dns_view.proofs.TlvSteps.{no_octets}
+use Rattle.std.proofs.{Common.ap, Common.length, Common.drop, Common.arith, lemmas.List.length-drop, lemmas.List.take_rest}
 use Rattle.dns_rdata_c.proofs.PartSteps.{part_found, no_part}
 use Rattle.dns_rdata_c.proofs.parts.part_at.Goals as goal
 
