@@ -2,8 +2,8 @@
 
 ghost use Rattle.std.specs.Prelude.{◌≡◌, ◌≢◌, ◌≤◌, ◌⊎◌};
 ghost use Rattle.dns_types.specs.RecordTypes.{record_type_of};
-ghost use Rattle.dns_rdata.specs.Data.{NoValue};
-ghost use Rattle.dns_rdata_c.specs.{Reading.HasData, Calls.IsWhy, Calls.numbers_of, Calls.own_number, Calls.own_status};
+ghost use Rattle.dns_rdata.specs.Data.{HasValue, NoValue};
+ghost use Rattle.dns_rdata_c.specs.{Status.decode_status, Calls.IsWhy, Calls.numbers_of, Calls.own_number, Calls.own_status};
 
 use crate::status::{OK, REFUSED, status_of};
 use dns_rdata::{BinDecoder, DecodeError, RDataRef, RecordType, Restrict};
@@ -27,22 +27,30 @@ pub struct Reason {
     pub offset: usize,
 }
 
-// The numbers of an error, of the record's own result, and of the offset where reading stopped.
-fn numbers(error: DecodeError, own: Result<(), DecodeError>, offset: usize) -> Reason
-    ensures { result ≡ numbers_of error own offset }
+// Tells the numbers of an error, of the record's own result, and of the offset where reading stopped, and returns the status.
+fn tell(
+    error: DecodeError,
+    own: Result<(), DecodeError>,
+    offset: usize,
+    why: &mut Reason,
+) -> u32
+    ensures numbers { why.new ≡ numbers_of error own offset }
+    ensures status { result ≡ decode_status error }
+    ensures refused { error ≢ DecodeError.Memory → REFUSED ≤ result }
 {
     let (read, len, offset) = match error {
         DecodeError::Memory => (0, 0, 0),
         DecodeError::IncorrectRDataLengthRead { read, len } => (read, len, offset),
         _ => (0, 0, offset),
     };
-    Reason {
+    *why = Reason {
         read,
         len,
         number: number_in(own),
         cause: status_in(own),
         offset,
-    }
+    };
+    status_of(error)
 }
 
 // The number that the record's own error has.
@@ -82,7 +90,7 @@ pub extern "C" fn dns_rdata_check(
     why: &mut Reason,
 ) -> u32
     // A value of the type fills the octets.
-    ensures ok { result ≡ OK → HasData message.now offset length (record_type_of type_number) (λ _. Unit {0}) }
+    ensures ok { result ≡ OK → HasValue message.now offset length (record_type_of type_number) }
     // None does.
     ensures refused { REFUSED ≤ result → NoValue message.now offset length (record_type_of type_number) }
     ensures why { result ≢ OK → IsWhy message.now offset length (record_type_of type_number) result why.new }
@@ -91,16 +99,12 @@ pub extern "C" fn dns_rdata_check(
 {
     let Ok(mut decoder) = BinDecoder::at(alloc, message, offset) else {
         let error = DecodeError::InsufficientBytes;
-        *why = numbers(error, Err(error), offset);
-        return status_of(error);
+        return tell(error, Err(error), offset, why);
     };
     let length = Restrict::new(length);
     let own = RDataRef::own_result(&mut decoder, RecordType::from(type_number), length);
     match by_length(own, &decoder, offset, length) {
         Ok(()) => OK,
-        Err(error) => {
-            *why = numbers(error, own, decoder.index());
-            status_of(error)
-        }
+        Err(error) => tell(error, own, decoder.index(), why),
     }
 }
