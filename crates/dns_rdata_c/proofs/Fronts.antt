@@ -2,7 +2,7 @@
 use Rattle.std.proofs.Common.{◌≡◌, ◌∙◌, ℕ, ◌+◌, ◌/◌, ◌%◌, ◌<◌, ◌≤◌, zero, suc, true, false, Some, None, List, [], ◌∷◌, ◌++◌, length, take, drop, get_or, refl}
 use Rattle.std.proofs.Common.{sym, ap, arith, append_assoc, length-append}
 use Rattle.std.specs.Prelude.{◌==◌, nat_lt}
-use Rattle.std.proofs.lemmas.{Bool.Decides.nat_tests, List.drop_all, List.drop_at, List.drop_more, List.drop-drop, List.length-drop, List.take_at}
+use Rattle.std.proofs.lemmas.{Bool.Decides.nat_tests, List.drop_at, List.drop_more, List.drop-drop, List.length-drop, List.take_at}
 use Rattle.dns_fields.specs.{Octets.At, Labels.AreLabels, Labels.wire, Names.LabelsStand, Names.pointer}
 use Rattle.dns_fields.specs.Names.LabelsStand.{whole, pointed}
 use Rattle.dns_rdata_c.specs.Parts.{after_first, after_name}
@@ -34,12 +34,6 @@ jump c s high = rw (not_zero c (omega (arith, high)), not_below c 64 (omega (ari
 pub name_begins : (s : List ℕ) (begin : ℕ) → after_name 2 (drop begin s) ≡ after_name 0 (drop (begin + 2) s)
 name_begins s begin = past 2 (drop begin s) ∙ ap (after_name 0) (drop-drop 2 begin s)
 
-pub name_over : (s : List ℕ) (at : ℕ) → length s ≤ at → after_name 0 (drop at s) ≡ None
-name_over s at h = ap (after_name 0) (drop_all at s h)
-
-pub name_ends : (s : List ℕ) (at : ℕ) → at < length s → get_or s at 0 ≡ 0 → after_name 0 (drop at s) ≡ Some (drop (at + 1) s)
-name_ends s at h e = ap (after_name 0) (drop_more s at 0 h ∙ ap (λ (c : ℕ). c ∷ drop (at + 1) s) e)
-
 pub name_goes_on : (s : List ℕ) (at : ℕ) → at < length s → 1 ≤ get_or s at 0 → get_or s at 0 < 64
     → after_name 0 (drop at s) ≡ after_name 0 (drop (at + (get_or s at 0 + 1)) s)
 name_goes_on s at h some few =
@@ -48,21 +42,11 @@ name_goes_on s at h some few =
     ap (after_name 0) (drop_more s at 0 h) ∙ label c (drop (at + 1) s) some few
     ∙ ap (after_name 0) (drop-drop c (at + 1) s ∙ ap (λ (k : ℕ). drop k s) there)
 
-pub no_label : (s : List ℕ) (at : ℕ) → at < length s → 64 ≤ get_or s at 0 → get_or s at 0 < 192 → after_name 0 (drop at s) ≡ None
-no_label s at h high low =
-    let c = get_or s at 0 in
-    let none : after_name 0 (c ∷ drop (at + 1) s) ≡ None = rw (not_zero c (omega (arith, high)), not_below c 64 high, below c 192 low) refl in
-    ap (after_name 0) (drop_more s at 0 h) ∙ none
-
 pub name_points : (s : List ℕ) (at : ℕ) → at + 2 ≤ length s → 192 ≤ get_or s at 0 → after_name 0 (drop at s) ≡ Some (drop (at + 2) s)
 name_points s at h high =
     let there : at + 1 + 1 ≡ at + 2 = omega arith in
     ap (after_name 0) (drop_more s at 0 (omega (arith, h))) ∙ jump (get_or s at 0) (drop (at + 1) s) high
     ∙ ap after_first (drop_more s (at + 1) 0 (omega (arith, h))) ∙ ap (λ (k : ℕ). Some (drop k s)) there
-
-pub no_pointer : (s : List ℕ) (at : ℕ) → at < length s → length s ≤ at + 1 → 192 ≤ get_or s at 0 → after_name 0 (drop at s) ≡ None
-no_pointer s at h over high =
-    ap (after_name 0) (drop_more s at 0 h) ∙ jump (get_or s at 0) (drop (at + 1) s) high ∙ ap after_first (drop_all (at + 1) s over)
 
 -- ---- a name in a message
 

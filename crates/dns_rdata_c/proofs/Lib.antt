@@ -1,4 +1,3 @@
-pub mod Whole
 pub mod ViewCalls
 pub mod Readings
 pub mod Fronts

@@ -156,11 +156,6 @@ parts_fill {t} {s} {p} {first} {end} front w all =
     let here : drop first s ≡ tlvs w.read = w.is ∙ ap (λ (o : List ℕ). tlvs w.read ++ o) (drop_all end s all) ∙ append-nil (tlvs w.read) in
     record { before = []; rest = w.read; all = record { is = front ∙ ap (λ (o : List ℕ). Some o) here; are = w.are }; many = refl; here = here }
 
-pub cut_options : (t : RecordType) (s : List ℕ) (p first end : ℕ) → after_front t (drop p s) ≡ Some (drop first s) → AreBetween s first end → t ≡ types.OPT
-    → IsTruncated (length (drop p s)) (drop end s) → AreCutOptions t (drop p s)
-cut_options t s p first end front w opt cut =
-    record { is_opt = opt; parts = w.read; stub = drop end s; is = opt_whole t (drop p s) (drop first s) opt front ∙ w.is; are = w.are; cut = cut }
-
 pub damaged : (t : RecordType) (s : List ℕ) (p first end : ℕ) → after_front t (drop p s) ≡ Some (drop first s) → AreBetween s first end → NoTlv (drop end s)
     → end < length s
     → (t ≡ types.OPT → ¬ (IsTruncated (length (drop p s)) (drop end s))) → AreNoParts t (drop p s)

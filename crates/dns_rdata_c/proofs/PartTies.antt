@@ -155,19 +155,6 @@ no_parts t s h = record {
 
 -- ---- a cursor
 
-pub first_before : {m : List ℕ} {p n : ℕ} {t : RecordType} {number begin count : ℕ} (cursor : PartsCursor) → HasPart m p n t 0 number begin count
-    → cursor.next ≡ begin - 4 → cursor.end ≡ p + n → IsBefore m p n t 0 cursor
-first_before {m} {p} {n} {t} cursor h next ends =
-    let w = h.part in
-    let from : w.from ≡ cursor.next = omega (arith, next, w.here.begins) in
-    let room = part_room w.here in
-    record {
-      within = h.within;
-      left = subst (λ (k : ℕ). AreLeft (take (p + n) m) p t 0 k) from w.left;
-      inside = omega (arith, ends, from, room.0, room.1, length-take (p + n) m);
-      ends = ends;
-    }
-
 pub next_part : {m : List ℕ} {p n : ℕ} {t : RecordType} {i number begin count : ℕ} (cursor new : PartsCursor) → IsBefore m p n t i cursor
     → IsPartAt (take cursor.end m) cursor.next number begin count → new.next ≡ begin + count → new.end ≡ cursor.end
     → HasPart m p n t i number begin count × IsBefore m p n t (i + 1) new

@@ -1,15 +1,14 @@
 -- What the calls give of RDATA that is looked at in the message.
 use Rattle.std.proofs.Common.{◌≡◌, ℕ, ◌<◌, ◌≤◌, inl, inr, pos, Bool, true, false, List, ◌++◌, length, drop, Some, None, refl, sym, ap, ◌∙◌, arith, true≢false, subst}
 use Rattle.std.specs.{declared.cmp.Ordering.Ordering}
-use Rattle.dns_types.specs.{declared.record_type.RecordType.RecordType, declared.error.DecodeError.DecodeError}
-use Rattle.dns_names_wire.specs.State.{Reading}
+use Rattle.dns_types.specs.declared.record_type.RecordType.{RecordType}
 use Rattle.dns_fields.specs.{Labels.DomainName, Names.IsNameIn}
 use Rattle.dns_view.specs.{Putting.Put, NameFields.ShowsNameAt, declared.name_ref.NameRef.NameRef}
 use Rattle.dns_view.proofs.Puts.{put_fits}
-use Rattle.dns_rdata.specs.{declared.record_data.RData.RData, declared.view.RDataRef.RDataRef, Data.Fills, Data.NoValue, Data.fields_of, Data.data_octets, Equal.equal, ReadErrors.IsReadError}
+use Rattle.dns_rdata.specs.{declared.record_data.RData.RData, declared.view.RDataRef.RDataRef, Data.Fills, Data.fields_of, Data.data_octets, Equal.equal}
 use Rattle.dns_rdata.specs.{Views.IsViewOf, Views.ComparesAs}
 use Rattle.dns_rdata.proofs.{DataLaws.tells_apart, OrderReads.orders_read}
-use Rattle.dns_rdata_c.specs.{Reading.HasData, Reading.IsRejected, Status.decode_status, Buffers.IsPut, Buffers.IsTooMany, Names.HasName}
+use Rattle.dns_rdata_c.specs.{Reading.HasData, Buffers.IsPut, Buffers.IsTooMany, Names.HasName}
 use Rattle.dns_rdata_c.specs.Calls.{HasOrder, HasEquality, order_number}
 
 -- a view is of a value
@@ -77,22 +76,4 @@ has_name {m} {p} {n} {t} {r} {i} {x} P a shows h =
       name = s.name;
       is_name = s.at;
       holds = h s.name s.end (subst (λ (o : List ℕ). IsNameIn o x.offset s.name s.end) (sym s.message) s.is);
-    }
-
--- ---- why RDATA is rejected
-
-pub view_rejected : {m : List ℕ} {p n k : ℕ} {t u : RecordType} (e : DecodeError) {s : ℕ} {old : Reading} (new : Reading) → old ≡ record { message = m; index = p } → k ≡ n
-    → u ≡ t → s ≡ decode_status e → NoValue old.message old.index k u → IsReadError u k old new e → IsRejected m p n t s
-view_rejected {m} {p} {n} {k} {t} {u} e {s} {old} new is same kind told none why =
-    let at : Reading = record { message = m; index = p } in
-    record {
-      none = subst (λ (x : RecordType). NoValue m p n x) kind
-          (subst (λ (x : ℕ). NoValue m p x u) same (subst (λ (x : Reading). NoValue x.message x.index k u) is none));
-      error = e;
-      told = told;
-      cause = inr (
-        new,
-        subst (λ (x : RecordType). IsReadError x n at new e) kind
-            (subst (λ (x : ℕ). IsReadError u x at new e) same (subst (λ (x : Reading). IsReadError u k x new e) is why)),
-      );
     }

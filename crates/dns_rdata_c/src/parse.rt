@@ -56,7 +56,7 @@ fn emit_to(alloc: Global, octets: &mut Vec<u8>, value: &RData) -> Result<(), Pro
 
 // The uncompressed octets of a value, or the status of the error. `RData::emit` would compress the names of CNAME, MX, NS, PTR
 // and SOA, by pointers into the encoder's own message.
-#[tactic(auto, using(crate::proofs::Whole::as_many))]
+#[tactic(auto, using(dns_rdata_zone::proofs::Again::same_length))]
 fn whole_octets(alloc: Global, value: &RData) -> Result<Vec<u8>, u32>
     ensures made { IfOk result (λ octets. IsWire value.now octets.items) }
     ensures refused { IfErr result (IsUnmade value.now) }
