@@ -1,10 +1,8 @@
 -- What precedes parts: where a name ends.
-use Rattle.std.proofs.Common.{◌≡◌, ◌∙◌, ℕ, ◌+◌, ◌/◌, ◌%◌, ◌<◌, ◌≤◌, zero, suc, true, false, Some, None, List, [], ◌∷◌, ◌++◌, length, take, drop, get_or, refl}
-use Rattle.std.proofs.Common.{sym, ap, arith, append_assoc, length-append}
-use Rattle.std.specs.Prelude.{◌==◌, nat_lt}
-use Rattle.std.proofs.lemmas.{Bool.Decides.nat_tests, List.drop_at, List.drop_more, List.drop-drop, List.length-drop, List.take_at}
-use Rattle.dns_fields.specs.{Octets.At, Labels.AreLabels, Labels.wire, Names.LabelsStand, Names.pointer}
-use Rattle.dns_fields.specs.Names.LabelsStand.{whole, pointed}
+use Rattle.std.proofs.Common.{◌≡◌, ◌∙◌, ℕ, ◌+◌, ◌/◌, ◌%◌, ◌<◌, ◌≤◌, zero, suc, true, false, Some, None, List, [], ◌∷◌, ◌++◌, length, take, drop, get_or, refl, sym, ap, arith, append_assoc, length-append}
+use Rattle.std.{specs.Prelude.◌==◌, specs.Prelude.nat_lt, proofs.lemmas.Bool.Decides.nat_tests, proofs.lemmas.List.drop_at, proofs.lemmas.List.drop_more, proofs.lemmas.List.drop-drop, proofs.lemmas.List.length-drop}
+use Rattle.std.proofs.lemmas.List.{take_at}
+use Rattle.dns_fields.specs.{Octets.At, Labels.AreLabels, Labels.wire, Names.LabelsStand, Names.pointer, Names.LabelsStand.whole, Names.LabelsStand.pointed}
 use Rattle.dns_rdata_c.specs.Parts.{after_first, after_name}
 
 -- ---- one octet

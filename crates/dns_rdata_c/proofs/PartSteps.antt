@@ -1,16 +1,14 @@
 -- Parts that follow each other.
-use Rattle.std.proofs.Common.{◌≡◌, ◌∙◌, ◌↔◌, ℕ, ◌+◌, ◌-◌, ◌*◌, ◌/◌, ◌%◌, ◌<◌, ◌≤◌, ◌^◌, zero, suc, inl, inr, Option, Some, None}
-use Rattle.std.proofs.Common.{List, [], ◌∷◌, ◌++◌, length, take, drop, get_or, refl, sym, ap, subst, arith, append_assoc, length-append, length-take-le}
-use Rattle.std.specs.Int.{bytes_high_first}
-use Rattle.std.proofs.lemmas.{Grind.flat_map-append, List.append-nil, List.drop_all, List.drop-drop, List.length-drop, List.take-append-drop, List.get_or-drop}
-use Rattle.dns_fields.specs.Tlvs.{Numbered, tlv, tlvs, IsTlv, AreTlvs, IsTruncated}
-use Rattle.dns_fields.proofs.Tlvs.{first_tlv, no_tlv, tlv_before, length-tlv, truncated_tlv}
-use Rattle.dns_view.specs.TlvList.{NoTlv}
-use Rattle.dns_view.proofs.{Splits.all_append, Splits.all_behind, TlvSteps.no_octets}
+use Rattle.std.proofs.Common.{◌≡◌, ◌∙◌, ◌↔◌, ℕ, ◌+◌, ◌-◌, ◌*◌, ◌/◌, ◌%◌, ◌<◌, ◌≤◌, ◌^◌, zero, suc, inl, inr, Option, Some, None, List, [], ◌∷◌, ◌++◌, length, take, drop, get_or, refl, sym, ap, subst, arith, append_assoc}
+use Rattle.std.proofs.Common.{length-append, length-take-le}
+use Rattle.std.{specs.Int.bytes_high_first, proofs.lemmas.Grind.flat_map-append, proofs.lemmas.List.append-nil, proofs.lemmas.List.drop_all, proofs.lemmas.List.drop-drop, proofs.lemmas.List.length-drop}
+use Rattle.std.proofs.lemmas.List.{take-append-drop, get_or-drop}
+use Rattle.dns_fields.{specs.Tlvs.Numbered, specs.Tlvs.tlv, specs.Tlvs.tlvs, specs.Tlvs.IsTlv, specs.Tlvs.AreTlvs, specs.Tlvs.IsTruncated, proofs.Tlvs.first_tlv, proofs.Tlvs.no_tlv, proofs.Tlvs.tlv_before, proofs.Tlvs.length-tlv}
+use Rattle.dns_fields.proofs.Tlvs.{truncated_tlv}
+use Rattle.dns_view.{specs.TlvList.NoTlv, proofs.Splits.all_append, proofs.Splits.all_behind, proofs.TlvSteps.no_octets}
 use Rattle.dns_types.specs.declared.record_type.RecordType.{RecordType}
 use Rattle.dns_types.specs.declared.record_type.RecordType.TheVariants as types
-use Rattle.dns_rdata_c.specs.{Parts.after_front, Parts.AreParts, Parts.AreCutOptions, Parts.AreNoParts, Parts.AreFewParts}
-use Rattle.dns_rdata_c.specs.Parts.{AreLeft, IsPartAt, AreBetween}
+use Rattle.dns_rdata_c.specs.Parts.{after_front, AreParts, AreCutOptions, AreNoParts, AreFewParts, AreLeft, IsPartAt, AreBetween}
 
 -- ---- octets begin with parts
 

@@ -1,12 +1,8 @@
 -- The parts of octets that are the RDATA of a value, and a cursor over the parts of a message.
-use Rattle.std.proofs.Common.{◌≡◌, ◌∙◌, ◌⊎◌, ℕ, ◌+◌, ◌-◌, ◌≤◌, suc, false, true≢false, inl, inr, Option, Some, None, List, [], ◌∷◌, ◌++◌, length, take, drop}
-use Rattle.std.proofs.Common.{refl, sym, ap, subst, arith}
-use Rattle.std.specs.Int.{bytes_high_first}
-use Rattle.std.proofs.lemmas.List.{drop-take, length-take}
-use Rattle.dns_fields.specs.{Fields.Stands, Fields.Value, Fields.Values, declared.Kind.Kind, declared.Kind.TheVariants.Options, declared.Kind.TheVariants.Parameters}
-use Rattle.dns_fields.specs.{Octets.At, Tlvs.Numbered, Tlvs.tlvs, Tlvs.AllHeld, Tlvs.IsTruncated, Tlvs.OptionHeld, Tlvs.OptionValue}
-use Rattle.dns_fields.specs.Tlvs.{ParameterHeld, ParameterValue}
-use Rattle.dns_fields.proofs.Tlvs.{complete_or_truncated, tlvs_same}
+use Rattle.std.proofs.Common.{◌≡◌, ◌∙◌, ◌⊎◌, ℕ, ◌+◌, ◌-◌, ◌≤◌, suc, false, true≢false, inl, inr, Option, Some, None, List, [], ◌∷◌, ◌++◌, length, take, drop, refl, sym, ap, subst, arith}
+use Rattle.std.{specs.Int.bytes_high_first, proofs.lemmas.List.drop-take, proofs.lemmas.List.length-take}
+use Rattle.dns_fields.specs.{Fields.Stands, Fields.Value, Fields.Values, declared.Kind.Kind, declared.Kind.TheVariants.Options, declared.Kind.TheVariants.Parameters, Octets.At, Tlvs.Numbered, Tlvs.tlvs, Tlvs.AllHeld}
+use Rattle.dns_fields.{specs.Tlvs.IsTruncated, specs.Tlvs.OptionHeld, specs.Tlvs.OptionValue, specs.Tlvs.ParameterHeld, specs.Tlvs.ParameterValue, proofs.Tlvs.complete_or_truncated, proofs.Tlvs.tlvs_same}
 use Rattle.dns_names_wire.proofs.Strings.{at_then}
 use Rattle.dns_view.specs.TlvList.{NoTlv}
 use Rattle.dns_types.specs.declared.record_type.RecordType.{RecordType}
@@ -15,10 +11,9 @@ use Rattle.dns_rdata.specs.{declared.record_data.RData.RData, Data.FieldsOf, Dat
 use Rattle.dns_rdata.specs.declared.record_data.RData.TheVariants as rdata
 use Rattle.dns_rdata_options.specs.OPT.{opt_shape}
 use Rattle.dns_rdata_service.specs.SVCB.{svcb_shape}
-use Rattle.dns_rdata_c.specs.declared.parts.PartsCursor.{PartsCursor}
-use Rattle.dns_rdata_c.specs.Parts.{is_partless, after_name, after_front, AreParts, AreNoParts, AreFewParts, AreCutOptions, HasNoFront, IsPartAt, AreLeft, HasPart}
-use Rattle.dns_rdata_c.specs.Parts.{LacksPart, IsBefore, parts_in, HoldValue, IsPartIn}
-use Rattle.dns_rdata_c.proofs.{Fronts.name_there, PartSteps.step, PartSteps.none_left, PartSteps.part_room, PartSteps.opt_whole, PartSteps.same_some}
+use Rattle.dns_rdata_c.specs.{declared.parts.PartsCursor.PartsCursor, Parts.is_partless, Parts.after_name, Parts.after_front, Parts.AreParts, Parts.AreNoParts, Parts.AreFewParts, Parts.AreCutOptions, Parts.HasNoFront}
+use Rattle.dns_rdata_c.{specs.Parts.IsPartAt, specs.Parts.AreLeft, specs.Parts.HasPart, specs.Parts.LacksPart, specs.Parts.IsBefore, specs.Parts.parts_in, specs.Parts.HoldValue, specs.Parts.IsPartIn, proofs.Fronts.name_there}
+use Rattle.dns_rdata_c.proofs.PartSteps.{step, none_left, part_room, opt_whole, same_some}
 
 -- the octets from p on, up to n octets later
 abbrev region : List ℕ → ℕ → ℕ → List ℕ

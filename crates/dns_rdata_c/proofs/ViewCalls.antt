@@ -1,15 +1,12 @@
 -- What the calls give of RDATA that is looked at in the message.
 use Rattle.std.proofs.Common.{◌≡◌, ℕ, ◌<◌, ◌≤◌, inl, inr, pos, Bool, true, false, List, ◌++◌, length, drop, Some, None, refl, sym, ap, ◌∙◌, arith, true≢false, subst}
-use Rattle.std.specs.{declared.cmp.Ordering.Ordering}
+use Rattle.std.specs.declared.cmp.Ordering.{Ordering}
 use Rattle.dns_types.specs.declared.record_type.RecordType.{RecordType}
 use Rattle.dns_fields.specs.{Labels.DomainName, Names.IsNameIn}
-use Rattle.dns_view.specs.{Putting.Put, NameFields.ShowsNameAt, declared.name_ref.NameRef.NameRef}
-use Rattle.dns_view.proofs.Puts.{put_fits}
-use Rattle.dns_rdata.specs.{declared.record_data.RData.RData, declared.view.RDataRef.RDataRef, Data.Fills, Data.fields_of, Data.data_octets, Equal.equal}
-use Rattle.dns_rdata.specs.{Views.IsViewOf, Views.ComparesAs}
+use Rattle.dns_view.{specs.Putting.Put, specs.NameFields.ShowsNameAt, specs.declared.name_ref.NameRef.NameRef, proofs.Puts.put_fits}
+use Rattle.dns_rdata.specs.{declared.record_data.RData.RData, declared.view.RDataRef.RDataRef, Data.Fills, Data.fields_of, Data.data_octets, Equal.equal, Views.IsViewOf, Views.ComparesAs}
 use Rattle.dns_rdata.proofs.{DataLaws.tells_apart, OrderReads.orders_read}
-use Rattle.dns_rdata_c.specs.{Reading.HasData, Buffers.IsPut, Buffers.IsTooMany, Names.HasName}
-use Rattle.dns_rdata_c.specs.Calls.{HasOrder, HasEquality, order_number}
+use Rattle.dns_rdata_c.specs.{Reading.HasData, Buffers.IsPut, Buffers.IsTooMany, Names.HasName, Calls.HasOrder, Calls.HasEquality, Calls.order_number}
 
 -- a view is of a value
 pub has_data : {m : List ℕ} {p n : ℕ} {t : RecordType} {r : RDataRef} (P : RData → Type 0) → IsViewOf m p n t r → ((v : RData) → Fills m p n t v → P v)

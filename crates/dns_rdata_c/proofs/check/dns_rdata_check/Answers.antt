@@ -1,6 +1,6 @@
 use Rattle.std.proofs.Common.{inl, inr, refl, Err}
-use Rattle.dns_types.specs.declared.error.DecodeError.TheVariants as decode
 use Rattle.dns_rdata_c.proofs.Readings.{counted}
+use Rattle.dns_types.specs.declared.error.DecodeError.TheVariants as decode
 use Rattle.dns_rdata_c.proofs.check.dns_rdata_check.Goals as goal
 
 pub returns-in_default-clause-why : goal.returns-in_default-clause-why

@@ -1,7 +1,6 @@
 use Rattle.std.proofs.Common.{◌≡◌, refl, arith}
 use Rattle.dns_rdata.specs.WholeOctets.{name_octets}
-use Rattle.dns_rdata_c.specs.Buffers.{IsPut, IsTooMany}
-use Rattle.dns_rdata_c.proofs.ViewCalls.{has_name, is_put, too_many}
+use Rattle.dns_rdata_c.{specs.Buffers.IsPut, specs.Buffers.IsTooMany, proofs.ViewCalls.has_name, proofs.ViewCalls.is_put, proofs.ViewCalls.too_many}
 use Rattle.dns_rdata_c.proofs.names.dns_rdata_name.Goals as goal
 
 pub returns-then-count-out-clause-buffer : goal.returns-then-count-out-clause-buffer

@@ -1,4 +1,5 @@
-use Rattle.std.proofs.{Common.refl, Common.arith, lemmas.List.length-take}
+use Rattle.std.proofs.Common.{refl, arith}
+use Rattle.std.proofs.lemmas.List.{length-take}
 use Rattle.dns_rdata_c.proofs.{PartSteps.part_room, PartTies.next_part, PartTies.no_next}
 use Rattle.dns_rdata_c.proofs.parts.dns_rdata_parts_next.Goals as goal
 

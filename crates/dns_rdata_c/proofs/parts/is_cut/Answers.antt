@@ -1,4 +1,5 @@
-use Rattle.std.proofs.{Common.arith, lemmas.Bool.ltb-true, lemmas.Bool.lt-ltb}
+use Rattle.std.proofs.Common.{arith}
+use Rattle.std.proofs.lemmas.Bool.{ltb-true, lt-ltb}
 use Rattle.dns_rdata_c.proofs.PartSteps.{cut_body}
 use Rattle.dns_rdata_c.proofs.parts.is_cut.Goals as goal
 

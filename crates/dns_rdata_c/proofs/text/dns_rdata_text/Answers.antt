@@ -1,8 +1,7 @@
 use Rattle.std.proofs.Common.{◌≡◌, ◌<◌, List, ℕ, inl, inr, length, sym, subst, arith, rules}
 use Rattle.dns_rdata.specs.WholeOctets.{whole_data}
 use Rattle.dns_rdata_zone.specs.ZoneTexts.{zone_text}
-use Rattle.dns_rdata_c.specs.Buffers.{IsTextPut, IsTextTooLong}
-use Rattle.dns_rdata_c.proofs.ViewCalls.{has_data}
+use Rattle.dns_rdata_c.{specs.Buffers.IsTextPut, specs.Buffers.IsTextTooLong, proofs.ViewCalls.has_data}
 use Rattle.dns_rdata_c.proofs.text.dns_rdata_text.Goals as goal
 
 pub returns-then-whole_len-gt-MAX_OCTETS-clause-too_long : goal.returns-then-whole_len-gt-MAX_OCTETS-clause-too_long

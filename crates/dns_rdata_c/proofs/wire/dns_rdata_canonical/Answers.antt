@@ -1,10 +1,8 @@
 use Rattle.std.proofs.Common.{◌≡◌, ◌<◌, arith, length}
 use Rattle.dns_types.specs.RecordTypes.{record_type_of}
-use Rattle.dns_rdata.specs.{Data.data_octets, Laws.ReadsCanonical}
-use Rattle.dns_rdata.proofs.DataLaws.{reads_canonical}
+use Rattle.dns_rdata.{specs.Data.data_octets, specs.Laws.ReadsCanonical, proofs.DataLaws.reads_canonical}
 use Rattle.dns_view.proofs.Puts.{put_size}
-use Rattle.dns_rdata_c.specs.Buffers.{IsPut}
-use Rattle.dns_rdata_c.proofs.ViewCalls.{has_data, is_put}
+use Rattle.dns_rdata_c.{specs.Buffers.IsPut, proofs.ViewCalls.has_data, proofs.ViewCalls.is_put}
 use Rattle.dns_rdata_c.proofs.wire.dns_rdata_canonical.Goals as goal
 
 pub returns-in-Ok-clause-ok : goal.returns-in-Ok-clause-ok

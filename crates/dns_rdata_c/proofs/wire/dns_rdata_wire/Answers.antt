@@ -1,7 +1,6 @@
 use Rattle.std.proofs.Common.{◌<◌, arith, length}
 use Rattle.dns_rdata.specs.WholeOctets.{whole_data}
-use Rattle.dns_rdata_c.specs.Calls.{PutsWire, LacksRoomForWire}
-use Rattle.dns_rdata_c.proofs.ViewCalls.{has_data, is_put, too_many}
+use Rattle.dns_rdata_c.{specs.Calls.PutsWire, specs.Calls.LacksRoomForWire, proofs.ViewCalls.has_data, proofs.ViewCalls.is_put, proofs.ViewCalls.too_many}
 use Rattle.dns_rdata_c.proofs.wire.dns_rdata_wire.Goals as goal
 
 pub returns-then-status-ne-OK-clause-buffer : goal.returns-then-status-ne-OK-clause-buffer
