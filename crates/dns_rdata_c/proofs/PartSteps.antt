@@ -196,9 +196,9 @@ cut_body (a ∷ (b ∷ (c ∷ (d ∷ s)))) n small few =
     let hc : c < 256 = small 2 in
     let hd : d < 256 = small 3 in (
       λ h.
-      let most : two c d ≤ n = h.0 in
-      let long : length s < two c d = omega (arith, h.1) in
-      (two a b, omega (arith, ha, hb), inr (two c d, s, omega (arith, hc, hd), most, long, heads a b c d s ha hb hc hd)),
+          let most : two c d ≤ n = h.0 in
+          let long : length s < two c d = omega (arith, h.1) in
+          (two a b, omega (arith, ha, hb), inr (two c d, s, omega (arith, hc, hd), most, long, heads a b c d s ha hb hc hd)),
       λ cut. let t = cut_says a b c d s n cut in (t.0, omega (arith, t.1)),
     )
 cut_body s n small few = absurd (omega (arith, few))

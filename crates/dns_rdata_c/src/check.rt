@@ -28,12 +28,7 @@ pub struct Reason {
 }
 
 // Tells the numbers of an error, of the record's own result, and of the offset where reading stopped, and returns the status.
-fn tell(
-    error: DecodeError,
-    own: Result<(), DecodeError>,
-    offset: usize,
-    why: &mut Reason,
-) -> u32
+fn tell(error: DecodeError, own: Result<(), DecodeError>, offset: usize, why: &mut Reason) -> u32
     ensures numbers { why.new ≡ numbers_of error own offset }
     ensures status { result ≡ decode_status error }
     ensures refused { error ≢ DecodeError.Memory → REFUSED ≤ result }

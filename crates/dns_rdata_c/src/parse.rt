@@ -11,9 +11,12 @@ ghost use Rattle.dns_rdata_c.specs.Calls.{PutsData, PutsWire, LacksRoomForWire};
 
 use crate::putting::{MAX_OCTETS, put_octets};
 use crate::reading::view_at;
-use crate::status::{BUFFER, MEMORY, NO_DATA_TEXT, NOT_UTF8, OK, ORIGIN, TOO_LONG, UNFIT, UNREAD};
-use crate::status::status_of_text;
-use dns_rdata::{BinDecodable, BinDecoder, BinEncoder, DecodeError, Name, ProtoError, RData, RecordType};
+use crate::status::{
+    BUFFER, MEMORY, NO_DATA_TEXT, NOT_UTF8, OK, ORIGIN, TOO_LONG, UNFIT, UNREAD, status_of_text,
+};
+use dns_rdata::{
+    BinDecodable, BinDecoder, BinEncoder, DecodeError, Name, ProtoError, RData, RecordType,
+};
 use dns_rdata_zone::from_zone_text;
 use std::alloc::Global;
 

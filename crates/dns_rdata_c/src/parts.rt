@@ -160,9 +160,7 @@ fn stub_status(record_type: RecordType, stub: &[u8], length: u16) -> u32
     ensures status { (result ≡ ABSENT) ⊎ (result ≡ LENGTH) }
 {
     match record_type {
-        RecordType::OPT => {
-            if is_cut(stub, length) { ABSENT } else { LENGTH }
-        }
+        RecordType::OPT => { if is_cut(stub, length) { ABSENT } else { LENGTH } }
         _ => LENGTH,
     }
 }
