@@ -3,14 +3,14 @@ use Rattle.std.proofs.Common.{◌≡◌, ◌∙◌, ◌↔◌, ℕ, ◌+◌, ◌
 use Rattle.std.proofs.Common.{length-append, length-take-le}
 use Rattle.std.{specs.Int.bytes_high_first, proofs.lemmas.Grind.flat_map-append, proofs.lemmas.List.append-nil, proofs.lemmas.List.drop_all, proofs.lemmas.List.drop-drop, proofs.lemmas.List.length-drop}
 use Rattle.std.proofs.lemmas.List.{take-append-drop, get_or-drop}
-use Rattle.dns_fields.{specs.Tlvs.Numbered, specs.Tlvs.tlv, specs.Tlvs.tlvs, specs.Tlvs.IsTlv, specs.Tlvs.AreTlvs, specs.Tlvs.IsTruncated, proofs.Tlvs.first_tlv, proofs.Tlvs.no_tlv, proofs.Tlvs.tlv_before, proofs.Tlvs.length-tlv}
+use Rattle.dns_fields.{specs.Tlvs.Numbered, specs.Tlvs.tlv, specs.Tlvs.tlvs, specs.Tlvs.IsTlv, specs.Tlvs.AreTlvs, specs.Tlvs.IsTruncated, proofs.Tlvs.first_tlv, proofs.Tlvs.heads_same, proofs.Tlvs.no_tlv, proofs.Tlvs.tlv_before, proofs.Tlvs.length-tlv}
 use Rattle.dns_fields.proofs.Tlvs.{truncated_tlv}
 use Rattle.dns_view.{specs.TlvList.NoTlv, proofs.Splits.all_append, proofs.Splits.all_behind, proofs.TlvSteps.no_octets}
 use Rattle.dns_types.specs.declared.record_type.RecordType.{RecordType}
 use Rattle.dns_types.specs.declared.record_type.RecordType.TheVariants as types
 use Rattle.dns_rdata_c.specs.Parts.{after_front, AreParts, AreCutOptions, AreNoParts, AreFewParts, AreLeft, IsPartAt, AreBetween}
 
--- ---- octets begin with parts
+-- ---- four octets in front
 
 abbrev two : ℕ → ℕ → ℕ
 two a b = a * 256 + b
@@ -22,67 +22,57 @@ octets_of a b high low =
     let second : n % 256 ≡ b = omega (arith, high, low) in
     ap (λ (x : ℕ). x ∷ n % 256 ∷ []) first ∙ ap (λ (x : ℕ). a ∷ x ∷ []) second
 
--- four octets are a number and a length
-heads : (a b c d : ℕ) (s : List ℕ) → a < 256 → b < 256 → c < 256 → d < 256
-    → a ∷ (b ∷ (c ∷ (d ∷ s))) ≡ bytes_high_first 2 (two a b) ++ (bytes_high_first 2 (two c d) ++ s)
-heads a b c d s ha hb hc hd =
-    ap (λ (o : List ℕ). a ∷ (b ∷ (o ++ s))) (sym (octets_of c d hc hd))
-    ∙ ap (λ (o : List ℕ). o ++ (bytes_high_first 2 (two c d) ++ s)) (sym (octets_of a b ha hb))
-
--- the length that they say
-says : (a b c d k l : ℕ) (s x : List ℕ) → l < 256 ^ 2 → a ∷ (b ∷ (c ∷ (d ∷ s))) ≡ bytes_high_first 2 k ++ (bytes_high_first 2 l ++ x)
-    → (two c d ≡ l) × (s ≡ x)
-says a b c d k l s x h e =
-    let whole : a ∷ (b ∷ (c ∷ (d ∷ s))) ≡ k / 256 % 256 ∷ (k % 256 ∷ (l / 256 % 256 ∷ (l % 256 ∷ x))) = e in
-    let third : c ≡ l / 256 % 256 = cc in
-    let fourth : d ≡ l % 256 = cc in
-    let rest : s ≡ x = cc in
-    (omega (arith, h, third, fourth), rest)
-
 abbrev code_in : List ℕ → ℕ
 code_in s = two (get_or s 0 0) (get_or s 1 0)
 
 abbrev length_in : List ℕ → ℕ
 length_in s = two (get_or s 2 0) (get_or s 3 0)
 
--- ---- the part at an offset
+-- four octets are a number and a length
+abbrev Head : List ℕ → Type 0
+Head s = (s ≡ bytes_high_first 2 (code_in s) ++ (bytes_high_first 2 (length_in s) ++ drop 4 s)) × (code_in s < 256 ^ 2) × (length_in s < 256 ^ 2)
 
-front_part : (s : List ℕ) → ((i : ℕ) → get_or s i 0 < 256) → 4 ≤ length s → length_in s ≤ length s - 4
-    → (s ≡ tlv (code_in s, take (length_in s) (drop 4 s)) ++ drop (length_in s) (drop 4 s)) × IsTlv (code_in s, take (length_in s) (drop 4 s))
-    × (length_in s ≡ length (take (length_in s) (drop 4 s)))
-front_part (a ∷ (b ∷ (c ∷ (d ∷ s)))) small few h =
+head : (s : List ℕ) → ((i : ℕ) → get_or s i 0 < 256) → 4 ≤ length s → Head s
+head (a ∷ (b ∷ (c ∷ (d ∷ s)))) small few =
     let ha : a < 256 = small 0 in
     let hb : b < 256 = small 1 in
     let hc : c < 256 = small 2 in
-    let hd : d < 256 = small 3 in
-    let l = two c d in
-    let body = take l s in
-    let size : length body ≡ l = length-take-le l s (omega (arith, h)) in (
-      heads a b c d s ha hb hc hd
-          ∙ ap (λ (o : List ℕ). bytes_high_first 2 (two a b) ++ (bytes_high_first 2 l ++ o)) (sym (take-append-drop l s))
-          ∙ ap (λ (k : ℕ). bytes_high_first 2 (two a b) ++ (bytes_high_first 2 k ++ (body ++ drop l s))) (sym size)
-          ∙ sym (tlv_before (two a b, body) (drop l s)),
-      (omega (arith, ha, hb), omega (arith, hc, hd, size)),
-      sym size,
+    let hd : d < 256 = small 3 in (
+      ap (λ (o : List ℕ). a ∷ (b ∷ (o ++ s))) (sym (octets_of c d hc hd)) ∙ ap (λ (o : List ℕ). o ++ (bytes_high_first 2 (two c d) ++ s)) (sym (octets_of a b ha hb)),
+      omega (arith, ha, hb),
+      omega (arith, hc, hd),
     )
-front_part s small few h = absurd (omega (arith, few))
+head s small few = absurd (omega (arith, few))
+
+-- ---- the part at an offset
 
 pub part_found : (s : List ℕ) (at : ℕ) → ((i : ℕ) → get_or s i 0 < 256) → 4 ≤ length (drop at s) → length_in (drop at s) ≤ length (drop at s) - 4
     → IsPartAt s at (code_in (drop at s)) (at + 4) (length_in (drop at s))
 part_found s at small few h =
-    let l = length_in (drop at s) in
-    let w = front_part (drop at s) (λ i. subst (λ (k : ℕ). k < 256) (sym (get_or-drop at s i 0)) (small (at + i))) few h in
-    let behind : drop l (drop 4 (drop at s)) ≡ drop (at + 4 + l) s = ap (drop l) (drop-drop 4 at s) ∙ drop-drop l (at + 4) s in
-    let body = take l (drop 4 (drop at s)) in
-    record { octets = body; fits = w.1; is = w.0 ∙ ap (λ (o : List ℕ). tlv (code_in (drop at s), body) ++ o) behind; begins = refl; told = w.2 }
+    let o = drop at s in
+    let w = head o (λ i. subst (λ (k : ℕ). k < 256) (sym (get_or-drop at s i 0)) (small (at + i))) few in
+    let l = length_in o in
+    let front = bytes_high_first 2 (code_in o) in
+    let body = take l (drop 4 o) in
+    let size : length body ≡ l = length-take-le l (drop 4 o) (omega (arith, h, length-drop 4 o)) in
+    let behind : drop l (drop 4 o) ≡ drop (at + 4 + l) s = ap (drop l) (drop-drop 4 at s) ∙ drop-drop l (at + 4) s in
+    record {
+      octets = body;
+      fits = (w.1, omega (arith, size, w.2));
+      is = w.0 ∙ ap (λ (r : List ℕ). front ++ (bytes_high_first 2 l ++ r)) (sym (take-append-drop l (drop 4 o)) ∙ ap (λ (r : List ℕ). body ++ r) behind)
+          ∙ ap (λ (k : ℕ). front ++ (bytes_high_first 2 k ++ (body ++ drop (at + 4 + l) s))) (sym size) ∙ sym (tlv_before (code_in o, body) (drop (at + 4 + l) s));
+      begins = refl;
+      told = sym size;
+    }
 
-pub no_part : (s : List ℕ) → (4 ≤ length s → length s - 4 < length_in s) → NoTlv s
-no_part (a ∷ (b ∷ (c ∷ (d ∷ s)))) h = record {
+pub no_part : (s : List ℕ) → ((i : ℕ) → get_or s i 0 < 256) → (4 ≤ length s → length s - 4 < length_in s) → NoTlv s
+no_part s small h = record {
   none = λ x rest f e.
-      let t = says a b c d x.0 (length x.1) s (x.1 ++ rest) f.1 (e ∙ tlv_before x rest) in
-      omega (arith, h (omega arith), t.0, ap length t.1, length-append x.1 rest);
+      let long : 4 ≤ length s = omega (arith, ap length e, length-append (tlv x) rest, length-tlv x) in
+      let w = head s small long in
+      let t = heads_same (code_in s) x.0 (length_in s) (length x.1) (drop 4 s) (x.1 ++ rest) w.1 f.0 w.2 f.1 (sym w.0 ∙ e ∙ tlv_before x rest) in
+      omega (arith, h long, t.1, ap length t.2, length-append x.1 rest, length-drop 4 s);
 }
-no_part s h = record { none = λ x rest f e. omega (arith, ap length e, length-append (tlv x) rest, length-tlv x) }
 
 pub part_room : {s : List ℕ} {at number begin count : ℕ} → IsPartAt s at number begin count → (begin + count ≤ length s) × (at < begin + count)
 part_room {s} {at} {number} {begin} {count} w =
@@ -182,23 +172,13 @@ pub cut_length : (s : List ℕ) (n : ℕ) → IsTruncated n s → length s < 4 �
 cut_length s n (code, h, inl e) few = ap length e
 cut_length s n (code, h, inr r) few = let long : length s ≡ suc (suc (suc (suc (length r.1)))) = ap length r.5 in absurd (omega (arith, few, long))
 
-cut_says : (a b c d : ℕ) (s : List ℕ) (n : ℕ) → IsTruncated n (a ∷ (b ∷ (c ∷ (d ∷ s)))) → (two c d ≤ n) × (length s < two c d)
-cut_says a b c d s n (code, h, inl e) = let long : suc (suc (suc (suc (length s)))) ≡ 2 = ap length e in absurd (omega (arith, long))
-cut_says a b c d s n (code, h, inr r) =
-    let t = says a b c d code r.0 s r.1 r.2 r.5 in
-    (omega (arith, t.0, r.3), omega (arith, t.0, ap length t.1, r.4))
+cut_says : (s : List ℕ) (n : ℕ) → Head s → 4 ≤ length s → IsTruncated n s → (length_in s ≤ n) × (length s - 4 < length_in s)
+cut_says s n w few (code, h, inl e) = let short : length s ≡ 2 = ap length e in absurd (omega (arith, few, short))
+cut_says s n w few (code, h, inr r) =
+    let t = heads_same (code_in s) code (length_in s) r.0 (drop 4 s) r.1 w.1 h w.2 r.2 (sym w.0 ∙ r.5) in
+    (omega (arith, t.1, r.3), omega (arith, t.1, ap length t.2, r.4, length-drop 4 s))
 
-pub cut_body : (s : List ℕ) (n : ℕ) → ((i : ℕ) → get_or s i 0 < 256) → 4 ≤ length s
-    → ((length_in s ≤ n) × (length s - 4 < length_in s)) ↔ IsTruncated n s
-cut_body (a ∷ (b ∷ (c ∷ (d ∷ s)))) n small few =
-    let ha : a < 256 = small 0 in
-    let hb : b < 256 = small 1 in
-    let hc : c < 256 = small 2 in
-    let hd : d < 256 = small 3 in (
-      λ h.
-          let most : two c d ≤ n = h.0 in
-          let long : length s < two c d = omega (arith, h.1) in
-          (two a b, omega (arith, ha, hb), inr (two c d, s, omega (arith, hc, hd), most, long, heads a b c d s ha hb hc hd)),
-      λ cut. let t = cut_says a b c d s n cut in (t.0, omega (arith, t.1)),
-    )
-cut_body s n small few = absurd (omega (arith, few))
+pub cut_body : (s : List ℕ) (n : ℕ) → ((i : ℕ) → get_or s i 0 < 256) → 4 ≤ length s → ((length_in s ≤ n) × (length s - 4 < length_in s)) ↔ IsTruncated n s
+cut_body s n small few =
+    let w = head s small few in
+    (λ h. (code_in s, w.1, inr (length_in s, drop 4 s, w.2, h.0, omega (arith, h.1, length-drop 4 s), w.0)), cut_says s n w few)

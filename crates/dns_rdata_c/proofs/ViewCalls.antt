@@ -13,6 +13,9 @@ pub has_data : {m : List ℕ} {p n : ℕ} {t : RecordType} {r : RDataRef} (P : R
     → HasData m p n t P
 has_data P a h = record { value = a.filled.value; fills = a.filled.fills; holds = h a.filled.value a.filled.fills }
 
+pub of_value : {m : List ℕ} {p n : ℕ} {t : RecordType} {v : RData} (P : RData → Type 0) → Fills m p n t v → P v → HasData m p n t P
+of_value {v = v} P f h = record { value = v; fills = f; holds = h }
+
 -- ---- octets in a buffer
 
 pub is_put : {old new octets : List ℕ} {len count : ℕ} → Put old new 0 len octets → len ≤ length old → count ≡ len → IsPut octets old new count
