@@ -1,6 +1,3 @@
 pub mod ViewCalls
-pub mod Readings
-pub mod Fronts
-pub mod PartSteps
-pub mod PartTies
+pub mod PartOctets
 pub mod ZoneReads

@@ -1,12 +1,15 @@
 -- What the calls give of RDATA that is looked at in the message.
-use Rattle.std.proofs.Common.{◌≡◌, ℕ, ◌<◌, ◌≤◌, inl, inr, pos, Bool, true, false, List, ◌++◌, length, drop, Some, None, refl, sym, ap, ◌∙◌, arith, true≢false, subst}
-use Rattle.std.specs.declared.cmp.Ordering.{Ordering}
+use Rattle.std.proofs.Common.{◌≡◌, ℕ, ◌<◌, ◌≤◌, inl, inr, pos, Bool, true, false, List, ◌++◌, length, drop, Some, None, refl, sym, ap, ◌∙◌, arith, true≢false, subst, ◌≢◌, ◌↔◌, ◌+◌, ◌-◌, IsTrue, Ok, Err, IfErr}
+use Rattle.std.{specs.declared.cmp.Ordering.Ordering, specs.Prelude.OnOk, specs.Prelude.MatchResult, proofs.lemmas.Bool.Decides.eqb_tells}
 use Rattle.dns_types.specs.declared.record_type.RecordType.{RecordType}
-use Rattle.dns_fields.specs.{Labels.DomainName, Names.IsNameIn}
+use Rattle.dns_types.specs.declared.error.DecodeError.TheVariants as decode
+use Rattle.dns_fields.{specs.Labels.DomainName, specs.Names.IsNameIn, specs.declared.Kind.TheVariants.Name, proofs.Laws.one_end}
 use Rattle.dns_view.{specs.Putting.Put, specs.NameFields.ShowsNameAt, specs.declared.name_ref.NameRef.NameRef, proofs.Puts.put_fits}
 use Rattle.dns_rdata.specs.{declared.record_data.RData.RData, declared.view.RDataRef.RDataRef, Data.Fills, Data.fields_of, Data.data_octets, Equal.equal, Views.IsViewOf, Views.ComparesAs}
 use Rattle.dns_rdata.proofs.{DataLaws.tells_apart, OrderReads.orders_read}
-use Rattle.dns_rdata_c.specs.{Reading.HasData, Buffers.IsPut, Buffers.IsTooMany, Names.HasName, Calls.HasOrder, Calls.HasEquality, Calls.order_number}
+use Rattle.dns_rdata_c.specs.{Reading.HasData, Buffers.IsPut, Buffers.IsTooMany, Names.HasName, Calls.HasOrder, Calls.HasEquality, Calls.order_number, Reading.Own, Calls.IsNoOrigin}
+use Rattle.dns_names_wire.specs.{State.Reading, Terms.StaysBehind}
+use Rattle.dns_rdata_base.specs.Counted.{by_length}
 
 -- a view is of a value
 pub has_data : {m : List ℕ} {p n : ℕ} {t : RecordType} {r : RDataRef} (P : RData → Type 0) → IsViewOf m p n t r → ((v : RData) → Fills m p n t v → P v)
@@ -77,3 +80,32 @@ has_name {m} {p} {n} {t} {r} {i} {x} P a shows h =
       is_name = s.at;
       holds = h s.name s.end (subst (λ (o : List ℕ). IsNameIn o x.offset s.name s.end) (sym s.message) s.is);
     }
+
+-- ---- where a reader is
+
+abbrev reading : List ℕ → ℕ → Reading
+reading m p = record { message = m; index = p }
+
+-- a name that ends before the octets do
+pub no_origin : (octets : List ℕ) (name : DomainName) (old new : Reading) → old ≡ reading octets 0 → StaysBehind old new
+    → IsNameIn old.message old.index name new.index → ¬ (new.index ≡ length new.message) → IsNoOrigin octets
+no_origin octets name old new start behind stands not_end = λ x is.
+    let there : IsNameIn octets 0 name new.index = subst (λ (d : Reading). IsNameIn d.message d.index name new.index) start stands in
+    let same : new.index ≡ length octets = one_end octets 0 Name name x new.index (length octets) tt (record { is = there }) (record { is = is }) in
+    let message : new.message ≡ octets = behind.message ∙ ap (λ (d : Reading). d.message) start in
+    not_end (same ∙ ap length (sym message))
+
+-- ---- a record's own result, and the count of its octets
+
+pub counted : (own : Own) (old new n : ℕ) (P Q : Type 0) {r : Own} → r ≡ by_length own (new - old) n → old ≤ new → OnOk own (new ≡ old + n → P)
+    → OnOk own (new ≢ old + n → Q) → IfErr own (λ e. Q) → IfErr own (λ e. e ≢ decode.Memory) → MatchResult r (λ x. P) (λ e. Q × (e ≢ decode.Memory))
+counted own old new n P Q e before whole other bad some = rw e (of own whole other bad some) where
+  of : (own : Own) → OnOk own (new ≡ old + n → P) → OnOk own (new ≢ old + n → Q) → IfErr own (λ e. Q) → IfErr own (λ e. e ≢ decode.Memory)
+      → MatchResult (by_length own (new - old) n) (λ x. P) (λ e. Q × (e ≢ decode.Memory))
+  of (Ok x) whole other bad some = elim (eqb_tells (new - old) n) [
+    | inl h ↦ rw h.0 (whole (omega (arith, before, h.1)))
+    | inr h ↦ rw h.0 (other (λ k. h.1 (omega (arith, before, k))), λ m. absurd cc)
+  ]
+  of (Err decode.Memory) whole other bad some = absurd (some refl)
+  of (Err (decode.UnknownRecordTypeValue number)) whole other bad some = (bad, some)
+  of (Err x) whole other bad some = elim (eqb_tells (new - old) n) [ inl h ↦ rw h.0 (bad, some) | inr h ↦ rw h.0 (bad, λ m. absurd cc) ]

@@ -12,18 +12,16 @@ use Rattle.dns_rdata_c.specs.{Buffers.IsPut, Calls.HasZoneData, Calls.IsNoText, 
 
 -- ---- octets that are put
 
-octets_of_fields : (t : RecordType) (v : RData) (values : Values (shape t)) → IsValue t values v → whole_data v ≡ all_whole (shape t) values
-octets_of_fields t v values h = ap (λ (x : FieldsOf). all_whole x.kinds x.values) h.fields
-
 -- a value fills its own octets
 own_value : (m : List ℕ) (p n : ℕ) (t : RecordType) (v : RData) → Fills m p n t v → AreOctets (whole_data v) → length (whole_data v) ≤ 65535
     → AreDataOf (whole_data v) t v
 own_value m p n t v f are short =
     let own = all_whole (shape t) f.values in
-    let e : whole_data v ≡ own = octets_of_fields t v f.values f.value in
+    let e : whole_data v ≡ own = ap (λ (x : FieldsOf). all_whole x.kinds x.values) f.value.fields in
+    let zero : length own ≡ 0 + length own = omega arith in
     let few : length own < 65536 = omega (arith, short, ap length e) in
     let stands : Stands own 0 (shape t) f.values (0 + length own) =
-    subst (λ (k : ℕ). Stands own 0 (shape t) f.values k) (zero_more (length own)) (own_fields m p [] (shape t) f.values (p + n) f.region.stands) in
+    subst (λ (k : ℕ). Stands own 0 (shape t) f.values k) zero (own_fields m p [] (shape t) f.values (p + n) f.region.stands) in
     subst (λ (o : List ℕ). AreDataOf o t v) (sym e) (record {
       short = few;
       fills = record {
@@ -32,9 +30,6 @@ own_value m p n t v f are short =
         value = f.value;
       };
     })
-  where
-    zero_more : (n : ℕ) → n ≡ 0 + n
-    zero_more n = omega arith
 
 -- what a text gives, and what holds of its value
 abbrev pub Gives : List ℕ → RecordType → List ℕ → RData → Type 0

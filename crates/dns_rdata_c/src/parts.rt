@@ -41,7 +41,7 @@ fn is_partless(record_type: RecordType) -> bool
 }
 
 // Where the parameters of a service binding begin: after a priority and the name of the target.
-#[tactic(auto, using(crate::proofs::Fronts::name_begins, crate::proofs::Fronts::name_points, crate::proofs::Fronts::name_goes_on))]
+#[tactic(auto, using(crate::proofs::PartOctets::name_begins, crate::proofs::PartOctets::name_points, crate::proofs::PartOctets::name_goes_on))]
 fn service_end(octets: &[u8], begin: usize) -> Option<usize>
     requires { begin ≤ size octets.now }
     ensures { MatchOption result (after_name 2 (drop begin octets.now) ≡ None)
@@ -80,7 +80,7 @@ fn front_end(record_type: RecordType, octets: &[u8], begin: usize) -> Option<usi
 }
 
 // The part at an offset, which may be any number.
-#[tactic(auto, using(crate::proofs::PartSteps::no_part))]
+#[tactic(auto, using(crate::proofs::PartOctets::no_part))]
 fn part_at(octets: &[u8], at: usize) -> Option<Part>
     ensures { MatchOption result (NoTlv (drop at octets.now)) (λ part. IsPartAt octets.now at part.number part.begin part.count) }
 {
@@ -103,7 +103,7 @@ fn part_at(octets: &[u8], at: usize) -> Option<Part>
 }
 
 // Where the parts end that follow each other from an offset on.
-#[tactic(auto, using(crate::proofs::PartSteps::parts_more, crate::proofs::PartSteps::part_room))]
+#[tactic(auto, using(crate::proofs::PartOctets::parts_more, crate::proofs::PartOctets::part_room))]
 fn parts_end(octets: &[u8], begin: usize) -> usize
     requires { begin ≤ size octets.now }
     ensures parts { AreBetween octets.now begin result }
@@ -119,7 +119,7 @@ fn parts_end(octets: &[u8], begin: usize) -> usize
 }
 
 // The part of this number among those from an offset on.
-#[tactic(auto, using(crate::proofs::PartSteps::step, crate::proofs::PartSteps::part_room))]
+#[tactic(auto, using(crate::proofs::PartOctets::step, crate::proofs::PartOctets::part_room))]
 fn nth_part(octets: &[u8], first: usize, index: usize) -> Option<Part>
     ensures { (p : ℕ) (t : RecordTypeValue) → AreLeft octets.now p t 0 first → MatchOption result (AreFewParts t (drop p octets.now) index)
         (λ part. IsPartOf octets.now p t index part.number part.begin part.count) }
@@ -141,7 +141,7 @@ fn nth_part(octets: &[u8], first: usize, index: usize) -> Option<Part>
 }
 
 // Whether these octets are a truncated option, in RDATA of so many octets.
-#[tactic(auto, using(crate::proofs::PartSteps::code_alone, crate::proofs::PartSteps::cut_length))]
+#[tactic(auto, using(crate::proofs::PartOctets::code_alone, crate::proofs::PartOctets::cut_length))]
 fn is_cut(octets: &[u8], most: u16) -> bool
     ensures { IsTrue result ↔ IsTruncated most octets.now }
 {

@@ -1,5 +1,5 @@
 use Rattle.std.proofs.Common.{inl, inr, refl, Err}
-use Rattle.dns_rdata_c.proofs.Readings.{counted}
+use Rattle.dns_rdata_c.proofs.ViewCalls.{counted}
 use Rattle.dns_types.specs.declared.error.DecodeError.TheVariants as decode
 use Rattle.dns_rdata_c.proofs.check.dns_rdata_check.Goals as goal
 

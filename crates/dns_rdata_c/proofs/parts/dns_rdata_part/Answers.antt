@@ -1,5 +1,5 @@
 use Rattle.std.proofs.Common.{◌∙◌, inl, inr, sym, arith}
-use Rattle.dns_rdata_c.proofs.PartTies.{same_part, same_few, no_value, no_parts}
+use Rattle.dns_rdata_c.proofs.PartOctets.{same_part, same_few, no_value, no_parts}
 use Rattle.dns_rdata_c.proofs.parts.dns_rdata_part.Goals as goal
 
 pub returns-in-Err-clause-none : goal.returns-in-Err-clause-none

@@ -1,6 +1,6 @@
 use Rattle.std.proofs.Common.{refl, arith}
 use Rattle.std.proofs.lemmas.List.{length-take}
-use Rattle.dns_rdata_c.proofs.{PartSteps.part_room, PartTies.next_part, PartTies.no_next}
+use Rattle.dns_rdata_c.proofs.PartOctets.{part_room, next_part, no_next}
 use Rattle.dns_rdata_c.proofs.parts.dns_rdata_parts_next.Goals as goal
 
 pub returns-in_default-clause-absent : goal.returns-in_default-clause-absent

@@ -1,7 +1,7 @@
 use Rattle.std.proofs.Common.{◌≡◌, ◌-◌, ℕ, List, take, drop, length, subst, sym, inl, arith}
 use Rattle.std.proofs.lemmas.List.{length-drop, take_rest}
 use Rattle.dns_fields.specs.Tlvs.{IsTruncated}
-use Rattle.dns_rdata_c.proofs.PartSteps.{parts_fill, damaged}
+use Rattle.dns_rdata_c.proofs.PartOctets.{parts_fill, damaged}
 use Rattle.dns_rdata_c.proofs.parts.find_part.Goals as goal
 
 pub returns-then-end-octets-clause-damaged : goal.returns-then-end-octets-clause-damaged

@@ -1,6 +1,6 @@
 use Rattle.std.proofs.Common.{arith}
 use Rattle.std.proofs.lemmas.Bool.{ltb-true, lt-ltb}
-use Rattle.dns_rdata_c.proofs.PartSteps.{cut_body}
+use Rattle.dns_rdata_c.proofs.PartOctets.{cut_body}
 use Rattle.dns_rdata_c.proofs.parts.is_cut.Goals as goal
 
 pub returns-then-count-most : goal.returns-then-count-most

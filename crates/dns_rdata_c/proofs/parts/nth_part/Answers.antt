@@ -1,4 +1,4 @@
-use Rattle.dns_rdata_c.proofs.PartSteps.{none_left}
+use Rattle.dns_rdata_c.proofs.PartOctets.{none_left}
 use Rattle.dns_rdata_c.proofs.parts.nth_part.Goals as goal
 
 pub returns-in-None : goal.returns-in-None

@@ -1,6 +1,6 @@
 use Rattle.std.proofs.Common.{arith}
 use Rattle.std.proofs.lemmas.List.{take_rest}
-use Rattle.dns_rdata_c.proofs.PartSteps.{part_found}
+use Rattle.dns_rdata_c.proofs.PartOctets.{part_found}
 use Rattle.dns_rdata_c.proofs.parts.part_at.Goals as goal
 
 pub returns : goal.returns
