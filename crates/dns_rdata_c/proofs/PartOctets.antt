@@ -20,25 +20,16 @@ use Rattle.dns_rdata_c.specs.declared.parts.PartsCursor.{PartsCursor}
 
 -- ---- what precedes parts: where a name ends
 
-not_zero : (c : ℕ) → 1 ≤ c → (c == 0) ≡ false
-not_zero c h = grind (arith, nat_tests)
-
-below : (c n : ℕ) → c < n → nat_lt c n ≡ true
-below c n h = grind (arith, nat_tests)
-
-not_below : (c n : ℕ) → n ≤ c → nat_lt c n ≡ false
-not_below c n h = grind (arith, nat_tests)
-
 past : (n : ℕ) (s : List ℕ) → after_name n s ≡ after_name zero (drop n s)
 past zero s = refl
 past (suc n) [] = refl
 past (suc n) (octet ∷ s) = past n s
 
 label : (c : ℕ) (s : List ℕ) → 1 ≤ c → c < 64 → after_name zero (c ∷ s) ≡ after_name zero (drop c s)
-label c s some few = rw (not_zero c some, below c 64 few) (past c s)
+label c s some few = let e = past c s in grind (arith, nat_tests)
 
 jump : (c : ℕ) (s : List ℕ) → 192 ≤ c → after_name zero (c ∷ s) ≡ after_first s
-jump c s high = rw (not_zero c (omega (arith, high)), not_below c 64 (omega (arith, high)), not_below c 192 high) refl
+jump c s high = grind (arith, nat_tests)
 
 -- ---- a walk over labels
 
@@ -50,8 +41,7 @@ pub name_goes_on : (s : List ℕ) (at : ℕ) → at < length s → 1 ≤ get_or 
 name_goes_on s at h some few =
     let c = get_or s at 0 in
     let there : at + 1 + c ≡ at + (c + 1) = omega arith in
-    ap (after_name 0) (drop_more s at 0 h) ∙ label c (drop (at + 1) s) some few
-    ∙ ap (after_name 0) (drop-drop c (at + 1) s ∙ ap (λ (k : ℕ). drop k s) there)
+    ap (after_name 0) (drop_more s at 0 h) ∙ label c (drop (at + 1) s) some few ∙ ap (after_name 0) (drop-drop c (at + 1) s ∙ ap (λ (k : ℕ). drop k s) there)
 
 pub name_points : (s : List ℕ) (at : ℕ) → at + 2 ≤ length s → 192 ≤ get_or s at 0 → after_name 0 (drop at s) ≡ Some (drop (at + 2) s)
 name_points s at h high =
@@ -96,36 +86,30 @@ name_there {m} {p} {e} {labels} (pointed front rest target rest_end behind are i
 
 -- ---- four octets in front
 
-abbrev two : ℕ → ℕ → ℕ
-two a b = a * 256 + b
-
-octets_of : (a b : ℕ) → a < 256 → b < 256 → bytes_high_first 2 (two a b) ≡ a ∷ b ∷ []
+octets_of : (a b : ℕ) → a < 256 → b < 256 → bytes_high_first 2 (a * 256 + b) ≡ a ∷ b ∷ []
 octets_of a b high low =
-    let n = two a b in
+    let n = a * 256 + b in
     let first : n / 256 % 256 ≡ a = omega (arith, high, low) in
     let second : n % 256 ≡ b = omega (arith, high, low) in
     ap (λ (x : ℕ). x ∷ n % 256 ∷ []) first ∙ ap (λ (x : ℕ). a ∷ x ∷ []) second
 
 abbrev code_in : List ℕ → ℕ
-code_in s = two (get_or s 0 0) (get_or s 1 0)
+code_in s = get_or s 0 0 * 256 + get_or s 1 0
 
 abbrev length_in : List ℕ → ℕ
-length_in s = two (get_or s 2 0) (get_or s 3 0)
+length_in s = get_or s 2 0 * 256 + get_or s 3 0
 
 -- four octets are a number and a length
 abbrev Head : List ℕ → Type 0
 Head s = (s ≡ bytes_high_first 2 (code_in s) ++ (bytes_high_first 2 (length_in s) ++ drop 4 s)) × (code_in s < 256 ^ 2) × (length_in s < 256 ^ 2)
 
 head : (s : List ℕ) → ((i : ℕ) → get_or s i 0 < 256) → 4 ≤ length s → Head s
-head (a ∷ (b ∷ (c ∷ (d ∷ s)))) small few =
-    let ha : a < 256 = small 0 in
-    let hb : b < 256 = small 1 in
-    let hc : c < 256 = small 2 in
-    let hd : d < 256 = small 3 in (
-      ap (λ (o : List ℕ). a ∷ (b ∷ (o ++ s))) (sym (octets_of c d hc hd)) ∙ ap (λ (o : List ℕ). o ++ (bytes_high_first 2 (two c d) ++ s)) (sym (octets_of a b ha hb)),
-      omega (arith, ha, hb),
-      omega (arith, hc, hd),
-    )
+head (a ∷ (b ∷ (c ∷ (d ∷ s)))) small few = (
+  ap (λ (o : List ℕ). a ∷ (b ∷ (o ++ s))) (sym (octets_of c d (small 2) (small 3)))
+      ∙ ap (λ (o : List ℕ). o ++ (bytes_high_first 2 (c * 256 + d) ++ s)) (sym (octets_of a b (small 0) (small 1))),
+  omega (arith, small 0, small 1),
+  omega (arith, small 2, small 3),
+)
 head s small few = absurd (omega (arith, few))
 
 -- ---- the part at an offset
@@ -228,8 +212,7 @@ parts_fill {t} {s} {p} {first} {end} front w all =
     let here : drop first s ≡ tlvs w.read = w.is ∙ ap (λ (o : List ℕ). tlvs w.read ++ o) (drop_all end s all) ∙ append-nil (tlvs w.read) in
     record { before = []; rest = w.read; all = record { is = front ∙ ap (λ (o : List ℕ). Some o) here; are = w.are }; many = refl; here = here }
 
-pub damaged : (t : RecordType) (s : List ℕ) (p first end : ℕ) → after_front t (drop p s) ≡ Some (drop first s) → AreBetween s first end → NoTlv (drop end s)
-    → end < length s
+pub damaged : (t : RecordType) (s : List ℕ) (p first end : ℕ) → after_front t (drop p s) ≡ Some (drop first s) → AreBetween s first end → NoTlv (drop end s) → end < length s
     → (t ≡ types.OPT → ¬ (IsTruncated (length (drop p s)) (drop end s))) → AreNoParts t (drop p s)
 damaged t s p first end front w last short uncut = record {
   none = λ parts a.
@@ -246,10 +229,7 @@ damaged t s p first end front w last short uncut = record {
 -- ---- an option that is truncated
 
 pub code_alone : (s : List ℕ) (n : ℕ) → ((i : ℕ) → get_or s i 0 < 256) → length s ≡ 2 → IsTruncated n s
-code_alone (a ∷ (b ∷ [])) n small h =
-    let ha : a < 256 = small 0 in
-    let hb : b < 256 = small 1 in
-    (two a b, omega (arith, ha, hb), inl (sym (octets_of a b ha hb)))
+code_alone (a ∷ (b ∷ [])) n small h = (a * 256 + b, omega (arith, small 0, small 1), inl (sym (octets_of a b (small 0) (small 1))))
 code_alone s n small h = absurd (omega (arith, h))
 
 pub cut_length : (s : List ℕ) (n : ℕ) → IsTruncated n s → length s < 4 → length s ≡ 2
@@ -327,11 +307,10 @@ opt_tied m p n v vs same s =
           let all = c.1 in
           let is = own (tlvs all.read ++ all.stub) all.at in
           let long : s.0 - p ≡ length (region m p n) = omega (arith, all.at.ends, ap length is) in
-          let cut : IsTruncated (length (region m p n)) all.stub = subst (λ (k : ℕ). IsTruncated k all.stub) long all.cut in
-          inr (record { is_opt = refl; parts = all.read; stub = all.stub; is = is; are = all.fit; cut = cut }, ap length (same ∙ c.0))
+          inr (record { is_opt = refl; parts = all.read; stub = all.stub; is = is; are = all.fit; cut = subst (λ (k : ℕ). IsTruncated k all.stub) long all.cut }, ap length (same ∙ c.0))
     ]
 
-service_tied : (t : RecordType) (m : List ℕ) (p n : ℕ) (v : RData) (vs : Values svcb_shape) → parameters_in v ≡ vs.1.1.0 → Stands m p svcb_shape vs (p + n)
+service_tied : (t : RecordType) (m : List ℕ) (p n : ℕ) (v : RData) (vs : Values svcb_shape) → third_parameters (fields_of v).kinds (fields_of v).values ≡ vs.1.1.0 → Stands m p svcb_shape vs (p + n)
     → ((parts : List (Numbered (List ℕ))) → after_name 2 (region m p n) ≡ Some (tlvs parts) → after_front t (region m p n) ≡ Some (tlvs parts))
     → ((parts : List (Numbered (List ℕ))) → AllHeld ParameterHeld parts (parameters_in v) → HoldValue t v parts) → length (parameters_in v) ≡ parts_in t v
     → Tied t (region m p n) v
@@ -341,7 +320,7 @@ service_tied t m p n v vs same s front held many =
     let name = name_there u.1.is.stands in
     let at : At m p (bytes_high_first 2 vs.0 ++ (name.octets ++ tlvs all.read)) (p + n) =
     at_then s.1.is.1 (at_then name.at (subst (λ (k : ℕ). At m u.0 (tlvs all.read) k) u.2.2 all.at)) in
-    let hold : AllHeld ParameterHeld all.read (parameters_in v) = subst (λ (ys : List (Numbered ParameterValue)). AllHeld ParameterHeld all.read ys) (sym same) all.held in
+    let hold : AllHeld ParameterHeld all.read (parameters_in v) = subst (λ (ys : List (Numbered ParameterValue)). AllHeld ParameterHeld all.read ys) (sym (parameters_third v ∙ same)) all.held in
     inl (record {
       parts = all.read;
       all = record { is = front all.read (ap (after_name 2) (region_is n at) ∙ name.passed (tlvs all.read)); are = all.fit };
@@ -352,10 +331,10 @@ service_tied t m p n v vs same s front held many =
 tied : (m : List ℕ) (p n : ℕ) (t : RecordType) (v : RData) → is_partless t ≡ false → Fills m p n t v → Tied t (region m p n) v
 tied m p n types.OPT v h f =
     opt_tied m p n v f.values (options_first v ∙ ap (λ (x : FieldsOf). first_options x.kinds x.values) f.value.fields) f.region.stands
-tied m p n types.HTTPS v h f = service_tied types.HTTPS m p n v f.values
-    (parameters_third v ∙ ap (λ (x : FieldsOf). third_parameters x.kinds x.values) f.value.fields) f.region.stands (λ parts e. e) (λ parts h. h) refl
-tied m p n types.SVCB v h f = service_tied types.SVCB m p n v f.values
-    (parameters_third v ∙ ap (λ (x : FieldsOf). third_parameters x.kinds x.values) f.value.fields) f.region.stands (λ parts e. e) (λ parts h. h) refl
+tied m p n types.HTTPS v h f =
+    service_tied types.HTTPS m p n v f.values (ap (λ (x : FieldsOf). third_parameters x.kinds x.values) f.value.fields) f.region.stands (λ parts e. e) (λ parts h. h) refl
+tied m p n types.SVCB v h f =
+    service_tied types.SVCB m p n v f.values (ap (λ (x : FieldsOf). third_parameters x.kinds x.values) f.value.fields) f.region.stands (λ parts e. e) (λ parts h. h) refl
 tied m p n t v h f = absurd (true≢false h)
 
 -- ---- what the calls tell of a value

@@ -33,16 +33,13 @@ too_many e full told = record { full = omega (arith, e, full); told = told ∙ e
 
 pub has_order : {m l : List ℕ} {p n q k : ℕ} {t : RecordType} {r s : RDataRef} {o : Ordering} → IsViewOf m p n t r → IsViewOf l q k t s
     → ((v w : RData) → Fills m p n t v → Fills l q k t w → ComparesAs t t v w (Some o)) → HasOrder t m p n l q k (order_number o)
-has_order {m} {l} {p} {n} {q} {k} {t} a b h =
-    let v = a.filled.value in
-    let w = b.filled.value in
-    record {
-      value = v;
-      other = w;
-      fills = a.filled.fills;
-      other_fills = b.filled.fills;
-      is_order = ap order_number ((h v w a.filled.fills b.filled.fills).1 ∙ orders_read v w t m p n l q k a.filled.fills b.filled.fills);
-    }
+has_order {m} {l} {p} {n} {q} {k} {t} a b h = record {
+  value = a.filled.value;
+  other = b.filled.value;
+  fills = a.filled.fills;
+  other_fills = b.filled.fills;
+  is_order = ap order_number ((h _ _ a.filled.fills b.filled.fills).1 ∙ orders_read _ _ t m p n l q k a.filled.fills b.filled.fills);
+}
 
 pub no_order : {m l : List ℕ} {p n q k : ℕ} {t : RecordType} {r s : RDataRef} → IsViewOf m p n t r → IsViewOf l q k t s
     → ((v w : RData) → Fills m p n t v → Fills l q k t w → ComparesAs t t v w None) → ⊥
@@ -54,14 +51,12 @@ pub has_equality : {m l : List ℕ} {p n q k : ℕ} {t : RecordType} {r s : RDat
     → ((v w : RData) → Fills m p n t v → Fills l q k t w → same ≡ equal v w)
     → (same ≡ true → HasEquality t m p n l q k (pos 1)) × (same ≡ false → HasEquality t m p n l q k (pos 0))
 has_equality {m} {l} {p} {n} {q} {k} {t} {same = same} a b h =
-    let v = a.filled.value in
-    let w = b.filled.value in
-    let f = a.filled.fills in
-    let g = b.filled.fills in
-    let d = tells_apart v w t m p n l q k f g in
-    let is = h v w f g in (
-      λ e. record { value = v; other = w; fills = f; other_fills = g; tells = inl (refl, d.0 (sym is ∙ e)) },
-      λ e. record { value = v; other = w; fills = f; other_fills = g; tells = inr (refl, λ o. true≢false (sym (d.1 o) ∙ sym is ∙ e)) },
+    let v = a.filled in
+    let w = b.filled in
+    let d = tells_apart v.value w.value t m p n l q k v.fills w.fills in
+    let is = h v.value w.value v.fills w.fills in (
+      λ e. record { value = v.value; other = w.value; fills = v.fills; other_fills = w.fills; tells = inl (refl, d.0 (sym is ∙ e)) },
+      λ e. record { value = v.value; other = w.value; fills = v.fills; other_fills = w.fills; tells = inr (refl, λ o. true≢false (sym (d.1 o) ∙ sym is ∙ e)) },
     )
 
 -- ---- names
@@ -70,10 +65,9 @@ pub has_name : {m : List ℕ} {p n : ℕ} {t : RecordType} {r : RDataRef} {i : �
     → ((v : RData) → Fills m p n t v → ShowsNameAt m p (fields_of v).kinds (fields_of v).values i x)
     → ((name : DomainName) (end : ℕ) → IsNameIn x.message.now x.offset name end → P x.offset name) → HasName m p n t i P
 has_name {m} {p} {n} {t} {r} {i} {x} P a shows h =
-    let v = a.filled.value in
-    let s = shows v a.filled.fills in
+    let s = shows a.filled.value a.filled.fills in
     record {
-      value = v;
+      value = a.filled.value;
       fills = a.filled.fills;
       offset = x.offset;
       name = s.name;
@@ -81,13 +75,10 @@ has_name {m} {p} {n} {t} {r} {i} {x} P a shows h =
       holds = h s.name s.end (subst (λ (o : List ℕ). IsNameIn o x.offset s.name s.end) (sym s.message) s.is);
     }
 
--- ---- where a reader is
-
-abbrev reading : List ℕ → ℕ → Reading
-reading m p = record { message = m; index = p }
+-- ---- an origin
 
 -- a name that ends before the octets do
-pub no_origin : (octets : List ℕ) (name : DomainName) (old new : Reading) → old ≡ reading octets 0 → StaysBehind old new
+pub no_origin : (octets : List ℕ) (name : DomainName) (old new : Reading) → old ≡ record { message = octets; index = 0 } → StaysBehind old new
     → IsNameIn old.message old.index name new.index → ¬ (new.index ≡ length new.message) → IsNoOrigin octets
 no_origin octets name old new start behind stands not_end = λ x is.
     let there : IsNameIn octets 0 name new.index = subst (λ (d : Reading). IsNameIn d.message d.index name new.index) start stands in

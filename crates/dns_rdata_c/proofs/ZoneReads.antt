@@ -91,13 +91,8 @@ pub refused_tokens : (origin : Option DomainName) (t : RecordType) (text : List 
     → (s ≡ 1) ⊎ ((48 ≤ s) × IsNoText origin t text s)
 refused_tokens origin t text e s told none why = elim (high e) [
   | inl memory ↦ inl (told ∙ ap parse_status memory)
-  | inr h ↦ inr (
-    omega (arith, told, h),
-    record {
-      none = unless e (NoTextWords text ⊎ GivesNoneAt origin t text) h none;
-      error = e;
-      told = told;
-      unsupported = λ n. unless e ((e ≡ parse.UnsupportedRecordType t) ⊎ NoTextWords text) h (why n);
-    },
-  )
+  | inr h ↦
+      let no_words = unless e (NoTextWords text ⊎ GivesNoneAt origin t text) h none in
+      let other = λ (n : HasNoTokens t). unless e ((e ≡ parse.UnsupportedRecordType t) ⊎ NoTextWords text) h (why n) in
+      inr (omega (arith, told, h), record { none = no_words; error = e; told = told; unsupported = other })
 ]

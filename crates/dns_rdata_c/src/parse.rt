@@ -6,8 +6,7 @@ ghost use Rattle.dns_types.specs.RecordTypes.{record_type_of};
 ghost use Rattle.dns_rdata.specs.{Data.NoValue, Data.IsEmittable, DataTokens.IsDataTextAt, WholeOctets.whole_data};
 ghost use Rattle.dns_rdata_zone.specs.ZoneGives.{AreDataOf, GivesValue};
 ghost use Rattle.dns_rdata_c.specs.{Reading.HasData, Buffers.IsPut, Calls.IsOrigin, Calls.IsNoOrigin, Calls.IsNoText, Calls.IsNoZoneText, Calls.OfZoneText};
-ghost use Rattle.dns_rdata_c.specs.Calls.{HasTextData, HasZoneData, IsRefusedText, IsRefusedZoneText, IsUnwritten, IsWire, IsUnmade, IsUnread};
-ghost use Rattle.dns_rdata_c.specs.Calls.{PutsData, PutsWire, LacksRoomForWire};
+ghost use Rattle.dns_rdata_c.specs.Calls.{HasTextData, HasZoneData, IsRefusedText, IsRefusedZoneText, IsUnwritten, IsWire, IsUnmade, IsUnread, PutsData, PutsWire, LacksRoomForWire};
 
 use crate::putting::{MAX_OCTETS, put_octets};
 use crate::reading::view_at;
@@ -64,9 +63,8 @@ fn whole_octets(alloc: Global, value: &RData) -> Result<Vec<u8>, u32>
     ensures made { IfOk result (λ octets. IsWire value.now octets.items) }
     ensures refused { IfErr result (IsUnmade value.now) }
 {
-    let mut octets = match Vec::with_capacity(alloc, FIRST_ROOM) {
-        Ok(octets) => octets,
-        Err(_) => return Err(MEMORY),
+    let Ok(mut octets) = Vec::with_capacity(alloc, FIRST_ROOM) else {
+        return Err(MEMORY);
     };
     match emit_to(alloc, &mut octets, value) {
         Ok(()) => {
@@ -193,6 +191,7 @@ fn put_data(
 }
 
 // The value of a text, relative names in it completed by the origin, or the status of the error.
+#[tactic(auto, using(crate::proofs::ZoneReads::refused_tokens))]
 fn read_text(
     alloc: Global,
     record_type: RecordType,

@@ -25,7 +25,6 @@ pub const NOT_UTF8: u32 = 7;
 pub const UNREAD: u32 = 8;
 /// There is no name, option or parameter of this number.
 pub const ABSENT: u32 = 9;
-
 /// From this number on, octets are no data of the type.
 pub const REFUSED: u32 = 16;
 /// Octets are missing at the end of the message.
@@ -54,7 +53,6 @@ pub const MISSING_VALUE: u32 = 26;
 pub const PARAMETER_ORDER: u32 = 27;
 /// Octets that must be UTF-8, and are not.
 pub const UTF8: u32 = 28;
-
 /// From this number on, a text is of no data of the type.
 pub const NO_DATA_TEXT: u32 = 48;
 /// A token is missing.

@@ -8,11 +8,10 @@ pub returns-then-end-octets-clause-damaged : goal.returns-then-end-octets-clause
 returns-then-end-octets-clause-damaged c = λ is.
     let s = c.args.octets.now in
     let end = c.parts_end-end.result in
-    let n = length (drop c.args.offset s) in
-    let size : n ≡ c.args.length = omega (arith, c.requires, length-drop c.args.offset s) in
+    let size : length (drop c.args.offset s) ≡ c.args.length = omega (arith, c.requires, length-drop c.args.offset s) in
     damaged c.args.record_type s c.args.offset c.in-Some.first end c.in-Some.ensures.1 c.parts_end-end.ensures.parts c.parts_end-end.ensures.none c.if-end-octets.true (λ opt cut.
     c.stub_status.ensures.damaged is opt (subst (λ (k : ℕ). IsTruncated k (take (length s - end) (drop end s))) size
-    (subst (λ (o : List ℕ). IsTruncated n o) (sym (take_rest s end)) cut)))
+    (subst (λ (o : List ℕ). IsTruncated (length (drop c.args.offset s)) o) (sym (take_rest s end)) cut)))
 
 pub returns-in-None-clause-absent : goal.returns-in-None-clause-absent
 returns-in-None-clause-absent c = λ is. inl (c.in-None.ensures _ _ (parts_fill c.in-Some.ensures.1 c.parts_end-end.ensures.parts c.if-end-octets.false))
