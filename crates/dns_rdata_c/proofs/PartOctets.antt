@@ -1,9 +1,9 @@
 -- The parts of octets: what precedes them, how they follow each other, and what they are of a value.
-use Rattle.std.proofs.Common.{◌≡◌, ◌↔◌, ◌∙◌, ◌⊎◌, ℕ, ◌+◌, ◌-◌, ◌*◌, ◌/◌, ◌%◌, ◌^◌, ◌<◌, ◌≤◌, zero, suc, true, false, inl, inr, Option, Some, None, List, [], ◌∷◌, ◌++◌, length, take, drop, get_or}
+use Rattle.std.proofs.Common.{◌≡◌, ◌↔◌, ◌∙◌, ◌⊎◌, ℕ, ◌+◌, ◌-◌, ◌*◌, ◌/◌, ◌%◌, ◌^◌, ◌<◌, ◌≤◌, zero, suc, false, inl, inr, Option, Some, None, List, [], ◌∷◌, ◌++◌, length, take, drop, get_or}
 use Rattle.std.proofs.Common.{refl, sym, ap, subst, arith, append_assoc, length-append, length-take-le, true≢false}
-use Rattle.std.specs.{Prelude.◌==◌, Prelude.nat_lt, Int.bytes_high_first}
+use Rattle.std.specs.{Int.bytes_high_first}
 use Rattle.std.proofs.lemmas.{Bool.Decides.nat_tests, Grind.flat_map-append, List.append-nil, List.drop_all, List.drop_at, List.drop_more, List.drop-drop, List.drop-take, List.get_or-drop, List.length-drop, List.length-take, List.take_at, List.take-append-drop}
-use Rattle.dns_fields.specs.{Octets.At, Labels.AreLabels, Labels.wire, Names.LabelsStand, Names.pointer, Names.LabelsStand.whole, Names.LabelsStand.pointed, Fields.Stands, Fields.Value, Fields.Values, declared.Kind.Kind}
+use Rattle.dns_fields.specs.{Octets.At, Labels.AreLabels, Labels.wire, Names.LabelsStand, Names.pointer, Names.LabelsStand.whole, Names.LabelsStand.pointed, Fields.Stands, Fields.Values, declared.Kind.Kind}
 use Rattle.dns_fields.specs.{declared.Kind.TheVariants.Options, declared.Kind.TheVariants.Parameters}
 use Rattle.dns_fields.specs.Tlvs.{Numbered, tlv, tlvs, IsTlv, AreTlvs, IsTruncated, AllHeld, OptionHeld, OptionValue, ParameterHeld, ParameterValue}
 use Rattle.dns_fields.proofs.Tlvs.{first_tlv, heads_same, no_tlv, tlv_before, length-tlv, truncated_tlv, complete_or_truncated, tlvs_same}

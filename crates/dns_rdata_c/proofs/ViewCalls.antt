@@ -1,11 +1,11 @@
 -- What the calls give of RDATA that is looked at in the message.
-use Rattle.std.proofs.Common.{◌≡◌, ℕ, ◌<◌, ◌≤◌, inl, inr, pos, Bool, true, false, List, ◌++◌, length, drop, Some, None, refl, sym, ap, ◌∙◌, arith, true≢false, subst, ◌≢◌, ◌↔◌, ◌+◌, ◌-◌, IsTrue, Ok, Err, IfErr}
+use Rattle.std.proofs.Common.{◌≡◌, ℕ, ◌<◌, ◌≤◌, inl, inr, pos, Bool, true, false, List, ◌++◌, length, drop, Some, None, refl, sym, ap, ◌∙◌, arith, true≢false, subst, ◌≢◌, ◌+◌, ◌-◌, Ok, Err, IfErr}
 use Rattle.std.{specs.declared.cmp.Ordering.Ordering, specs.Prelude.OnOk, specs.Prelude.MatchResult, proofs.lemmas.Bool.Decides.eqb_tells}
 use Rattle.dns_types.specs.declared.record_type.RecordType.{RecordType}
 use Rattle.dns_types.specs.declared.error.DecodeError.TheVariants as decode
 use Rattle.dns_fields.{specs.Labels.DomainName, specs.Names.IsNameIn, specs.declared.Kind.TheVariants.Name, proofs.Laws.one_end}
 use Rattle.dns_view.{specs.Putting.Put, specs.NameFields.ShowsNameAt, specs.declared.name_ref.NameRef.NameRef, proofs.Puts.put_fits}
-use Rattle.dns_rdata.specs.{declared.record_data.RData.RData, declared.view.RDataRef.RDataRef, Data.Fills, Data.fields_of, Data.data_octets, Equal.equal, Views.IsViewOf, Views.ComparesAs}
+use Rattle.dns_rdata.specs.{declared.record_data.RData.RData, declared.view.RDataRef.RDataRef, Data.Fills, Data.fields_of, Equal.equal, Views.IsViewOf, Views.ComparesAs}
 use Rattle.dns_rdata.proofs.{DataLaws.tells_apart, OrderReads.orders_read}
 use Rattle.dns_rdata_c.specs.{Reading.HasData, Buffers.IsPut, Buffers.IsTooMany, Names.HasName, Calls.HasOrder, Calls.HasEquality, Calls.order_number, Reading.Own, Calls.IsNoOrigin}
 use Rattle.dns_names_wire.specs.{State.Reading, Terms.StaysBehind}

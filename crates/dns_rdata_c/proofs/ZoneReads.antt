@@ -1,10 +1,10 @@
 -- What a text of a zone file gives, and what is read of it again.
 use Rattle.std.proofs.Common.{◌≡◌, ◌∙◌, ◌⊎◌, ℕ, ◌+◌, ◌<◌, ◌≤◌, ◌^◌, inl, inr, List, [], ◌++◌, length, drop, refl, sym, ap, subst, arith, Option, Fits, w8, slice_index_or}
 use Rattle.std.proofs.{Math.Facts.Fits-lt-pow, lemmas.List.Elements.All-from_get_or}
-use Rattle.dns_fields.{specs.Fields.Values, specs.Fields.Stands, specs.Labels.DomainName, specs.Octets.AreOctets, proofs.OctetLaws.AreOctets-front, proofs.OctetLaws.AreOctets-same}
+use Rattle.dns_fields.{specs.Fields.Stands, specs.Labels.DomainName, specs.Octets.AreOctets, proofs.OctetLaws.AreOctets-front, proofs.OctetLaws.AreOctets-same}
 use Rattle.dns_types.specs.declared.{error.ParseError.ParseError, record_type.RecordType.RecordType}
 use Rattle.dns_types.specs.declared.error.ParseError.TheVariants as parse
-use Rattle.dns_rdata.specs.{declared.record_data.RData.RData, WholeOctets.all_whole, WholeOctets.whole_data, DataTokens.GivesNoneAt, DataTokens.HasNoTokens, Data.FieldsOf, Data.shape, Data.Fills, Data.IsValue}
+use Rattle.dns_rdata.specs.{declared.record_data.RData.RData, WholeOctets.all_whole, WholeOctets.whole_data, DataTokens.GivesNoneAt, DataTokens.HasNoTokens, Data.FieldsOf, Data.shape, Data.Fills}
 use Rattle.dns_tokens.specs.Reads.{UnlessParseMemory}
 use Rattle.dns_text.specs.TextWords.{NoTextWords}
 use Rattle.dns_rdata_zone.{specs.ZoneGives.AreDataOf, specs.ZoneGives.GivesValue, specs.ZoneGives.GivesNone, specs.ZoneFaults.ZoneFault, proofs.Again.own_fields, proofs.Filled.fills_give, proofs.ZoneOnce.one_given}
