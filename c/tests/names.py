@@ -103,7 +103,7 @@ def main():
     want_same("Python's status", {name: of_crate.get(name) for name in of_python}, of_python)
     of_rust = numbers(rust, r"^const (\w+): u32 = (\d+);")
     want_same("Rust's status", {name: of_crate.get(name) for name in of_rust}, of_rust)
-    for file, of_crate, name in [("check.rt", "Reason", "Refusal"), ("parts_cursor.rt", "PartsCursor", "Parts")]:
+    for file, of_crate, name in [("check.rt", "Reason", "Refusal"), ("parts.rt", "PartsCursor", "Parts")]:
         of_header = "dns_rdata_" + name.lower()
         fields = {of_header: crate_fields(file, of_crate)}
         want_same("the fields of", fields, {of_header: header_fields(header, of_header)})

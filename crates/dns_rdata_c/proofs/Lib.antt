@@ -1,11 +1,3 @@
-pub mod Whole
 pub mod ViewCalls
-pub mod Readings
-pub mod NameWalks
-pub mod TlvWalks
-pub mod Walking
-pub mod PartWalks
-pub mod PartCursor
-pub mod NamesStand
-pub mod PartTies
+pub mod PartOctets
 pub mod ZoneReads

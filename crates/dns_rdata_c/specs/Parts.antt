@@ -1,15 +1,13 @@
--- The parts of record data: the options of OPT (RFC 6891, 6.1.2) and the parameters of a service binding (RFC 9460,
--- 2.2). What they are of octets, and what they are of a value that fills the octets.
-use Rattle.std.specs.Prelude.{◌≡◌, ℕ, ◌+◌, ◌≤◌, ◌⊎◌, Bool, true, false, List, [], ◌++◌, length, map, take, drop, Some, slice_get}
-use Rattle.dns_fields.specs.Octets.{At}
-use Rattle.dns_fields.specs.Tlvs.{Numbered, tlvs, AreTlvs, AllHeld, OptionHeld, ParameterHeld, IsTruncated}
+-- The parts of RDATA: the options of OPT (RFC 6891, 6.1.2) and the parameters of a service binding (RFC 9460, 2.2). What they are
+-- of octets, and what they are of a value that fills the octets.
+use Rattle.std.specs.Prelude.{◌≡◌, ℕ, zero, suc, ◌+◌, ◌≤◌, ◌⊎◌, ◌==◌, nat_lt, if◌then◌else◌, Bool, true, false, Option, Some, None}
+use Rattle.std.specs.Prelude.{List, [], ◌∷◌, ◌++◌, length, take, drop}
+use Rattle.dns_fields.specs.{Tlvs.Numbered, Tlvs.tlv, Tlvs.tlvs, Tlvs.IsTlv, Tlvs.AreTlvs, Tlvs.IsTruncated}
+use Rattle.dns_fields.specs.Tlvs.{AllHeld, OptionHeld, ParameterHeld}
 use Rattle.dns_types.specs.declared.record_type.RecordType.{RecordType}
 use Rattle.dns_types.specs.declared.record_type.RecordType.TheVariants as types
-use Rattle.dns_rdata.specs.declared.record_data.RData.{RData}
-use Rattle.dns_rdata.specs.declared.record_data.RData.TheVariants as rdata
-use Rattle.dns_rdata_options.specs.OPT.{pair_value}
-use Rattle.dns_rdata_service.specs.Parameters.{parameter_of}
-use Rattle.dns_rdata_c.specs.{declared.parts_cursor.PartsCursor.PartsCursor, NameEnds.AreNameOctets}
+use Rattle.dns_rdata.specs.{declared.record_data.RData.RData, ViewLists.options_in, ViewLists.parameters_in}
+use Rattle.dns_rdata_c.specs.declared.parts.PartsCursor.{PartsCursor}
 
 -- ---- of octets
 
@@ -20,29 +18,35 @@ is_partless types.HTTPS = false
 is_partless types.SVCB = false
 is_partless t = true
 
--- a priority of two octets, and the name of the target
-pub record IsServiceFront (front : List ℕ) : Type 0 where
-  pub priority : List ℕ
-  pub two : length priority ≡ 2
-  pub target : List ℕ
-  pub is_name : AreNameOctets target
-  pub is : front ≡ priority ++ target
+abbrev pub after_first : List ℕ → Option (List ℕ)
+after_first [] = None
+after_first (octet ∷ rest) = Some rest
 
--- the octets in front of the parts
-abbrev pub IsFront : RecordType → List ℕ → Type 0
-IsFront types.OPT front = front ≡ []
-IsFront types.HTTPS front = IsServiceFront front
-IsFront types.SVCB front = IsServiceFront front
-IsFront t front = ⊥
+-- The octets after a name that begins after so many octets: after labels, and an octet 0 or a compression pointer of two octets
+-- (RFC 1035, 3.1 and 4.1.4). There are none if the octets end before the name does, or if a label has more than 63 octets.
+abbrev pub after_name : ℕ → List ℕ → Option (List ℕ)
+after_name n [] = None
+after_name (suc n) (octet ∷ rest) = after_name n rest
+after_name zero (size ∷ rest) =
+    if size == 0 then Some rest else
+    if nat_lt size 64 then after_name size rest else
+    if nat_lt size 192 then None else
+    after_first rest
 
--- the octets do not begin with those
+-- the octets after what precedes the parts: nothing, or a priority of two octets and the name of the target
+abbrev pub after_front : RecordType → List ℕ → Option (List ℕ)
+after_front types.OPT s = Some s
+after_front types.HTTPS s = after_name 2 s
+after_front types.SVCB s = after_name 2 s
+after_front t s = None
+
+-- the octets do not begin with what precedes the parts
 abbrev pub HasNoFront : RecordType → List ℕ → Type 0
-HasNoFront t s = (front rest : List ℕ) → IsFront t front → s ≡ front ++ rest → ⊥
+HasNoFront t s = after_front t s ≡ None
 
 -- after what precedes the parts, the octets are these parts: each its number, its length and its octets
-pub record AreParts (t : RecordType) (s front : List ℕ) (parts : List (Numbered (List ℕ))) : Type 0 where
-  pub is_front : IsFront t front
-  pub is : s ≡ front ++ tlvs parts
+pub record AreParts (t : RecordType) (s : List ℕ) (parts : List (Numbered (List ℕ))) : Type 0 where
+  pub is : after_front t s ≡ Some (tlvs parts)
   pub are : AreTlvs parts
 
 -- Truncated options: such RDATA has none.
@@ -56,73 +60,85 @@ pub record AreCutOptions (t : RecordType) (s : List ℕ) : Type 0 where
 
 -- the octets are no parts
 pub record AreNoParts (t : RecordType) (s : List ℕ) : Type 0 where
-  pub none : (front : List ℕ) (parts : List (Numbered (List ℕ))) → AreParts t s front parts → ⊥
+  pub none : (parts : List (Numbered (List ℕ))) → AreParts t s parts → ⊥
   pub uncut : AreCutOptions t s → ⊥
-
--- part number i of the octets has this number, and its octets begin at this offset and are so many
-pub record IsPartOf (t : RecordType) (s : List ℕ) (i number begin count : ℕ) : Type 0 where
-  pub front : List ℕ
-  pub parts : List (Numbered (List ℕ))
-  pub all : AreParts t s front parts
-  pub octets : List ℕ
-  pub is : slice_get parts i ≡ Some (number, octets)
-  pub begins : begin ≡ length front + (length (tlvs (take i parts)) + 4)
-  pub told : count ≡ length octets
 
 -- the octets are i parts at most
 pub record AreFewParts (t : RecordType) (s : List ℕ) (i : ℕ) : Type 0 where
-  pub front : List ℕ
   pub parts : List (Numbered (List ℕ))
-  pub all : AreParts t s front parts
+  pub all : AreParts t s parts
   pub few : length parts ≤ i
+
+-- ---- of octets that end with the RDATA, which begins at p
+
+-- the RDATA is parts, and from this offset on the octets are those from number i on
+pub record AreLeft (s : List ℕ) (p : ℕ) (t : RecordType) (i at : ℕ) : Type 0 where
+  pub before : List (Numbered (List ℕ))
+  pub rest : List (Numbered (List ℕ))
+  pub all : AreParts t (drop p s) (before ++ rest)
+  pub many : length before ≡ i
+  pub here : drop at s ≡ tlvs rest
+
+-- a part of this number begins at the offset `at`, and its octets begin at the offset `begin` and are so many
+pub record IsPartAt (s : List ℕ) (at number begin count : ℕ) : Type 0 where
+  pub octets : List ℕ
+  pub fits : IsTlv (number, octets)
+  pub is : drop at s ≡ tlv (number, octets) ++ drop (begin + count) s
+  pub begins : begin ≡ at + 4
+  pub told : count ≡ length octets
+
+-- the RDATA is parts, and part number i has this number, and its octets begin at this offset and are so many
+pub record IsPartOf (s : List ℕ) (p : ℕ) (t : RecordType) (i number begin count : ℕ) : Type 0 where
+  pub from : ℕ
+  pub left : AreLeft s p t i from
+  pub here : IsPartAt s from number begin count
+
+-- from one offset to another there are parts
+pub record AreBetween (s : List ℕ) (begin end : ℕ) : Type 0 where
+  pub read : List (Numbered (List ℕ))
+  pub are : AreTlvs read
+  pub is : drop begin s ≡ tlvs read ++ drop end s
+  pub inside : end ≤ length s
 
 -- ---- of octets in a message
 
 -- the n octets from p are parts, and part number i is there
 pub record HasPart (m : List ℕ) (p n : ℕ) (t : RecordType) (i number begin count : ℕ) : Type 0 where
   pub within : p + n ≤ length m
-  pub from : ℕ
-  pub part : IsPartOf t (take n (drop p m)) i number from count
-  pub begins : begin ≡ p + from
+  pub part : IsPartOf (take (p + n) m) p t i number begin count
 
 -- RDATA of the type has no parts, or the n octets from p are at most i parts, or they are truncated options.
 abbrev pub LacksPart : List ℕ → ℕ → ℕ → RecordType → ℕ → Type 0
 LacksPart m p n t i =
     (is_partless t ≡ true)
-    ⊎ ((p + n ≤ length m) × (AreFewParts t (take n (drop p m)) i ⊎ AreCutOptions t (take n (drop p m))))
+    ⊎ ((p + n ≤ length m) × (AreFewParts t (drop p (take (p + n) m)) i ⊎ AreCutOptions t (drop p (take (p + n) m))))
 
--- A cursor before part number i of the n octets from p, which are parts: at the offset where that part begins, and with
--- the offset where the octets end.
+-- A cursor before part number i of the n octets from p, which are parts: at the offset where that part begins, and with the offset
+-- where the octets end.
 pub record IsBefore (m : List ℕ) (p n : ℕ) (t : RecordType) (i : ℕ) (cursor : PartsCursor) : Type 0 where
   pub within : p + n ≤ length m
-  pub front : List ℕ
-  pub parts : List (Numbered (List ℕ))
-  pub all : AreParts t (take n (drop p m)) front parts
-  pub here : cursor.next ≡ p + (length front + length (tlvs (take i parts)))
+  pub left : AreLeft (take (p + n) m) p t i cursor.next
+  pub inside : cursor.next ≤ cursor.end
   pub ends : cursor.end ≡ p + n
 
 -- ---- of a value
 
--- how many options or parameters a value has
-abbrev pub parts_in : RData → ℕ
-parts_in (rdata.OPT x) = length x
-parts_in (rdata.HTTPS x) = length x.0.svc_params
-parts_in (rdata.SVCB x) = length x.svc_params
-parts_in v = 0
+-- how many options or parameters a value of the type has
+abbrev pub parts_in : RecordType → RData → ℕ
+parts_in types.OPT v = length (options_in v)
+parts_in types.HTTPS v = length (parameters_in v)
+parts_in types.SVCB v = length (parameters_in v)
+parts_in t v = 0
 
--- each option or parameter of the value is held by the part of its offset
-abbrev pub HoldValue : RData → List (Numbered (List ℕ)) → Type 0
-HoldValue (rdata.OPT x) parts = AllHeld OptionHeld parts (map pair_value x)
-HoldValue (rdata.HTTPS x) parts = AllHeld ParameterHeld parts (map parameter_of x.0.svc_params)
-HoldValue (rdata.SVCB x) parts = AllHeld ParameterHeld parts (map parameter_of x.svc_params)
-HoldValue v parts = ⊥
+-- each option or parameter of a value of the type is held by the part of its index
+abbrev pub HoldValue : RecordType → RData → List (Numbered (List ℕ)) → Type 0
+HoldValue types.OPT v parts = AllHeld OptionHeld parts (options_in v)
+HoldValue types.HTTPS v parts = AllHeld ParameterHeld parts (parameters_in v)
+HoldValue types.SVCB v parts = AllHeld ParameterHeld parts (parameters_in v)
+HoldValue t v parts = ⊥
 
--- The option or parameter number i of the value has this number, and the octets that hold it are at this offset of the
--- message and are so many.
-pub record IsPartIn (m : List ℕ) (v : RData) (i number begin count : ℕ) : Type 0 where
-  pub parts : List (Numbered (List ℕ))
-  pub hold : HoldValue v parts
-  pub octets : List ℕ
-  pub is : slice_get parts i ≡ Some (number, octets)
-  pub told : count ≡ length octets
-  pub stand : At m begin octets (begin + count)
+-- Part number i of the n octets from p has this number, and its octets begin at this offset of the message and are so many; and the
+-- parts hold the options or parameters of the value, each that of its index.
+pub record IsPartIn (m : List ℕ) (p n : ℕ) (t : RecordType) (v : RData) (i number begin count : ℕ) : Type 0 where
+  pub part : HasPart m p n t i number begin count
+  pub hold : HoldValue t v (part.part.left.before ++ part.part.left.rest)

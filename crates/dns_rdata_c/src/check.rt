@@ -1,10 +1,9 @@
 //! Whether octets are RDATA of a type, and why they are not.
 
-ghost use Rattle.std.specs.Prelude.{◌≡◌, ◌≢◌, ◌≤◌, ◌⊎◌, IfErr, OnOk};
+ghost use Rattle.std.specs.Prelude.{◌≡◌, ◌≢◌, ◌≤◌, ◌⊎◌};
 ghost use Rattle.dns_types.specs.RecordTypes.{record_type_of};
 ghost use Rattle.dns_rdata.specs.Data.{HasValue, NoValue};
-ghost use Rattle.dns_rdata_c.specs.{Reading.HasData, Reading.IsCauseAt, Calls.IsWhy, Calls.numbers_of};
-ghost use Rattle.dns_rdata_c.specs.Calls.{own_number, own_status};
+ghost use Rattle.dns_rdata_c.specs.{Status.decode_status, Calls.IsWhy, Calls.numbers_of, Calls.own_number, Calls.own_status};
 
 use crate::status::{OK, REFUSED, status_of};
 use dns_rdata::{BinDecoder, DecodeError, RDataRef, RecordType, Restrict};
@@ -28,31 +27,25 @@ pub struct Reason {
     pub offset: usize,
 }
 
-// Why octets are rejected: the error, the result of the record by itself, and the offset where reading stopped.
-#[derive(Clone, Copy)]
-struct Cause {
-    error: DecodeError,
-    own: Result<(), DecodeError>,
-    offset: usize,
-}
-
-// The numbers of an error.
-fn numbers(cause: &Cause) -> Reason
-    ensures { result ≡ numbers_of cause.now.error cause.now.own cause.now.offset }
+// Tells the numbers of an error, of the record's own result, and of the offset where reading stopped, and returns the status.
+fn tell(error: DecodeError, own: Result<(), DecodeError>, offset: usize, why: &mut Reason) -> u32
+    ensures numbers { why.new ≡ numbers_of error own offset }
+    ensures status { result ≡ decode_status error }
+    ensures refused { error ≢ DecodeError.Memory → REFUSED ≤ result }
 {
-    let number = number_in(cause.own);
-    let (read, len, offset) = match cause.error {
+    let (read, len, offset) = match error {
         DecodeError::Memory => (0, 0, 0),
-        DecodeError::IncorrectRDataLengthRead { read, len } => (read, len, cause.offset),
-        _ => (0, 0, cause.offset),
+        DecodeError::IncorrectRDataLengthRead { read, len } => (read, len, offset),
+        _ => (0, 0, offset),
     };
-    Reason {
+    *why = Reason {
         read,
         len,
-        number,
-        cause: status_in(cause.own),
+        number: number_in(own),
+        cause: status_in(own),
         offset,
-    }
+    };
+    status_of(error)
 }
 
 // The number that the record's own error has.
@@ -79,36 +72,6 @@ fn status_in(own: Result<(), DecodeError>) -> u32
     }
 }
 
-// Checks the octets as RDATA of the type. Allocates nothing.
-fn check_at(
-    alloc: Global,
-    message: &[u8],
-    start: usize,
-    length: u16,
-    record_type: RecordType,
-) -> Result<(), Cause>
-    ensures found { OnOk result (HasValue message.now start length record_type) }
-    ensures refused { IfErr result (λ c. NoValue message.now start length record_type) }
-    ensures allocates_nothing { IfErr result (λ c. c.error ≢ DecodeError.Memory) }
-    ensures cause { IfErr result (λ c. IsCauseAt message.now start length record_type c.error c.own c.offset) }
-{
-    let Ok(mut decoder) = BinDecoder::at(alloc, message, start) else {
-        let error = DecodeError::InsufficientBytes;
-        return Err(Cause {
-            error,
-            own: Err(error),
-            offset: start,
-        });
-    };
-    let length = Restrict::new(length);
-    let own = RDataRef::own_result(&mut decoder, record_type, length);
-    let offset = decoder.index();
-    match by_length(own, &decoder, start, length) {
-        Ok(()) => Ok(()),
-        Err(error) => Err(Cause { error, own, offset }),
-    }
-}
-
 /// Tells whether the `length` octets from an offset of the message are RDATA of a record of the type of this number, and,
 /// if they are not, the first reason with its numbers, the record's own error, and the offset where reading stopped.
 /// Allocates nothing.
@@ -122,24 +85,21 @@ pub extern "C" fn dns_rdata_check(
     why: &mut Reason,
 ) -> u32
     // A value of the type fills the octets.
-    ensures ok { result ≡ OK → HasData message.now offset length (record_type_of type_number) (λ _. Unit {0}) }
+    ensures ok { result ≡ OK → HasValue message.now offset length (record_type_of type_number) }
     // None does.
     ensures refused { REFUSED ≤ result → NoValue message.now offset length (record_type_of type_number) }
     ensures why { result ≢ OK → IsWhy message.now offset length (record_type_of type_number) result why.new }
     ensures status { (result ≡ OK) ⊎ (REFUSED ≤ result) }
     ensures untold { result ≡ OK → why.new ≡ why.old }
 {
-    match check_at(
-        alloc,
-        message,
-        offset,
-        length,
-        RecordType::from(type_number),
-    ) {
-        Ok(()) => return OK,
-        Err(cause) => {
-            *why = numbers(&cause);
-            return status_of(cause.error);
-        }
+    let Ok(mut decoder) = BinDecoder::at(alloc, message, offset) else {
+        let error = DecodeError::InsufficientBytes;
+        return tell(error, Err(error), offset, why);
+    };
+    let length = Restrict::new(length);
+    let own = RDataRef::own_result(&mut decoder, RecordType::from(type_number), length);
+    match by_length(own, &decoder, offset, length) {
+        Ok(()) => OK,
+        Err(error) => tell(error, own, decoder.index(), why),
     }
 }

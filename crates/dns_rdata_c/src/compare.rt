@@ -1,11 +1,9 @@
 //! The order of record data, and whether it is equal.
 
 ghost use Rattle.std.specs.Prelude.{◌≡◌, ◌≢◌, ◌≤◌, ◌⊎◌, ℕ, List};
-ghost use Rattle.dns_types.specs.RecordTypes.{record_type_of};
-ghost use Rattle.dns_types.specs.declared.record_type.RecordType.{RecordType};
-ghost use Rattle.dns_rdata.specs.{Data.NoValue, Views.IsViewOf};
-ghost use Rattle.dns_rdata_c.specs.Reading.{IsRejected};
-ghost use Rattle.dns_rdata_c.specs.Calls.{HasOrder, HasEquality, order_number, octets_order};
+ghost use Rattle.dns_types.specs.{RecordTypes.record_type_of, declared.record_type.RecordType.RecordType};
+ghost use Rattle.dns_rdata.specs.Views.{IsViewOf};
+ghost use Rattle.dns_rdata_c.specs.{Reading.IsRejected, Calls.HasOrder, Calls.HasEquality, Calls.order_number, Calls.octets_order};
 
 use crate::reading::view_at;
 use crate::status::{OK, REFUSED};
@@ -50,8 +48,6 @@ pub extern "C" fn dns_rdata_compare(
     order: &mut i32,
 ) -> u32
     ensures ok { result ≡ OK → HasOrder (record_type_of type_number) message.now offset length other.now other_offset other_length order.new }
-    ensures refused { REFUSED ≤ result → NoValue message.now offset length (record_type_of type_number)
-        ⊎ NoValue other.now other_offset other_length (record_type_of type_number) }
     ensures cause { REFUSED ≤ result → IsRejected message.now offset length (record_type_of type_number) result
         ⊎ IsRejected other.now other_offset other_length (record_type_of type_number) result }
     ensures status { (result ≡ OK) ⊎ (REFUSED ≤ result) }
@@ -93,8 +89,6 @@ pub extern "C" fn dns_rdata_equal(
     equal: &mut i32,
 ) -> u32
     ensures ok { result ≡ OK → HasEquality (record_type_of type_number) message.now offset length other.now other_offset other_length equal.new }
-    ensures refused { REFUSED ≤ result → NoValue message.now offset length (record_type_of type_number)
-        ⊎ NoValue other.now other_offset other_length (record_type_of type_number) }
     ensures cause { REFUSED ≤ result → IsRejected message.now offset length (record_type_of type_number) result
         ⊎ IsRejected other.now other_offset other_length (record_type_of type_number) result }
     ensures status { (result ≡ OK) ⊎ (REFUSED ≤ result) }

@@ -5,22 +5,14 @@
 //! `c/include/dns_rdata.h` declares the calls and is their document for C.
 #![tactic(auto)]
 
-pub mod canonical;
 pub mod check;
 pub mod compare;
-pub mod display_text;
-mod emitting;
-mod name_ends;
 pub mod names;
 pub mod parse;
-pub mod parse_display_text;
 pub mod parts;
-pub mod parts_cursor;
 mod putting;
 mod reading;
 pub mod status;
 pub mod text;
-mod tlvs;
 pub mod types;
-mod values;
 pub mod wire;

@@ -1,33 +1,14 @@
 //! The names in RDATA.
 
-ghost use Rattle.std.specs.Prelude.{◌≡◌, ◌≢◌, ◌≤◌, ◌⊎◌, ℕ};
+ghost use Rattle.std.specs.Prelude.{◌≡◌, ◌≢◌, ◌≤◌, ◌⊎◌};
 ghost use Rattle.dns_types.specs.RecordTypes.{record_type_of};
-ghost use Rattle.dns_fields.specs.{Names.IsNameIn, Labels.DomainName};
 ghost use Rattle.dns_view.specs.NameFields.{names_in};
-ghost use Rattle.dns_rdata.specs.{Data.NoValue, Data.fields_of, WholeOctets.name_octets};
-ghost use Rattle.dns_rdata_c.specs.{Reading.HasData, Reading.IsRejected, Buffers.IsPut, Buffers.IsTooMany};
-ghost use Rattle.dns_rdata_c.specs.Names.{HasName};
+ghost use Rattle.dns_rdata.specs.{Data.fields_of, WholeOctets.name_octets};
+ghost use Rattle.dns_rdata_c.specs.{Reading.HasData, Reading.IsRejected, Buffers.IsPut, Buffers.IsTooMany, Names.HasName};
 
 use crate::reading::view_at;
 use crate::status::{ABSENT, BUFFER, OK, REFUSED};
-use dns_rdata::NameRef;
 use std::alloc::Global;
-
-// Writes a name's octets to a buffer if they fit, and sets their number.
-fn put_name(name: &NameRef<'_>, out: &mut [u8], count: &mut usize) -> u32
-    ensures ok { result ≡ OK → (x : DomainName) (q : ℕ) → IsNameIn name.now.message.now name.now.offset x q → IsPut (name_octets x) out.old out.new count.new }
-    ensures buffer { result ≡ BUFFER → (x : DomainName) (q : ℕ) → IsNameIn name.now.message.now name.now.offset x q → IsTooMany (name_octets x) out.old out.new count.new }
-    ensures status { (result ≡ OK) ⊎ (result ≡ BUFFER) }
-    ensures kept { result ≢ OK → out.new ≡ out.old }
-{
-    let len = name.put(false, &mut []);
-    *count = len;
-    if len > out.len() {
-        return BUFFER;
-    }
-    let _len = name.put(false, out);
-    OK
-}
 
 /// Writes a name of the RDATA to a buffer, uncompressed and case preserved, and sets the number of octets and the offset of the
 /// name in the message. Names are counted from 0, in the order of the fields. If there is no name of this number, the status is
@@ -49,7 +30,6 @@ pub extern "C" fn dns_rdata_name(
     ensures buffer { result ≡ BUFFER → HasName message.now offset length (record_type_of type_number) index
         (λ q x. IsTooMany (name_octets x) out.old out.new count.new × (begin.new ≡ q)) }
     ensures absent { result ≡ ABSENT → HasData message.now offset length (record_type_of type_number) (λ v. names_in (fields_of v).kinds ≤ index) }
-    ensures refused { REFUSED ≤ result → NoValue message.now offset length (record_type_of type_number) }
     ensures cause { REFUSED ≤ result → IsRejected message.now offset length (record_type_of type_number) result }
     ensures status { (result ≡ OK) ⊎ (result ≡ BUFFER) ⊎ (result ≡ ABSENT) ⊎ (REFUSED ≤ result) }
     ensures kept { result ≢ OK → out.new ≡ out.old }
@@ -64,5 +44,10 @@ pub extern "C" fn dns_rdata_name(
         return ABSENT;
     };
     *begin = name.offset();
-    put_name(&name, out, count)
+    *count = name.put(false, &mut []);
+    if *count > out.len() {
+        return BUFFER;
+    }
+    let _len = name.put(false, out);
+    OK
 }

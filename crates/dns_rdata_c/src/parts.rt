@@ -1,17 +1,34 @@
-//! The options of OPT and the parameters of service bindings.
+//! The options of OPT and the parameters of SVCB and HTTPS: one by its index, or all one after the other.
 
-ghost use Rattle.std.specs.Prelude.{◌≡◌, ◌≢◌, ◌+◌, ◌<◌, ◌≤◌, ◌⊎◌, length as size, take, drop, ◌++◌, IfOk, IfErr, MatchOption};
+ghost use Rattle.std.specs.Prelude.{◌≡◌, ◌≢◌, ◌↔◌, ◌+◌, ◌<◌, ◌≤◌, ◌⊎◌, ℕ, Some, None, length as size, take, drop, IfOk, IfErr, MatchOption, IsTrue};
+ghost use Rattle.dns_types.specs.{RecordTypes.record_type_of, declared.record_type.RecordType.RecordType as RecordTypeValue};
 ghost use Rattle.dns_types.specs.declared.record_type.RecordType.TheVariants as types;
-ghost use Rattle.dns_types.specs.RecordTypes.{record_type_of};
 ghost use Rattle.dns_fields.specs.Tlvs.{IsTruncated};
+ghost use Rattle.dns_view.specs.TlvList.{NoTlv};
 ghost use Rattle.dns_rdata.specs.Data.{Fills, NoValue};
-ghost use Rattle.dns_rdata_c.specs.Parts.{is_partless as partless_type, IsServiceFront, IsFront, HasNoFront, AreNoParts, AreFewParts, AreCutOptions};
-ghost use Rattle.dns_rdata_c.specs.Parts.{IsPartOf, HasPart, LacksPart, parts_in, IsPartIn};
+ghost use Rattle.dns_rdata_c.specs.Parts.{is_partless as partless_type, after_name, after_front, IsPartAt, AreBetween, AreLeft, IsPartOf};
+ghost use Rattle.dns_rdata_c.specs.Parts.{AreFewParts, AreCutOptions, AreNoParts, HasNoFront, HasPart, LacksPart, IsBefore, parts_in, IsPartIn};
 
-use crate::name_ends::encoded_len;
 use crate::status::{ABSENT, LENGTH, MISSING_OCTETS, NAME, OK, REFUSED};
-use crate::tlvs::{Part, count_tlvs, is_cut, tlv_of};
 use dns_rdata::RecordType;
+
+// An option or a parameter: its code or key, where its octets begin, and how many they are.
+#[derive(Clone, Copy)]
+struct Part {
+    number: u16,
+    begin: usize,
+    count: usize,
+}
+
+/// Where the next part of RDATA is in its message. The caller holds it; any numbers in it are safe.
+#[repr(C)]
+#[derive(Clone, Copy)]
+pub struct PartsCursor {
+    /// The offset of the next part.
+    pub next: usize,
+    /// The offset where the RDATA ends.
+    pub end: usize,
+}
 
 // Whether RDATA of the type has no parts.
 fn is_partless(record_type: RecordType) -> bool
@@ -23,31 +40,117 @@ fn is_partless(record_type: RecordType) -> bool
     }
 }
 
-// How many octets are before the parameters of a service binding: a priority and the name of the target.
-fn service_begin(octets: &[u8]) -> Option<usize>
-    ensures { MatchOption result ((front : _) → (rest : _) → IsServiceFront front → octets.now ≡ front ++ rest → ⊥)
-        (λ n. (front : _) × (rest : _) × IsServiceFront front × (octets.now ≡ front ++ rest) × (n ≡ size front)) }
+// Where the parameters of a service binding begin: after a priority and the name of the target.
+#[tactic(auto, using(crate::proofs::PartOctets::name_begins, crate::proofs::PartOctets::name_points, crate::proofs::PartOctets::name_goes_on))]
+fn service_end(octets: &[u8], begin: usize) -> Option<usize>
+    requires { begin ≤ size octets.now }
+    ensures { MatchOption result (after_name 2 (drop begin octets.now) ≡ None)
+        (λ end. (end ≤ size octets.now) × (after_name 2 (drop begin octets.now) ≡ Some (drop end octets.now))) }
 {
-    if octets.len() < 2 {
-        return None;
+    let mut at = begin + 2;
+    'labels: while at < octets.len() {
+        let octet = octets[at] as usize;
+        if octet == 0 {
+            return Some(at + 1);
+        }
+        if octet >= 192 {
+            let left = octets.len() - at;
+            return if left >= 2 { Some(at + 2) } else { None };
+        }
+        if octet >= 64 {
+            return None;
+        }
+        at += octet + 1;
     }
-    match encoded_len(&octets[2..]) {
-        None => None,
-        Some(length) => Some(length + 2),
+    None
+}
+
+// Where the parts begin.
+fn front_end(record_type: RecordType, octets: &[u8], begin: usize) -> Option<usize>
+    requires { begin ≤ size octets.now }
+    ensures { MatchOption result (after_front record_type (drop begin octets.now) ≡ None)
+        (λ end. (end ≤ size octets.now) × (after_front record_type (drop begin octets.now) ≡ Some (drop end octets.now))) }
+{
+    match record_type {
+        RecordType::OPT => Some(begin),
+        RecordType::HTTPS => service_end(octets, begin),
+        RecordType::SVCB => service_end(octets, begin),
+        _ => None,
     }
 }
 
-// How many octets are before the parts.
-fn parts_begin(record_type: RecordType, octets: &[u8]) -> Option<usize>
-    ensures { MatchOption result (HasNoFront record_type octets.now)
-        (λ n. (front : _) × (rest : _) × IsFront record_type front × (octets.now ≡ front ++ rest) × (n ≡ size front)) }
+// The part at an offset, which may be any number.
+#[tactic(auto, using(crate::proofs::PartOctets::no_part))]
+fn part_at(octets: &[u8], at: usize) -> Option<Part>
+    ensures { MatchOption result (NoTlv (drop at octets.now)) (λ part. IsPartAt octets.now at part.number part.begin part.count) }
 {
-    match record_type {
-        RecordType::OPT => return Some(0),
-        RecordType::HTTPS => return service_begin(octets),
-        RecordType::SVCB => return service_begin(octets),
-        _ => return None,
+    if at > octets.len() {
+        return None;
     }
+    let rest = &octets[at..];
+    if rest.len() < 4 {
+        return None;
+    }
+    let count = rest[2] as usize * 256 + rest[3] as usize;
+    if count > rest.len() - 4 {
+        return None;
+    }
+    Some(Part {
+        number: rest[0] as u16 * 256 + rest[1] as u16,
+        begin: at + 4,
+        count,
+    })
+}
+
+// Where the parts end that follow each other from an offset on.
+#[tactic(auto, using(crate::proofs::PartOctets::parts_more, crate::proofs::PartOctets::part_room))]
+fn parts_end(octets: &[u8], begin: usize) -> usize
+    requires { begin ≤ size octets.now }
+    ensures parts { AreBetween octets.now begin result }
+    ensures none { NoTlv (drop result octets.now) }
+{
+    let mut end = begin;
+    'parts: loop {
+        match part_at(octets, end) {
+            None => return end,
+            Some(part) => end = part.begin + part.count,
+        }
+    }
+}
+
+// The part of this number among those from an offset on.
+#[tactic(auto, using(crate::proofs::PartOctets::step, crate::proofs::PartOctets::part_room))]
+fn nth_part(octets: &[u8], first: usize, index: usize) -> Option<Part>
+    ensures { (p : ℕ) (t : RecordTypeValue) → AreLeft octets.now p t 0 first → MatchOption result (AreFewParts t (drop p octets.now) index)
+        (λ part. IsPartOf octets.now p t index part.number part.begin part.count) }
+{
+    let mut at = first;
+    let mut i = 0;
+    'parts: loop {
+        match part_at(octets, at) {
+            None => return None,
+            Some(part) => {
+                if i == index {
+                    return Some(part);
+                }
+                i += 1;
+                at = part.begin + part.count;
+            }
+        }
+    }
+}
+
+// Whether these octets are a truncated option, in RDATA of so many octets.
+#[tactic(auto, using(crate::proofs::PartOctets::code_alone, crate::proofs::PartOctets::cut_length))]
+fn is_cut(octets: &[u8], most: u16) -> bool
+    ensures { IsTrue result ↔ IsTruncated most octets.now }
+{
+    let len = octets.len();
+    if len < 4 {
+        return len == 2;
+    }
+    let count = octets[2] as usize * 256 + octets[3] as usize;
+    count <= most as usize && count > len - 4
 }
 
 // The status if options or parameters are truncated. Truncated OPT RDATA has no options, and that is no error.
@@ -57,57 +160,48 @@ fn stub_status(record_type: RecordType, stub: &[u8], length: u16) -> u32
     ensures status { (result ≡ ABSENT) ⊎ (result ≡ LENGTH) }
 {
     match record_type {
-        RecordType::OPT => {
-            if is_cut(stub, length) {
-                return ABSENT;
-            }
-            return LENGTH;
-        }
-        _ => return LENGTH,
+        RecordType::OPT => { if is_cut(stub, length) { ABSENT } else { LENGTH } }
+        _ => LENGTH,
     }
 }
 
-// The part of this number in the RDATA, or the status of the error.
-fn find_part(record_type: RecordType, octets: &[u8], length: u16, index: usize) -> Result<Part, u32>
-    requires { size octets.now ≡ length }
-    ensures found { IfOk result (λ part. IsPartOf record_type octets.now index part.number part.begin part.count) }
-    ensures absent { IfErr result (λ s. s ≡ ABSENT → AreFewParts record_type octets.now index ⊎ AreCutOptions record_type octets.now) }
-    ensures name { IfErr result (λ s. s ≡ NAME → HasNoFront record_type octets.now) }
-    ensures damaged { IfErr result (λ s. s ≡ LENGTH → AreNoParts record_type octets.now) }
+// The part of this number in the RDATA that these octets end with, or the status of the error.
+fn find_part(
+    record_type: RecordType,
+    octets: &[u8],
+    offset: usize,
+    length: u16,
+    index: usize,
+) -> Result<Part, u32>
+    requires { size octets.now ≡ offset + length }
+    ensures found { IfOk result (λ part. IsPartOf octets.now offset record_type index part.number part.begin part.count) }
+    ensures absent { IfErr result (λ s. s ≡ ABSENT → AreFewParts record_type (drop offset octets.now) index ⊎ AreCutOptions record_type (drop offset octets.now)) }
+    ensures name { IfErr result (λ s. s ≡ NAME → HasNoFront record_type (drop offset octets.now)) }
+    ensures damaged { IfErr result (λ s. s ≡ LENGTH → AreNoParts record_type (drop offset octets.now)) }
     ensures status { IfErr result (λ s. (s ≡ ABSENT) ⊎ (s ≡ NAME) ⊎ (s ≡ LENGTH)) }
 {
-    let Some(front) = parts_begin(record_type, octets) else {
+    let Some(first) = front_end(record_type, octets, offset) else {
         return Err(NAME);
     };
-    let rest = &octets[front..];
-    let (parts, end) = count_tlvs(rest);
-    if end < rest.len() {
-        return Err(stub_status(record_type, &rest[end..], length));
+    let end = parts_end(octets, first);
+    if end < octets.len() {
+        return Err(stub_status(record_type, &octets[end..], length));
     }
-    if index >= parts {
-        return Err(ABSENT);
+    match nth_part(octets, first, index) {
+        None => Err(ABSENT),
+        Some(part) => Ok(part),
     }
-    let tlv = tlv_of(rest, index);
-    Ok(Part {
-        number: tlv.number,
-        begin: front + tlv.begin,
-        count: tlv.count,
-    })
 }
 
-// The RDATA in a message.
-fn data_at(message: &[u8], offset: usize, length: u16) -> Option<&[u8]>
+// The message up to the end of the RDATA.
+fn data_end(message: &[u8], offset: usize, length: u16) -> Option<&[u8]>
     ensures { MatchOption result (size message.now < offset + length)
-        (λ octets. (offset + length ≤ size message.now) × (octets.now ≡ take length (drop offset message.now))) }
+        (λ octets. (offset + length ≤ size message.now) × (octets.now ≡ take (offset + length) message.now)) }
 {
-    if offset > message.len() {
+    if offset > message.len() || length as usize > message.len() - offset {
         return None;
     }
-    let behind = &message[offset..];
-    if length as usize > behind.len() {
-        return None;
-    }
-    Some(&behind[..length as usize])
+    Some(&message[..offset + length as usize])
 }
 
 /// Finds an option of OPT, or a parameter of SVCB or HTTPS: sets its code or key, the offset of its octets in the message, and how
@@ -128,13 +222,13 @@ pub extern "C" fn dns_rdata_part(
     ensures ok { result ≡ OK → HasPart message.now offset length (record_type_of type_number) index number.new begin.new count.new }
     ensures absent { result ≡ ABSENT → LacksPart message.now offset length (record_type_of type_number) index }
     ensures short { result ≡ MISSING_OCTETS → size message.now < offset + length }
-    ensures name { result ≡ NAME → HasNoFront (record_type_of type_number) (take length (drop offset message.now)) }
-    ensures damaged { result ≡ LENGTH → AreNoParts (record_type_of type_number) (take length (drop offset message.now)) }
+    ensures name { result ≡ NAME → HasNoFront (record_type_of type_number) (drop offset (take (offset + length) message.now)) }
+    ensures damaged { result ≡ LENGTH → AreNoParts (record_type_of type_number) (drop offset (take (offset + length) message.now)) }
     ensures status { (result ≡ OK) ⊎ (result ≡ ABSENT) ⊎ (result ≡ MISSING_OCTETS) ⊎ (result ≡ NAME) ⊎ (result ≡ LENGTH) }
     // For the proof: if the octets are the RDATA of a value, the parts are those of the value.
     ensures same { result ≡ OK → (v : _) → Fills message.now offset length (record_type_of type_number) v
-        → IsPartIn message.now v index number.new begin.new count.new }
-    ensures none { result ≡ ABSENT → (v : _) → Fills message.now offset length (record_type_of type_number) v → parts_in v ≤ index }
+        → IsPartIn message.now offset length (record_type_of type_number) v index number.new begin.new count.new }
+    ensures none { result ≡ ABSENT → (v : _) → Fills message.now offset length (record_type_of type_number) v → parts_in (record_type_of type_number) v ≤ index }
     ensures refused { REFUSED ≤ result → NoValue message.now offset length (record_type_of type_number) }
     ensures untold { result ≢ OK → (number.new ≡ number.old) × (begin.new ≡ begin.old) × (count.new ≡ count.old) }
 {
@@ -142,16 +236,89 @@ pub extern "C" fn dns_rdata_part(
     if is_partless(record_type) {
         return ABSENT;
     }
-    let Some(octets) = data_at(message, offset, length) else {
+    let Some(octets) = data_end(message, offset, length) else {
         return MISSING_OCTETS;
     };
-    match find_part(record_type, octets, length, index) {
+    match find_part(record_type, octets, offset, length, index) {
         Err(status) => status,
         Ok(part) => {
             *number = part.number;
-            *begin = offset + part.begin;
+            *begin = part.begin;
             *count = part.count;
             OK
         }
     }
+}
+
+/// Sets a cursor to the first option or parameter. It looks at each length once, as `dns_rdata_part` does, and returns what that
+/// call returns for index 0. With a status other than `OK` the cursor has no parts. Does not allocate.
+#[unsafe(no_mangle)]
+pub extern "C" fn dns_rdata_parts_begin(
+    message: &[u8],
+    offset: usize,
+    length: u16,
+    type_number: u16,
+    parts: &mut PartsCursor,
+) -> u32
+    ensures ok { result ≡ OK → IsBefore message.now offset length (record_type_of type_number) 0 parts.new }
+    ensures absent { result ≡ ABSENT → LacksPart message.now offset length (record_type_of type_number) 0 }
+    ensures short { result ≡ MISSING_OCTETS → size message.now < offset + length }
+    ensures name { result ≡ NAME → HasNoFront (record_type_of type_number) (drop offset (take (offset + length) message.now)) }
+    ensures damaged { result ≡ LENGTH → AreNoParts (record_type_of type_number) (drop offset (take (offset + length) message.now)) }
+    ensures status { (result ≡ OK) ⊎ (result ≡ ABSENT) ⊎ (result ≡ MISSING_OCTETS) ⊎ (result ≡ NAME) ⊎ (result ≡ LENGTH) }
+    ensures none { result ≡ ABSENT → (v : _) → Fills message.now offset length (record_type_of type_number) v → parts_in (record_type_of type_number) v ≤ 0 }
+    ensures refused { REFUSED ≤ result → NoValue message.now offset length (record_type_of type_number) }
+    ensures emptied { result ≢ OK → (parts.new.next ≡ 0) × (parts.new.end ≡ 0) }
+{
+    *parts = PartsCursor { next: 0, end: 0 };
+    let (mut number, mut begin, mut count) = (0, 0, 0);
+    let status = dns_rdata_part(
+        message,
+        offset,
+        length,
+        type_number,
+        0,
+        &mut number,
+        &mut begin,
+        &mut count,
+    );
+    if status == OK {
+        parts.next = begin - 4;
+        parts.end = offset + length as usize;
+    }
+    status
+}
+
+/// Returns the part at the cursor, as `dns_rdata_part` returns it, and moves the cursor to the next one. After the last part it
+/// returns `ABSENT`. The message is the one with which the cursor began. Each call takes the same time. Does not allocate.
+#[unsafe(no_mangle)]
+pub extern "C" fn dns_rdata_parts_next(
+    message: &[u8],
+    parts: &mut PartsCursor,
+    number: &mut u16,
+    begin: &mut usize,
+    count: &mut usize,
+) -> u32
+    // Of a cursor before part number i: that part, and the cursor is before the next one.
+    ensures ok { result ≡ OK → (p : ℕ) → (n : ℕ) → (t : RecordTypeValue) → (i : ℕ) → IsBefore message.now p n t i parts.old
+        → HasPart message.now p n t i number.new begin.new count.new × IsBefore message.now p n t (i + 1) parts.new }
+    ensures absent { result ≡ ABSENT → (p : ℕ) → (n : ℕ) → (t : RecordTypeValue) → (i : ℕ) → IsBefore message.now p n t i parts.old
+        → LacksPart message.now p n t i }
+    ensures status { (result ≡ OK) ⊎ (result ≡ ABSENT) }
+    // Whatever the cursor was, the part is in the message.
+    ensures within { result ≡ OK → begin.new + count.new ≤ size message.now }
+    ensures unmoved { result ≡ ABSENT → parts.new ≡ parts.old }
+    ensures untold { result ≡ ABSENT → (number.new ≡ number.old) × (begin.new ≡ begin.old) × (count.new ≡ count.old) }
+{
+    if parts.end > message.len() {
+        return ABSENT;
+    }
+    let Some(part) = part_at(&message[..parts.end], parts.next) else {
+        return ABSENT;
+    };
+    *number = part.number;
+    *begin = part.begin;
+    *count = part.count;
+    parts.next = part.begin + part.count;
+    OK
 }

@@ -7,91 +7,62 @@ use dns_rdata::{DecodeError, ParseError};
 
 /// The call did what was asked.
 pub const OK: u32 = 0;
-
 /// Memory ran out.
 pub const MEMORY: u32 = 1;
-
 /// The buffer is too small, and the count tells how many octets there are.
 pub const BUFFER: u32 = 2;
-
 /// The octets are more than 65535.
 pub const TOO_LONG: u32 = 3;
-
 /// The data has no text.
 pub const NO_TEXT: u32 = 4;
-
 /// The value of a text has no octets: a string in it is too long, or the like.
 pub const UNFIT: u32 = 5;
-
 /// The octets of the origin are no name.
 pub const ORIGIN: u32 = 6;
-
 /// The text is not UTF-8.
 pub const NOT_UTF8: u32 = 7;
-
 /// The text gives a value whose octets are not read as data of the type.
 pub const UNREAD: u32 = 8;
-
 /// There is no name, option or parameter of this number.
 pub const ABSENT: u32 = 9;
-
 /// From this number on, octets are no data of the type.
 pub const REFUSED: u32 = 16;
-
 /// Octets are missing at the end of the message.
 pub const MISSING_OCTETS: u32 = 16;
-
 /// Other than `len` octets were taken, or a part of the data has a length that it cannot have.
 pub const LENGTH: u32 = 17;
-
 /// No data is read of this type: ANY, AXFR and IXFR.
 pub const NEVER: u32 = 18;
-
 /// The text is the name of no type.
 pub const NO_TYPE: u32 = 19;
-
 /// A damaged domain name (RFC 1035, 3.1 and 4.1.4).
 pub const NAME: u32 = 20;
-
 /// A damaged bitmap of types (RFC 4034, 4.1.2).
 pub const BITMAP: u32 = 21;
-
 /// A tag that is not 1 to 15 letters and digits (RFC 6844, section 3).
 pub const CAA_TAG: u32 = 22;
-
 /// A flag that is no letter and no digit (RFC 3403, 4.1).
 pub const NAPTR_FLAGS: u32 = 23;
-
 /// Flags that are not known (RFC 7477, 2.1.1.2).
 pub const CSYNC_FLAGS: u32 = 24;
-
 /// A family of addresses other than those of IPv4 and IPv6 (RFC 7871, 6).
 pub const ADDRESS_FAMILY: u32 = 25;
-
 /// A service parameter without the value that it must have (RFC 9460, 7).
 pub const MISSING_VALUE: u32 = 26;
-
 /// Keys of service parameters that do not rise (RFC 9460, 2.2).
 pub const PARAMETER_ORDER: u32 = 27;
-
 /// Octets that must be UTF-8, and are not.
 pub const UTF8: u32 = 28;
-
 /// From this number on, a text is of no data of the type.
 pub const NO_DATA_TEXT: u32 = 48;
-
 /// A token is missing.
 pub const MISSING_WORD: u32 = 48;
-
 /// A token, or the text as a whole, is wrong.
 pub const WRONG_WORD: u32 = 49;
-
 /// No text is read of this type.
 pub const UNSUPPORTED_TYPE: u32 = 50;
-
 /// A token is no address.
 pub const WRONG_ADDRESS: u32 = 51;
-
 /// A name or a value in the text is wrong.
 pub const WRONG_VALUE: u32 = 52;
 

@@ -40,9 +40,8 @@ pub extern "C" fn dns_rdata_type_number(text: &[u8], type_number: &mut u16) -> u
     ensures status { (result ≡ OK) ⊎ (result ≡ NOT_UTF8) ⊎ (result ≡ NO_TYPE) }
     ensures untold { result ≢ OK → type_number.new ≡ type_number.old }
 {
-    let text = match str::from_utf8(text) {
-        Ok(text) => text,
-        Err(_) => return NOT_UTF8,
+    let Ok(text) = str::from_utf8(text) else {
+        return NOT_UTF8;
     };
     match text.parse::<RecordType>() {
         Err(_) => NO_TYPE,

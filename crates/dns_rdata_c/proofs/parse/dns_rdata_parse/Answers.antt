@@ -1,7 +1,5 @@
 use Rattle.std.proofs.Common.{inl, inr, arith}
-use Rattle.dns_types.specs.RecordTypes.{record_type_of}
-use Rattle.dns_rdata_c.specs.Calls.{HasZoneData, PutsWire}
-use Rattle.dns_rdata_c.proofs.{TlvWalks.slice_octets, ZoneReads.own_data, ZoneReads.put_again, ZoneReads.never_refused}
+use Rattle.dns_rdata_c.proofs.ZoneReads.{own_data, put_again, never_refused}
 use Rattle.dns_rdata_c.proofs.parse.dns_rdata_parse.Goals as goal
 
 pub returns-in-Err-read_zone_text-clause-never : goal.returns-in-Err-read_zone_text-clause-never
@@ -11,26 +9,9 @@ returns-in-Err-read_zone_text-clause-never c = λ high. elim c.in-Err-read_zone_
 ]
 
 pub returns-clause-reads : goal.returns-clause-reads
-returns-clause-reads c = λ ok.
-    let out = c.put_wire.new.out in
-    let given : HasZoneData c.args.origin.now (record_type_of c.args.type_number) c.args.text.now (λ v. PutsWire v c.args.out.now out c.put_wire.new.count) =
-    record {
-      origin = c.in-Ok.origin;
-      is_origin = c.in-Ok.ensures.found;
-      value = c.in-Ok-read_zone_text.value;
-      gives = rw (c.as_ref.ensures.value, c.from.ensures.0) at c.in-Ok-read_zone_text.ensures.found;
-      holds = c.put_wire.ensures.ok ok;
-    } in
-    own_data _ _ _ _ _ _ (slice_octets out c.type_inv.out) given
+returns-clause-reads c = λ ok. own_data c.type_inv.out
+    (c.in-Ok.origin, c.in-Ok.ensures.found, rw (c.as_ref.ensures.value, c.from.ensures.0) at c.in-Ok-read_zone_text.ensures.found) (c.put_wire.ensures.ok ok)
 
 pub returns-clause-again : goal.returns-clause-again
-returns-clause-again c = λ ok.
-    let given : HasZoneData c.args.origin.now (record_type_of c.args.type_number) c.args.text.now (λ v. PutsWire v c.args.out.now c.put_wire.new.out c.put_wire.new.count) =
-    record {
-      origin = c.in-Ok.origin;
-      is_origin = c.in-Ok.ensures.found;
-      value = c.in-Ok-read_zone_text.value;
-      gives = rw (c.as_ref.ensures.value, c.from.ensures.0) at c.in-Ok-read_zone_text.ensures.found;
-      holds = c.put_wire.ensures.ok ok;
-    } in
-    put_again _ _ _ _ _ _ given
+returns-clause-again c = λ ok. put_again
+    (c.in-Ok.origin, c.in-Ok.ensures.found, rw (c.as_ref.ensures.value, c.from.ensures.0) at c.in-Ok-read_zone_text.ensures.found) (c.put_wire.ensures.ok ok)

@@ -1,22 +1,21 @@
-use Rattle.std.proofs.Common.{ℕ, ◌-◌, take, drop, subst, sym, ap, length, arith}
-use Rattle.std.proofs.lemmas.List.{length-drop, length-append, take_rest}
+use Rattle.std.proofs.Common.{◌≡◌, ◌-◌, ℕ, List, take, drop, length, subst, sym, inl, arith}
+use Rattle.std.proofs.lemmas.List.{length-drop, take_rest}
 use Rattle.dns_fields.specs.Tlvs.{IsTruncated}
-use Rattle.dns_rdata_c.proofs.PartWalks.{damaged, tlv_room}
+use Rattle.dns_rdata_c.proofs.PartOctets.{parts_fill, damaged}
 use Rattle.dns_rdata_c.proofs.parts.find_part.Goals as goal
 
-pub returns-then-end-rest-clause-damaged : goal.returns-then-end-rest-clause-damaged
-returns-then-end-rest-clause-damaged c = λ is.
-    let begin = c.in-Some.ensures in
+pub returns-then-end-octets-clause-damaged : goal.returns-then-end-octets-clause-damaged
+returns-then-end-octets-clause-damaged c = λ is.
     let s = c.args.octets.now in
-    let n = c.in-Some.front in
-    let end = c.count_tlvs-parts.result.1 in
-    let r = take (length s - n) (drop n s) in
-    let stub = take (length r - end) (drop end r) in
-    damaged c.args.record_type s begin.0 begin.1 r stub n _ end begin.2 begin.3 begin.4 (take_rest s n) c.count_tlvs-parts.ensures (omega (arith, c.if-end-rest.true))
-    (take_rest r end) (λ opt. subst (λ (k : ℕ). ¬ (IsTruncated k stub)) (sym c.requires) (c.stub_status.ensures.damaged is opt))
+    let end = c.parts_end-end.result in
+    let size : length (drop c.args.offset s) ≡ c.args.length = omega (arith, c.requires, length-drop c.args.offset s) in
+    damaged c.args.record_type s c.args.offset c.in-Some.first end c.in-Some.ensures.1 c.parts_end-end.ensures.parts c.parts_end-end.ensures.none c.if-end-octets.true (λ opt cut.
+    c.stub_status.ensures.damaged is opt (subst (λ (k : ℕ). IsTruncated k (take (length s - end) (drop end s))) size
+    (subst (λ (o : List ℕ). IsTruncated (length (drop c.args.offset s)) o) (sym (take_rest s end)) cut)))
 
-pub overflow_add-result : goal.overflow_add-result
-overflow_add-result c =
-    let begin = c.in-Some.ensures in
-    let s = c.args.octets.now in
-    omega (arith, tlv_room _ _ _ _ _ c.tlv_of-tlv.ensures, ap length (take_rest s c.in-Some.front), length-drop c.in-Some.front s, begin.4, ap length begin.3, length-append begin.0 begin.1)
+pub returns-in-None-clause-absent : goal.returns-in-None-clause-absent
+returns-in-None-clause-absent c = λ is. inl (c.in-None.ensures _ _ (parts_fill c.in-Some.ensures.1 c.parts_end-end.ensures.parts c.if-end-octets.false))
+
+pub returns-in-Some-nth_part-clause-found : goal.returns-in-Some-nth_part-clause-found
+returns-in-Some-nth_part-clause-found c =
+    c.in-Some-nth_part.ensures _ _ (parts_fill c.in-Some.ensures.1 c.parts_end-end.ensures.parts c.if-end-octets.false)

@@ -1,19 +1,20 @@
-use Rattle.std.proofs.Common.{◌<◌, arith, length}
-use Rattle.dns_rdata.specs.WholeOctets.{whole_data}
-use Rattle.dns_rdata_c.specs.Calls.{PutsWire, LacksRoomForWire}
-use Rattle.dns_rdata_c.proofs.ViewCalls.{has_data}
+use Rattle.std.proofs.Common.{arith}
+use Rattle.dns_rdata_c.proofs.ViewCalls.{has_data, is_put, too_many}
 use Rattle.dns_rdata_c.proofs.wire.dns_rdata_wire.Goals as goal
 
-pub returns-in-Ok-clause-ok : goal.returns-in-Ok-clause-ok
-returns-in-Ok-clause-ok c = λ ok. has_data (λ v. PutsWire v c.args.out.now c.put_whole.new.out c.put_whole.new.count) c.in-Ok.ensures.found (λ v f.
-    let p = c.put_whole.ensures.told _ _ _ _ v c.in-Ok.ensures.found f in
-    record { short = p.short (λ z. absurd (omega (arith, ok, z))); put = p.ok ok })
+pub returns-then-status-ne-OK-clause-buffer : goal.returns-then-status-ne-OK-clause-buffer
+returns-then-status-ne-OK-clause-buffer c = λ full. has_data _ c.in-Ok.ensures.found (λ v f.
+    let told = c.told-status.ensures.buffer full in
+    let e = c.whole_len.ensures _ _ _ _ v c.in-Ok.ensures.found f in
+    record { short = omega (arith, e, told.1); too_many = too_many e told.0 told.2 })
 
-pub returns-in-Ok-clause-buffer : goal.returns-in-Ok-clause-buffer
-returns-in-Ok-clause-buffer c = λ full. has_data (λ v. LacksRoomForWire v c.args.out.now c.put_whole.new.out c.put_whole.new.count) c.in-Ok.ensures.found (λ v f.
-    let p = c.put_whole.ensures.told _ _ _ _ v c.in-Ok.ensures.found f in
-    record { short = p.short (λ z. absurd (omega (arith, full, z))); too_many = p.buffer full })
+pub returns-then-status-ne-OK-clause-too_long : goal.returns-then-status-ne-OK-clause-too_long
+returns-then-status-ne-OK-clause-too_long c = λ long. has_data _ c.in-Ok.ensures.found (λ v f.
+    omega (arith, c.told-status.ensures.too_long long, c.whole_len.ensures _ _ _ _ v c.in-Ok.ensures.found f))
 
-pub returns-in-Ok-clause-too_long : goal.returns-in-Ok-clause-too_long
-returns-in-Ok-clause-too_long c = λ long. has_data (λ v. 65535 < length (whole_data v)) c.in-Ok.ensures.found (λ v f.
-    (c.put_whole.ensures.told _ _ _ _ v c.in-Ok.ensures.found f).too_long long)
+pub returns-clause-ok : goal.returns-clause-ok
+returns-clause-ok c = λ ok. has_data _ c.in-Ok.ensures.found (λ v f.
+    let told = c.told-status.ensures.ok c.if-status-ne-OK.false in
+    let e = c.whole_len.ensures _ _ _ _ v c.in-Ok.ensures.found f in
+    let p = c.put_whole-len.ensures _ _ _ _ v c.in-Ok.ensures.found f in
+    record { short = omega (arith, e, told.1); put = is_put p (omega (arith, e, p.ends, told.0)) (omega (arith, e, p.ends, told.2)) })
