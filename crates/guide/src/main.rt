@@ -14,6 +14,7 @@ mod record_data;
 mod response;
 mod sets;
 mod targets;
+mod views;
 mod zone;
 mod zone_files;
 
@@ -21,6 +22,7 @@ use anyhow::Result;
 
 fn main(rt: HostRuntime) -> Result<()> {
     response::main(&rt)?;
+    views::main(&rt)?;
     targets::main(&rt)?;
     edns::main(&rt)?;
     sets::main(&rt)?;
