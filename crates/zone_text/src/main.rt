@@ -214,31 +214,53 @@ fn write_line<W: Write>(
     }
 }
 
+// Writes the results of all lines, and returns whether one is rejected.
+fn write_lines<R: BufRead + Drop, W: Write>(
+    alloc: Global,
+    mode: Mode,
+    origin: Option<&Name>,
+    reader: R,
+    out: &mut W,
+) -> Result<bool> {
+    let mut some_refused = false;
+    for line in reader.split(alloc, b'\n') {
+        let line = line?;
+        let is_refused = write_line(alloc, mode, line.as_slice(), origin, out)?;
+        some_refused = some_refused || is_refused;
+    }
+    Ok(some_refused)
+}
+
+// The origin that a word names.
+fn origin_of(alloc: Global, word: Option<&str>) -> Result<Option<Name>> {
+    match word {
+        Some(name) => Ok(Some(Name::from_ascii(alloc, name)?)),
+        None => Ok(None),
+    }
+}
+
 fn main(rt: HostRuntime) -> Result<ExitCode> {
     let alloc = rt.alloc();
     let mut words = std::env::args(&rt)?.skip(1);
-    let first = words.next();
-    let Some(mode) = mode_of(first.as_ref().map(|word| word.as_str())) else {
+    let (first, second, surplus) = (words.next(), words.next(), words.next());
+    let mode = match surplus {
+        None => mode_of(first.as_ref().map(|word| word.as_str())),
+        Some(_) => None,
+    };
+    let Some(mode) = mode else {
         eprintln!(rt; "{USAGE}")?;
         return Ok(ExitCode::from(2));
     };
-    let second = words.next();
+    let word = second.as_ref().map(|word| word.as_str());
     let mut out = BufWriter::new(alloc, std::io::writer(&rt))?;
-    let mut some_refused = false;
-    let origin = match (mode, &second) {
-        (Mode::Message, Some(digits)) => {
-            some_refused = write_message(alloc, digits.as_bytes(), &mut out)?;
-            out.flush()?;
-            return Ok(ExitCode::from(some_refused as u8));
-        }
-        (_, Some(name)) => Some(Name::from_ascii(alloc, name.as_str())?),
-        (_, None) => None,
-    };
-    for line in BufReader::new(alloc, rt.reader())?.split(alloc, b'\n') {
-        let line = line?;
-        let is_refused = write_line(alloc, mode, line.as_slice(), origin.as_ref(), &mut out)?;
-        some_refused = some_refused || is_refused;
+    if let (Mode::Message, Some(digits)) = (mode, word) {
+        let is_refused = write_message(alloc, digits.as_bytes(), &mut out)?;
+        out.flush()?;
+        return Ok(ExitCode::from(is_refused as u8));
     }
+    let origin = origin_of(alloc, word)?;
+    let reader = BufReader::new(alloc, rt.reader())?;
+    let some_refused = write_lines(alloc, mode, origin.as_ref(), reader, &mut out)?;
     out.flush()?;
     if some_refused {
         bail!("some lines were refused");

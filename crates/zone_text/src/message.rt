@@ -32,11 +32,7 @@ fn octets_of(alloc: Global, digits: &[u8]) -> Result<Option<Vec<u8>>> {
 
 // Writes the line of the header.
 fn write_header<W: Write>(header: &Header, out: &mut W) -> Result<()> {
-    let (id, opcode, rcode) = (
-        header.id,
-        Opcode(header.opcode),
-        ResponseCode(header.rcode),
-    );
+    let (id, opcode, rcode) = (header.id, Opcode(header.opcode), ResponseCode(header.rcode));
     write!(out, "; id {id}; opcode {opcode}; rcode {rcode}; flags:")?;
     write_flags(header, out)?;
     let (questions, answers) = (header.question_count, header.answer_count);
@@ -137,11 +133,7 @@ fn enter<W: Write>(old: Section, new: Section, out: &mut W) -> Result<Section> {
 }
 
 // Writes all records, and returns whether one is rejected.
-fn write_records<W: Write>(
-    alloc: Global,
-    records: &mut Records<'_>,
-    out: &mut W,
-) -> Result<bool> {
+fn write_records<W: Write>(alloc: Global, records: &mut Records<'_>, out: &mut W) -> Result<bool> {
     let mut section = Section::Question;
     let mut some_refused = false;
     for item in records {
