@@ -2,8 +2,9 @@
 
 Of each run the requests are counted (tests/requests.c). Then the Nth and every later one is refused, for each N: `rdata` must
 print `memory` alone, with status 3, and `zone_text` nothing, with status 1. And the Nth alone is refused: the answer is the
-same, or, where the program asks again for less and gets that, the full one. `zone_text` is run on the stored texts and on the
-records that it prints in the gate, with the requests refused from the Nth on. The last line is 'N as wanted, M not'.
+same, or, where the program asks again for less and gets that, the full one. `zone_text` is run on the stored texts, on the
+records that it prints in the gate, and on the messages of tests/messages, with the requests refused from the Nth on. The last
+line is 'N as wanted, M not'.
 
 The arguments are the two programs and the counter of requests.
 """
@@ -16,6 +17,7 @@ import sys
 import tempfile
 
 from damaged import stored_rows
+from messages import FOLDER as MESSAGES
 from zone_texts import CRATE, ORIGIN, stored_texts
 
 MEMORY = (b"memory\n", 3)
@@ -75,11 +77,13 @@ def runs_of_rdata(program, counter):
 
 
 def runs_of_zone_text(program, counter):
-    """A run for each stored text, and for each record whose text is stored."""
+    """A run for each stored text, for each record whose text is stored, and for each stored message."""
     for number, text, _ in stored_texts():
         yield counter, ([program, "read", ORIGIN], f"{number} {text}\n".encode()), ("of zone texts",), NOTHING, None
     for line in (CRATE / "stdin").read_bytes().splitlines(keepends=True):
         yield counter, ([program], line), ("of zone texts",), NOTHING, None
+    for path in sorted(MESSAGES.glob("*.hex")):
+        yield counter, ([program, "message"], path.read_bytes()), ("of zone texts",), NOTHING, None
 
 
 def main(program, zone_text, counter):
