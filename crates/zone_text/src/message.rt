@@ -3,7 +3,7 @@
 use crate::names::{Class, Flag, Opcode, ResponseCode, Type};
 use anyhow::{Result, bail};
 use dns_message::{Header, MessageRef, QuestionRef, RecordError, RecordRef, Records, Section};
-use dns_rdata::{RDataRef, Tlvs};
+use dns_rdata::{RDataRef, Tlv};
 use dns_rdata_zone::{ZoneName, ZoneText};
 use held_data::Held;
 use hex::FromHexError;
@@ -68,13 +68,20 @@ fn write_question<W: Write>(alloc: Global, question: &QuestionRef<'_>, out: &mut
     Ok(())
 }
 
-// Writes the options of EDNS, each as its code and its octets.
-fn write_options<W: Write>(alloc: Global, options: Tlvs<'_>, out: &mut W) -> Result<()> {
-    let mut before = ", options";
-    for option in options {
-        let digits = hex::encode(alloc, option.octets)?;
-        write!(out, "{before} {}:{digits}", option.number)?;
-        before = "";
+// Writes an option of EDNS: its code and its octets.
+fn write_option<W: Write>(alloc: Global, option: &Tlv<'_>, out: &mut W) -> Result<()> {
+    let digits = hex::encode(alloc, option.octets)?;
+    write!(out, " {}:{digits}", option.number)?;
+    Ok(())
+}
+
+// Writes the options of EDNS, if there are some.
+fn write_options<W: Write>(alloc: Global, view: &RDataRef<'_>, out: &mut W) -> Result<()> {
+    if view.options().next().is_some() {
+        out.write_all(b", options")?;
+    }
+    for option in view.options() {
+        write_option(alloc, &option, out)?;
     }
     Ok(())
 }
@@ -94,7 +101,7 @@ fn write_edns<W: Write>(alloc: Global, record: &RecordRef<'_>, out: &mut W) -> R
         write!(out, ", z {}", edns.reserved)?;
     }
     if let Some(view) = record.rdata {
-        write_options(alloc, view.options(), out)?;
+        write_options(alloc, &view, out)?;
     }
     out.write_all(b"\n")?;
     Ok(true)
