@@ -2,9 +2,9 @@
 
 Of each run the requests are counted (tests/requests.c). Then the Nth and every later one is refused, for each N: `rdata` must
 print `memory` alone, with status 3, and `zone_text` nothing, with status 1; `zone_text message` at most the beginning of its
-result. And the Nth alone is refused: the answer is the same, or, where the program asks again for less and gets that, the full one. `zone_text` is run on the stored texts, on the
-records that it prints in the gate, and on the messages of tests/messages, with the requests refused from the Nth on. The last
-line is 'N as wanted, M not'.
+result. And the Nth alone is refused: the answer is the same, or, where the program asks again for less and gets that, the full
+one. `zone_text` is run on the stored texts, on the records that it prints in the gate, and on the messages of tests/messages,
+with the requests refused from the Nth on. The last line is 'N as wanted, M not'.
 
 The arguments are the two programs and the counter of requests.
 """
