@@ -8,6 +8,7 @@ the octets that are emitted (with names still as names) and the text. It raises 
 """
 
 import base64
+import collections
 import ipaddress
 
 
@@ -467,20 +468,79 @@ def type_number(word):
     return int(digits) if digits.isascii() and digits.isdigit() and int(digits) < 65536 else None
 
 
+def fields(kind, message, place, length):
+    """The fields of data of a type, its text, and whether its names are written with pointers. None where it is refused."""
+    try:
+        if kind in NEVER_READ:
+            return None
+        window = Window(message, place, length)
+        _, _, recognize, pointed = ROWS.get(kind, (kind, "", any_octets, False))
+        parts, text = recognize(window)
+    except NoData:
+        return None
+    return None if window.left() else (parts, text, pointed)
+
+
 def read(kind, message, place, length):
     """What the program prints of data of a type: canonical octets, emitted octets and text. None where it is refused.
 
     Emitted octets are None where there is no room for them, and a text is None where this table gives none.
     """
+    found = fields(kind, message, place, length)
+    if found is None:
+        return None
+    parts, text, pointed = found
+    is_opt = kind == NUMBERS["OPT"]
+    text = "none" if is_opt else text
+    return canonical(sorted(parts) if is_opt else parts), emitted(parts, pointed), text
+
+
+# Messages (RFC 1035, 4.1). A class of a record without data (RFC 2136, 2.4 and 2.5).
+SECTIONS = "question answer authority additional".split()
+NO_DATA_CLASSES = (254, 255)
+
+# A question or a record: its section, index and offset; the labels of its name, its type and class; of a record the TTL, where
+# the RDATA is and RDLENGTH. `fault` is why it is refused, as the program prints it, or "RDATA"; `has_data` is False for a
+# record without data.
+Entry = collections.namedtuple(
+    "Entry",
+    "section index offset fault labels kind of ttl place length has_data",
+    defaults=[None, None, None, None, None, None, None, True],
+)
+
+
+def entry_at(message, section, index, offset):
+    """The question or record at an offset, and where it ends; None for the end where the walk cannot go on."""
+    head = (section, index, offset)
     try:
-        if kind in NEVER_READ:
-            return None
-        window = Window(message, place, length)
-        _, name, recognize, pointed = ROWS.get(kind, (kind, "", any_octets, False))
-        parts, text = recognize(window)
+        labels, at = name_at(message, offset)
     except NoData:
-        return None
-    if window.left():
-        return None
-    text = "none" if name == "OPT" else text
-    return canonical(sorted(parts) if name == "OPT" else parts), emitted(parts, pointed), text
+        return Entry(*head, "invalid domain name"), None
+    is_question = section == "question"
+    if len(message) - at < (4 if is_question else 10):
+        return Entry(*head, "unexpected end of the message"), None
+    kind, of = number(message[at : at + 2]), number(message[at + 2 : at + 4])
+    if is_question:
+        return Entry(*head, None, labels, kind, of), at + 4
+    ttl, length, place = number(message[at + 4 : at + 8]), number(message[at + 8 : at + 10]), at + 10
+    left = len(message) - place
+    if left < length:
+        return Entry(*head, f"RDLENGTH is {length}, and {left} octets are left"), None
+    has_data = length > 0 or kind == NUMBERS["OPT"] or of not in NO_DATA_CLASSES
+    fault = "RDATA" if has_data and fields(kind, message, place, length) is None else None
+    return Entry(*head, fault, labels, kind, of, ttl, place, length, has_data), place + length
+
+
+def entries(message):
+    """The questions and records of a message in their order, and the octets after the last one.
+
+    The octets are None if the walk ends before: an entry is refused, and not for its RDATA. The message has a whole header.
+    """
+    found, offset = [], 12
+    for i, section in enumerate(SECTIONS):
+        for index in range(number(message[4 + 2 * i : 6 + 2 * i])):
+            entry, offset = entry_at(message, section, index, offset)
+            found.append(entry)
+            if offset is None:
+                return found, None
+    return found, message[offset:]

@@ -1,9 +1,10 @@
 """Runs programs with each request for memory refused: `rdata` on the words of all replayed runs, and `zone_text` on lines.
 
 Of each run the requests are counted (tests/requests.c). Then the Nth and every later one is refused, for each N: `rdata` must
-print `memory` alone, with status 3, and `zone_text` nothing, with status 1. And the Nth alone is refused: the answer is the
-same, or, where the program asks again for less and gets that, the full one. `zone_text` is run on the stored texts and on the
-records that it prints in the gate, with the requests refused from the Nth on. The last line is 'N as wanted, M not'.
+print `memory` alone, with status 3, and `zone_text` nothing, with status 1; `zone_text message` at most the beginning of its
+result. And the Nth alone is refused: the answer is the same, or, where the program asks again for less and gets that, the full
+one. `zone_text` is run on the stored texts, on the records that it prints in the gate, and on the messages of tests/messages,
+with the requests refused from the Nth on. The last line is 'N as wanted, M not'.
 
 The arguments are the two programs and the counter of requests.
 """
@@ -16,6 +17,7 @@ import sys
 import tempfile
 
 from damaged import stored_rows
+from messages import FOLDER as MESSAGES
 from zone_texts import CRATE, ORIGIN, stored_texts
 
 MEMORY = (b"memory\n", 3)
@@ -23,6 +25,8 @@ MEMORY = (b"memory\n", 3)
 REFUSED = b"refused\n"
 # `zone_text` gives no answer.
 NOTHING = (b"", 1)
+# `zone_text message` may have written the beginning of its result.
+BEGUN = "begun"
 # How many runs of one command and type have each of their requests refused alone.
 ALONE = 40
 
@@ -58,7 +62,8 @@ def refusals(counter, run, kinds, refused, wanted):
         for number in range(1, count + 2):
             name = "REQUESTS_ALONE" if kind == "alone" else "REQUESTS_REFUSE"
             came = answer(run, LD_PRELOAD=counter, **{name: str(number)})
-            if came == (refused if number <= count else full) or kind == "alone" and came == full:
+            is_begun = refused == BEGUN and came[1] == 1 and came[0] != full[0] and full[0].startswith(came[0])
+            if came == (refused if number <= count else full) or kind == "alone" and came == full or number <= count and is_begun:
                 good[kind] += 1
             else:
                 bad.append(f"request {number} of {count} refused ({kind}) of {run}: {came}")
@@ -75,11 +80,13 @@ def runs_of_rdata(program, counter):
 
 
 def runs_of_zone_text(program, counter):
-    """A run for each stored text, and for each record whose text is stored."""
+    """A run for each stored text, for each record whose text is stored, and for each stored message."""
     for number, text, _ in stored_texts():
         yield counter, ([program, "read", ORIGIN], f"{number} {text}\n".encode()), ("of zone texts",), NOTHING, None
     for line in (CRATE / "stdin").read_bytes().splitlines(keepends=True):
         yield counter, ([program], line), ("of zone texts",), NOTHING, None
+    for path in sorted(MESSAGES.glob("*.hex")):
+        yield counter, ([program, "message"], path.read_bytes()), ("of zone texts",), BEGUN, None
 
 
 def main(program, zone_text, counter):

@@ -60,13 +60,19 @@ LINES = [
 ]
 
 
-def answers(lines, words):
-    """What the program prints for the lines, called with these words, and its exit status."""
+def built_program():
+    """The built program if it is up to date, else None."""
     built = CRATE / "out/zone_text"
     check = '. tests/build.sh; is_built "$1" zone_text'
     environment = {**os.environ, "top": str(TOP)}
     is_built = subprocess.run(["bash", "-c", check, "-", str(built)], cwd=TOP, env=environment).returncode == 0
-    command = [str(built), *words] if is_built else ["rt", "try", "--", *words]
+    return str(built) if is_built else None
+
+
+def answers(lines, words):
+    """What the program prints for the lines, called with these words, and its exit status."""
+    built = built_program()
+    command = [built, *words] if built else ["rt", "try", "--", *words]
     source = b"".join(line + b"\n" for line in lines)
     asked = subprocess.run(command, cwd=CRATE, input=source, stdout=subprocess.PIPE, stderr=subprocess.PIPE)
     return asked.stdout.decode().split("\n")[:-1], asked.returncode

@@ -7,23 +7,34 @@
 //! - `read`: a line is `TYPE TEXT`, with blanks or tabs between the two. TEXT is octets and need not be UTF-8. Its result
 //!   is the octets of the RDATA in hexadecimal digits, names uncompressed and with case preserved, or `-` for none.
 //! - `read ORIGIN`: the same, and relative names are completed with this origin.
+//! - `message`: a line is a whole message in hexadecimal digits. Its result is the records, as lines of a zone file, and
+//!   the rest of the message as comments. A blank line follows.
+//! - `message OCTETS`: the same for this message, without the blank line. Standard input is not read.
 //!
 //! TYPE is the name of a type in either case, its number, or `TYPE` and its number.
 //!
 //! A line that cannot be used has the result `refused: ` and the reason, and the next line follows. If one token of
 //! TEXT is at fault, `, at octet ` and the offset in the line at which this token starts follow the reason. At the end
-//! of the input the exit status is 1 if some line was rejected, and 0 otherwise. Only if memory runs out, or if standard
-//! input or output fails, the program ends earlier: with status 1, and without a result for the line.
+//! of the input the exit status is 1 if some line was rejected, and 0 otherwise. Of a message that is so if some record
+//! or question was. Only if memory runs out, or if standard input or output fails, the program ends earlier: with status
+//! 1, and without a result for the line. Other words end it with status 2.
 #![tactic(auto)]
+
+mod message;
+mod names;
 
 use anyhow::{Result, bail};
 use dns_rdata::{BinDecoder, BinEncoder, DecodeError, Name, ParseError, RecordType};
 use dns_rdata_zone::{ZoneText, from_zone_text, token_at_fault, type_named};
 use held_data::Held;
 use hex::FromHexError;
+use message::write_message;
 use std::alloc::Global;
 use std::io::{BufRead, BufReader, BufWriter, Write};
+use std::process::ExitCode;
 use std::str;
+
+const USAGE: &str = "usage: zone_text [read [ORIGIN] | message [OCTETS]]";
 
 const NO_TYPE: &str = "no record type";
 
@@ -166,32 +177,93 @@ fn write_octets<W: Write>(
     Ok(false)
 }
 
-fn main(rt: HostRuntime) -> Result<()> {
-    let alloc = rt.alloc();
-    let mut words = std::env::args(&rt)?.skip(1);
-    let is_reading = match words.next() {
-        None => false,
-        Some(word) if word.as_str() == "read" => true,
-        Some(_) => bail!("usage: zone_text [read [ORIGIN]]"),
-    };
-    let origin = match words.next() {
-        Some(name) => Some(Name::from_ascii(alloc, name.as_str())?),
-        None => None,
-    };
-    let mut out = BufWriter::new(alloc, std::io::writer(&rt))?;
+// What is done with a line of standard input.
+#[derive(Clone, Copy)]
+enum Mode {
+    Print,
+    Read,
+    Message,
+}
+
+// The mode that the first word asks for.
+fn mode_of(word: Option<&str>) -> Option<Mode> {
+    match word {
+        None => Some(Mode::Print),
+        Some("read") => Some(Mode::Read),
+        Some("message") => Some(Mode::Message),
+        Some(_) => None,
+    }
+}
+
+// Writes the result of a line, and returns whether it is rejected.
+fn write_line<W: Write>(
+    alloc: Global,
+    mode: Mode,
+    line: &[u8],
+    origin: Option<&Name>,
+    out: &mut W,
+) -> Result<bool> {
+    match mode {
+        Mode::Print => write_text(alloc, line, out),
+        Mode::Read => write_octets(alloc, line, origin, out),
+        Mode::Message => {
+            let is_refused = write_message(alloc, line, out)?;
+            out.write_all(b"\n")?;
+            Ok(is_refused)
+        }
+    }
+}
+
+// Writes the results of all lines, and returns whether one is rejected.
+fn write_lines<R: BufRead + Drop, W: Write>(
+    alloc: Global,
+    mode: Mode,
+    origin: Option<&Name>,
+    reader: R,
+    out: &mut W,
+) -> Result<bool> {
     let mut some_refused = false;
-    for line in BufReader::new(alloc, rt.reader())?.split(alloc, b'\n') {
+    for line in reader.split(alloc, b'\n') {
         let line = line?;
-        let is_refused = if is_reading {
-            write_octets(alloc, line.as_slice(), origin.as_ref(), &mut out)?
-        } else {
-            write_text(alloc, line.as_slice(), &mut out)?
-        };
+        let is_refused = write_line(alloc, mode, line.as_slice(), origin, out)?;
         some_refused = some_refused || is_refused;
     }
+    Ok(some_refused)
+}
+
+// The origin that a word names.
+fn origin_of(alloc: Global, word: Option<&str>) -> Result<Option<Name>> {
+    match word {
+        Some(name) => Ok(Some(Name::from_ascii(alloc, name)?)),
+        None => Ok(None),
+    }
+}
+
+fn main(rt: HostRuntime) -> Result<ExitCode> {
+    let alloc = rt.alloc();
+    let mut words = std::env::args(&rt)?.skip(1);
+    let (first, second, surplus) = (words.next(), words.next(), words.next());
+    let mode = match surplus {
+        None => mode_of(first.as_ref().map(|word| word.as_str())),
+        Some(_) => None,
+    };
+    let Some(mode) = mode else {
+        eprintln!(rt; "{USAGE}")?;
+        return Ok(ExitCode::from(2));
+    };
+    let word = second.as_ref().map(|word| word.as_str());
+    let mut out = BufWriter::new(alloc, std::io::writer(&rt))?;
+    if let (Mode::Message, Some(digits)) = (mode, word) {
+        let is_refused = write_message(alloc, digits.as_bytes(), &mut out)?;
+        out.flush()?;
+        return Ok(ExitCode::from(is_refused as u8));
+    }
+    let origin = origin_of(alloc, word)?;
+    let reader = BufReader::new(alloc, rt.reader())?;
+    let some_refused = write_lines(alloc, mode, origin.as_ref(), reader, &mut out)?;
     out.flush()?;
     if some_refused {
         bail!("some lines were refused");
     }
-    Ok(())
+    Ok(ExitCode::from(0))
 }

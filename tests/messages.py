@@ -1,0 +1,211 @@
+"""Prints messages with `zone_text message`, and compares the lines with stored ones and with a reference model.
+
+- The messages of tests/messages: what is printed must be the stored dump. The lines of records and questions in it are
+  dnspython's; tests/messages/make.py says how they were made.
+- Every prefix of each message, and each octet of it changed to 0, to 255 and to the next number. `entries` of
+  tests/plain_table.py walks the message: where questions and records are, and what is rejected. Lines are compared
+  as a whole, but for two: of RDATA that is rejected the reason is not, and the text of RDATA is read
+  again by `zone_text read`, which must give the uncompressed octets that the model has.
+- Lines that are no message in hexadecimal digits.
+
+The built program is asked if it is up to date, else a quick build (`rt try`), in which nothing is proved. Then the lines go
+through several runs, since `rt try` takes no more than 1 MiB of output, and the words of the program are not tried. The last
+line is 'N as wanted, M not'.
+"""
+
+import pathlib
+import subprocess
+import sys
+
+import plain_table
+import zone_texts
+
+TOP = pathlib.Path(__file__).resolve().parent.parent
+FOLDER = TOP / "tests/messages"
+OPCODES = {0: "QUERY", 1: "IQUERY", 2: "STATUS", 4: "NOTIFY", 5: "UPDATE", 6: "DSO"}
+RCODES = dict(
+    enumerate("NOERROR FORMERR SERVFAIL NXDOMAIN NOTIMP REFUSED YXDOMAIN YXRRSET NXRRSET NOTAUTH NOTZONE DSOTYPENI".split())
+)
+CLASSES = {1: "IN", 3: "CH", 4: "HS", 254: "NONE", 255: "ANY"}
+FLAGS = {15: "qr", 10: "aa", 9: "tc", 8: "rd", 7: "ra", 5: "ad", 4: "cd"}
+# What a line must be: the whole line; or its beginning, if the reason is not compared; or its beginning, and octets of RDATA.
+WHOLE, BEGINNING, RDATA = range(3)
+
+# Lines that are no whole message, and what is printed of them.
+NO_MESSAGES = [
+    (b"", "; refused: 0 octets, and the header of a message has 12"),
+    (b"-", "; refused: 0 octets, and the header of a message has 12"),
+    (b" 00 \r", "; refused: 1 octets, and the header of a message has 12"),
+    (b"000", "; refused: no hexadecimal digits of octets"),
+    (b"0g", "; refused: no hexadecimal digits of octets"),
+    (b"00 00", "; refused: no hexadecimal digits of octets"),
+    (b"\xff\xff", "; refused: no hexadecimal digits of octets"),
+]
+
+
+def name_text(labels):
+    """A name in a zone file (RFC 1035, section 5.1), fully qualified."""
+    def character(octet):
+        if chr(octet) in '"$().;@\\':
+            return "\\" + chr(octet)
+        return chr(octet) if 32 < octet < 127 else f"\\{octet:03}"
+
+    return "".join("".join(map(character, label)) + "." for label in labels) or "."
+
+
+def type_text(number):
+    """The name of a type in a zone file, or its number (RFC 3597, section 5)."""
+    return f"TYPE{number}" if number in (0, 65305) else plain_table.NAMES.get(number, f"TYPE{number}")
+
+
+def header_line(message):
+    """The line of the header."""
+    identity, flags, *counts = (plain_table.number(message[at : at + 2]) for at in range(0, 12, 2))
+    opcode, rcode = flags >> 11 & 15, flags & 15
+    words = "".join(" " + word for bit, word in FLAGS.items() if flags >> bit & 1)
+    numbers = ", ".join(f"{section} {count}" for section, count in zip(plain_table.SECTIONS, counts))
+    return f"; id {identity}; opcode {OPCODES.get(opcode, opcode)}; rcode {RCODES.get(rcode, rcode)}; flags:{words}; {numbers}"
+
+
+def options(octets):
+    """The options of an OPT record as they are encoded: none if the last one is not whole."""
+    found = []
+    while octets:
+        code, size = plain_table.number(octets[:2]), plain_table.number(octets[2:4])
+        if len(octets) < 4 + size:
+            return []
+        found.append(f"{code}:{octets[4 : 4 + size].hex()}")
+        octets = octets[4 + size :]
+    return found
+
+
+def edns_line(entry, octets):
+    """The line of an OPT record."""
+    rcode, version, is_do, z = entry.ttl >> 24, entry.ttl >> 16 & 255, entry.ttl >> 15 & 1, entry.ttl & 0x7FFF
+    line = f"; EDNS: version {version}, udp {entry.of}"
+    line += f", extended rcode {rcode}" if rcode else ""
+    line += ", do" if is_do else ""
+    line += f", z {z}" if z else ""
+    found = options(octets)
+    return line + (", options " + " ".join(found) if found else "")
+
+
+def entry_line(message, entry):
+    """What the line of a question or a record must be."""
+    if entry.fault:
+        line = f"; refused: {entry.section} {entry.index} at offset {entry.offset}: "
+        return (BEGINNING, line) if entry.fault == "RDATA" else (WHOLE, line + entry.fault)
+    of, kind = CLASSES.get(entry.of, f"CLASS{entry.of}"), type_text(entry.kind)
+    name = name_text(entry.labels)
+    if entry.section == "question":
+        return WHOLE, f"; question: {name} {of} {kind}"
+    if kind == "OPT":
+        return WHOLE, edns_line(entry, message[entry.place : entry.place + entry.length])
+    line = f"{name} {entry.ttl} {of} {kind}"
+    if not entry.has_data:
+        return WHOLE, "; no data: " + line
+    parts, _, _ = plain_table.fields(entry.kind, message, entry.place, entry.length)
+    return RDATA, line + " ", entry.kind, plain_table.emitted(parts, False)
+
+
+def wanted_lines(message):
+    """What the lines of a message must be."""
+    if len(message) < 12:
+        return [(WHOLE, f"; refused: {len(message)} octets, and the header of a message has 12")]
+    found, trailing = plain_table.entries(message)
+    lines, section = [(WHOLE, header_line(message))], "question"
+    for entry in found:
+        if entry.section != section:
+            section = entry.section
+            lines.append((WHOLE, f"; {section} section"))
+        lines.append(entry_line(message, entry))
+    return lines + ([(WHOLE, f"; trailing octets: {trailing.hex()}")] if trailing else [])
+
+
+def is_line(wanted, line, texts):
+    """Whether a line is as wanted; a text of RDATA is kept with its octets."""
+    if wanted[0] == WHOLE:
+        return line == wanted[1]
+    if wanted[0] == RDATA and line.startswith(wanted[1]):
+        texts.add((f"{wanted[2]} {line[len(wanted[1]) :]}".encode(), wanted[3].hex() or "-"))
+    return line.startswith(wanted[1]) and len(line) > len(wanted[1])
+
+
+def changed(message):
+    """Every prefix of a message, and each of its octets changed."""
+    for at in range(len(message)):
+        yield message[:at]
+        for octet in {0, 255, (message[at] + 1) % 256} - {message[at]}:
+            yield message[:at] + bytes([octet]) + message[at + 1 :]
+
+
+def dumps(lines, step):
+    """What the program prints for these lines, so many lines a run, and whether each exit status is as wanted."""
+    found, is_status_good = [], True
+    for at in range(0, len(lines), step):
+        given, status = zone_texts.answers(lines[at : at + step], ["message"])
+        parts = "\n".join([*given, ""]).split("\n\n")[:-1]
+        found += [part.split("\n") for part in parts]
+        is_status_good &= status == any(line.startswith("; refused: ") for line in given)
+    return found, is_status_good
+
+
+def words(built):
+    """Whether the built program takes a message as a word, and has status 2 for other words."""
+    bad = []
+    for given, wanted, out in (
+        (["message", (FOLDER / "response.hex").read_text().strip()], 0, (FOLDER / "response.out").read_text()),
+        (["message", (FOLDER / "damaged.hex").read_text().strip()], 1, (FOLDER / "damaged.out").read_text()),
+        (["message", "-"], 1, NO_MESSAGES[0][1] + "\n"),
+        (["messages"], 2, ""),
+    ):
+        asked = subprocess.run([built, *given], input=b"", stdout=subprocess.PIPE, stderr=subprocess.PIPE)
+        if (asked.returncode, asked.stdout.decode()) != (wanted, out):
+            bad.append(f"words {' '.join(given)[:40]}: status {asked.returncode}, {asked.stdout.decode()[:200]!r}")
+    return bad
+
+
+def compare(cases, step):
+    """The cases that are not as wanted, and the texts of RDATA that are to be read again."""
+    given, is_status_good = dumps([line for line, _ in cases], step)
+    bad = [] if is_status_good else ["exit status of a run"]
+    if len(given) != len(cases):
+        bad.append(f"{len(given)} dumps of {len(cases)} messages")
+    texts = set()
+    for (line, wanted), found in zip(cases, given):
+        if len(found) != len(wanted) or not all(is_line(a, b, texts) for a, b in zip(wanted, found)):
+            bad.append(f"{line.decode('latin-1')}: {found}, not {wanted}")
+    return bad, texts
+
+
+def stored():
+    """The stored messages and their dumps."""
+    for path in sorted(FOLDER.glob("*.hex")):
+        lines = path.with_suffix(".out").read_text().split("\n")[:-1]
+        yield bytes.fromhex(path.read_text()), [(WHOLE, line) for line in lines]
+
+
+def main():
+    """Prints all messages, and prints what is not as wanted and the numbers."""
+    built = zone_texts.built_program()
+    whole = list(stored())
+    others = sorted({other for message, _ in whole for other in changed(message)} - {message for message, _ in whole})
+    cases = [(message.hex().encode() or b"-", wanted) for message, wanted in whole]
+    cases += [(message.hex().encode() or b"-", wanted_lines(message)) for message, _ in whole]
+    cases += [(line, [(WHOLE, text)]) for line, text in NO_MESSAGES]
+    cases += [(message.hex().encode() or b"-", wanted_lines(message)) for message in others]
+    bad, texts = compare(cases, len(cases) if built else 1500)
+    print(f"messages: {len(whole)} stored, {len(others)} changed")
+    good = len(cases) - len(bad)
+    if built:
+        wrong = words(built)
+        bad, good = bad + wrong, good + 4 - len(wrong)
+    for text in bad[:20]:
+        print(f"not as wanted: {text[:2000]}")
+    more, others = zone_texts.compare("texts of RDATA, read again", sorted(texts), ("read",))
+    print(f"{good + more} as wanted, {len(bad) + others} not")
+    return bool(bad or others)
+
+
+if __name__ == "__main__":
+    sys.exit(main())
