@@ -18,12 +18,14 @@ is_partless types.HTTPS = false
 is_partless types.SVCB = false
 is_partless t = true
 
+-- what follows one octet
 abbrev pub after_first : List ℕ → Option (List ℕ)
 after_first [] = None
 after_first (octet ∷ rest) = Some rest
 
--- The octets after a name that begins after so many octets: after labels, and an octet 0 or a compression pointer of two octets
--- (RFC 1035, 3.1 and 4.1.4). There are none if the octets end before the name does, or if a label has more than 63 octets.
+-- The octets after a name. First n octets are passed over; then labels come, and an octet 0 or a compression pointer of two
+-- octets ends the name (RFC 1035, 3.1 and 4.1.4). There are none if the octets end before the name does, or if an octet from 64
+-- to 191 stands where a label begins.
 abbrev pub after_name : ℕ → List ℕ → Option (List ℕ)
 after_name n [] = None
 after_name (suc n) (octet ∷ rest) = after_name n rest
@@ -93,7 +95,7 @@ pub record IsPartOf (s : List ℕ) (p : ℕ) (t : RecordType) (i number begin co
   pub left : AreLeft s p t i from
   pub here : IsPartAt s from number begin count
 
--- from one offset to another there are parts
+-- from one offset to another there are parts (no exported call says this: the walk to a cursor's end does)
 pub record AreBetween (s : List ℕ) (begin end : ℕ) : Type 0 where
   pub read : List (Numbered (List ℕ))
   pub are : AreTlvs read
@@ -113,8 +115,8 @@ LacksPart m p n t i =
     (is_partless t ≡ true)
     ⊎ ((p + n ≤ length m) × (AreFewParts t (drop p (take (p + n) m)) i ⊎ AreCutOptions t (drop p (take (p + n) m))))
 
--- A cursor before part number i of the n octets from p, which are parts: at the offset where that part begins, and with the offset
--- where the octets end.
+-- A cursor before part number i of the n octets from p, which are parts: at the offset where that part begins, or at their end
+-- if there are i, and with the offset where the octets end.
 pub record IsBefore (m : List ℕ) (p n : ℕ) (t : RecordType) (i : ℕ) (cursor : PartsCursor) : Type 0 where
   pub within : p + n ≤ length m
   pub left : AreLeft (take (p + n) m) p t i cursor.next

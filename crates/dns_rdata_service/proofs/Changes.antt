@@ -1,8 +1,8 @@
 -- Parameters that are put into a list.
 use Rattle.std.proofs.Common.{◌≡◌, ◌≢◌, ℕ, zero, suc, ◌+◌, ◌<◌, ◌≤◌, ◌==◌, ◌++◌, List, [], ◌∷◌, Some, map, true, false, refl, ap, ◌∙◌, sym, subst, length, get_or, take, drop, drop-cons}
-use Rattle.std.proofs.Common.{if◌then◌else◌, nat_lt, arith, add-one}
+use Rattle.std.proofs.Common.{if◌then◌else◌, nat_lt, arith, rules, add-one}
 use Rattle.std.proofs.lemmas.{List.drop_all, Bool.ltb-true, Bool.ltb-false, Bool.eqb-true, Bool.eqb-false}
-use Rattle.dns_fields.specs.Tlvs.{Below}
+use Rattle.dns_fields.specs.Tlvs.{Rising, Below}
 use Rattle.dns_rdata_service.specs.{Parameters.Parameter, Parameters.parameter_of, SVCB.number_of_parameter, SVCB.value_at, Changing.inserted, Changing.RisesIn}
 
 -- ---- where a parameter goes

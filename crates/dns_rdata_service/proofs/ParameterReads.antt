@@ -6,7 +6,7 @@ use Rattle.dns_types.specs.declared.error.DecodeError.{DecodeError}
 use Rattle.dns_fields.specs.{Fields.Field, Fields.Values, Tlvs.Numbered, Tlvs.ParameterValue, Tlvs.ParameterHeld, Tlvs.tlv, Tlvs.rising, Octets.At}
 use Rattle.dns_fields.specs.declared.Kind.{TheVariants.Number, TheVariants.Octets, TheVariants.Rest, TheVariants.Parameters, TheVariants.Name}
 use Rattle.dns_fields.specs.Labels.{DomainName}
-use Rattle.dns_fields.proofs.{Tlvs.tlv_before, Tlvs.heads_same, Tlvs.first_tlv, Numbers.length-bytes}
+use Rattle.dns_fields.proofs.{Tlvs.tlv_before, Tlvs.heads_same, Tlvs.first_tlv, FieldLaws.field_inside, Numbers.length-bytes}
 use Rattle.dns_names_wire.specs.Terms.{TookField, StaysBehind, UnlessMemory, Refused, Lacks, TookRegion, RefusedRegion}
 use Rattle.dns_names_wire.specs.State.{Reading}
 use Rattle.dns_names_wire.proofs.FieldReads.{unless_map, unless_all, stays, took_stays, stands_inside, took_last, took_then, lacks_then, refused_then, refused_past}

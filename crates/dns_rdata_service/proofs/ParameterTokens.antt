@@ -7,12 +7,14 @@ use Rattle.std.specs.{Cmp.Lexicographic.pointwise, Cmp.Lexicographic.pointwise_d
 use Rattle.std.specs.{List.AllByRecursion, Prelude.IfOk, Prelude.IfErr, Prelude.codes, Cmp.unsigned_Decides}
 use denote.Ref.{Bor}
 use Rattle.dns_types.specs.declared.error.ParseError.{ParseError}
-use Rattle.dns_rdata_service.specs.ParameterTokens.{IsKeyText, IsValueAlone, IsUnquoted, HasNoEquals, HasValue}
+use Rattle.dns_rdata_service.specs.ParameterTokens.{IsKeyText, ItemOf, ListOf, IsValueAlone, IsValueText, IsUnquoted, HasNoEquals, HasValue}
 use Rattle.dns_rdata_service.specs.declared.svcb.key.SvcParamKey.TheVariants.{Key, Key65535, Unknown}
 use Rattle.dns_rdata_service.specs.ParameterTokens.{IsKeyAlone, IsKeyWithValue, IsParameterToken, IsNumberedKey}
-use Rattle.dns_rdata_service.specs.{SvcParamKey.key_text, SvcParamKey.named_keys}
+use Rattle.dns_rdata_service.specs.{declared.svcb.value.SvcParamValue.SvcParamValue, SvcParamKey.key_text, SvcParamKey.named_keys}
 use Rattle.dns_rdata_service.specs.{declared.svcb.key.SvcParamKey.SvcParamKey, Parameters.Parameter}
 use Rattle.dns_types.specs.declared.error.ParseError.TheVariants as parse
+use Rattle.dns_rdata_service.specs.declared.svcb.key.SvcParamKey.TheVariants as keys
+use Rattle.dns_rdata_service.specs.declared.svcb.value.SvcParamValue.TheVariants as values
 use Rattle.dns_types.specs.declared.error.ProtoError.TheVariants as proto
 
 -- a value that begins with no quote

@@ -1,10 +1,10 @@
 //! Addresses in hints, of four or of sixteen octets.
 
-ghost use Rattle.std.specs.Prelude.{◌≡◌, ◌<◌, ◌≤◌, ℕ, List, length, map};
-ghost use Rattle.std.specs.{Cmp.Lexicographic.slice_cmp, Ordering.nat_cmp, List.AllByRecursion};
+ghost use Rattle.std.specs.Prelude.{◌≡◌, ◌<◌, ◌≤◌, ℕ, List, IfSome, length, map};
+ghost use Rattle.std.specs.{Cmp.Lexicographic.slice_cmp, Ordering.nat_cmp, List.AllByRecursion, declared.cmp.Ordering.TheVariants.Equal};
 ghost use Rattle.dns_fields.specs.Tlvs.{Opaque};
 ghost use Rattle.dns_rdata_service.specs.{SvcParamValue.a_octets, SvcParamValue.aaaa_octets, Steps.IsSizeOf};
-ghost use Rattle.dns_rdata_service.specs.ParameterOrder.{joined};
+ghost use Rattle.dns_rdata_service.specs.ParameterOrder.{OrderFirst, behind_length, joined};
 
 use dns_canonical::order::octets_cmp;
 use dns_rdata_base::{A, AAAA};
@@ -52,6 +52,22 @@ pub(crate) fn hints_cmp<const N: usize, T: Address<N>>(a: &[T], b: &[T]) -> Orde
         }
     }
     a.len().cmp(&b.len())
+}
+
+/// Compares two lists by their length in octets, and then address by address.
+#[inline]
+#[tactic(auto, using(crate::proofs::SvcbFronts::items_first, crate::proofs::SvcbFronts::items_alike, crate::proofs::SvcbFronts::lists_tie, crate::proofs::SvcbFronts::then_ties))]
+pub(crate) fn hints_order<const N: usize, T: Address<N>>(a: &[T], b: &[T]) -> Option<Ordering>
+    requires { (0 < N) × (N ≤ 16) }
+    ensures order { IfSome result (λ o. OrderFirst o (behind_length (joined (map T.octets a.now))) (behind_length (joined (map T.octets b.now)))) }
+    ensures alike { IfSome result (λ o. o ≡ Equal → map T.octets a.now ≡ map T.octets b.now) }
+{
+    let order = hints_cmp(a, b);
+    if order.is_eq() {
+        return Some(order);
+    }
+    let sizes = hints_size(a)?.cmp(&hints_size(b)?);
+    Some(sizes.then(order))
 }
 
 /// Returns how many octets the addresses have, if at most 65535.

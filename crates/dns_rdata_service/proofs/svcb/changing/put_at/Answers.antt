@@ -1,4 +1,4 @@
-use Rattle.std.proofs.Common.{◌≡◌, ◌+◌, ◌<◌, ◌≤◌, ◌++◌, ◌∷◌, List, length, take, drop, arith, ◌∙◌, ap, sym}
+use Rattle.std.proofs.Common.{◌≡◌, ◌+◌, ◌<◌, ◌≤◌, ◌++◌, ◌∷◌, List, length, take, drop, arith, rules, ◌∙◌, ap, sym, subst, IsTrue}
 use Rattle.std.proofs.{Math.ListN.set, lemmas.List.take-append-drop, lemmas.List.take-set, lemmas.List.drop-set}
 use Rattle.dns_rdata_service.specs.Parameters.{Parameter}
 use Rattle.dns_rdata_service.proofs.svcb.changing.put_at.Goals as goal
