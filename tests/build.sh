@@ -1,4 +1,5 @@
-# For ./run, ./prove and ./check, which source it: the crates in their order, and whether a built program is up to date.
+# For ./run, ./prove, ./check and other scripts, which source it: the crates in their order, whether a built program is up to
+# date, and how a program is run.
 # shellcheck shell=bash
 
 # Says what is missing where the Rattle kit is not on this machine, and ends with status 4.
@@ -8,32 +9,26 @@ need_rt() { # WHO
   exit 4
 }
 
+# The kit that README names.
+named_kit() { grep -oE 'rattle-kit-[0-9a-z]+ logic [0-9a-f]+' "$top/README.md" | head -n 1; }
+
 # Says so where the kit is another one than the one that README names: its proofs may take another time, or not pass.
 tell_kit() { # WHO
-  local named
-  named=$(grep -oE 'rattle-kit-[0-9a-z]+ logic [0-9a-f]+' "$top/README.md" | head -n 1)
-  [ "$(rt version)" = "$named" ] || echo "$1: the kit here is '$(rt version)', and README.md names '$named'" >&2
+  [ "$(rt version)" = "$(named_kit)" ] || echo "$1: the kit here is '$(rt version)', and README.md names '$(named_kit)'" >&2
 }
 
-# The crates of the repository that a crate uses.
-uses() { # CRATE
-  local name
-  for name in $(sed -nE "s/^$1( staticlib)?://p" "$top/crates.txt"); do
-    if grep -q "^$name:" "$top/crates.txt"; then echo "$name"; fi
-  done
-}
-
-# A crate behind all those that it uses, each once.
+# The crates that a crate is made from, each after all those that it uses, and the crate itself at last: one a line.
 in_order() { # CRATE
-  local name order=
-  add() {
-    local it
-    case " $order " in *" $1 "*) return ;; esac
-    for it in $(uses "$1"); do add "$it"; done
-    order="$order $1"
-  }
-  add "$1"
-  for name in $order; do echo "$name"; done
+  awk -v wanted="$1" '
+    /^[a-z]/ { name = $1; sub(/:$/, "", name); uses[name] = $0 }
+    function reach(name,   words, count, i) {
+      if (name in seen || !(name in uses)) return
+      seen[name] = 1
+      count = split(uses[name], words, " ")
+      for (i = 2; i <= count; i++) reach(words[i])
+      print name
+    }
+    END { reach(wanted) }' "$top/crates.txt"
 }
 
 # Whether a built program stands and no source that it is made of is newer.
@@ -54,18 +49,37 @@ lanes_of() { # GIB
   echo "$lanes"
 }
 
-# Runs a program: the proved one if it is built and no source is newer, otherwise a quick build in which nothing is proved, as
-# standard error then says. The status is the program's own; 4 if nothing could be built, and standard error says why.
-answer() { # CRATE WORD ..
-  local crate=$1 built="$top/crates/$1/out/$1" log status ended
-  shift
-  if is_built "$built" "$crate"; then exec "$built" "$@"; fi
-  need_rt "$crate"
-  if [ -x "$built" ]; then
-    echo "$crate: a source is newer than the proved program; this answer is of a quick build in which nothing is proved" >&2
+# Runs a program: the ready-made one in dist/ if it was made from the sources that are here; else the proved one if it was built
+# here and no source is newer; else, and with --fresh in any case, a quick build in which nothing is proved (`rt try`). A line on
+# standard error says which and why. The status is the program's own; 4 if nothing could be built, and standard error says why.
+answer() { # [--fresh] CRATE WORD ..
+  local why=--fresh crate built
+  if [ "$1" = --fresh ]; then
+    crate=$2 built="crates/$2/out/$2"
+    shift 2
   else
-    echo "$crate: this answer is of a quick build in which nothing is proved (./prove proves \`rdata\` and keeps it)" >&2
+    crate=$1 built="crates/$1/out/$1"
+    shift
+    if find_ready "$crate" "$(this_machine)"; then
+      echo "$crate: proved and ready-made: $ready" >&2
+      exec "$top/$ready" "$@"
+    fi
+    if is_built "$top/$built" "$crate"; then
+      echo "$crate: proved and built here: $built ($why)" >&2
+      exec "$top/$built" "$@"
+    fi
+    if [ -x "$top/$built" ]; then why="$why; a source is newer than $built"; fi
   fi
+  command -v rt >/dev/null || echo "$crate: it must be built ($why)" >&2
+  need_rt "$crate"
+  echo "$crate: a quick build in which nothing is proved ($why)" >&2
+  quick_answer "$crate" "$@"
+}
+
+# Builds a program by `rt try`, which keeps no file, and runs it.
+quick_answer() { # CRATE WORD ..
+  local crate=$1 log status ended
+  shift
   log=$(mktemp)
   (cd "$top/crates/$crate" && rt try -- "$@") 2>"$log"
   status=$?

@@ -6,7 +6,7 @@
   found in its sources.
 - No page uses a word that docs/GLOSSARY.md has a better one for. Code, quotes, quoted output and docs/API.md, which is made of
   the sources' comments, are left out.
-- Every block of `console` shows what its command prints (after `$ `), if the programs are built.
+- Every block of `console` shows what its command prints (after `$ `), if the programs are built or ready-made.
 
 tests/docs.txt has the exceptions: a line is `name NAME` or `word PAGE TEXT`.
 """
@@ -17,7 +17,7 @@ import subprocess
 import sys
 
 TOP = pathlib.Path(__file__).resolve().parent.parent
-PAGES = [TOP / "README.md", *sorted(TOP.glob("docs/**/*.md")), *sorted(TOP.glob("*/README.md"))]
+PAGES = [TOP / "README.md", *sorted(TOP.glob("docs/**/*.md")), *sorted(TOP.glob("*/README.md")), *sorted(TOP.glob("rust/*/README.md"))]
 PAGES += [page for page in (TOP / "CONTRIBUTING.md",) if page.exists()]
 
 # Words that are not used, and what to write instead.
@@ -131,12 +131,19 @@ def shown(text):
                 output.append(line)
 
 
+def is_there(program):
+    """Whether a program is built here, or ready-made in dist/ from the sources that are here."""
+    if (TOP / "crates" / program / "out" / program).exists():
+        return True
+    return subprocess.run([TOP / "tools/ready.sh", program], capture_output=True, check=False).returncode == 0
+
+
 def bad_output(text):
     for command, output in shown(text):
-        program = {"./run": "crates/rdata/out/rdata", "./zone": "crates/zone_text/out/zone_text"}.get(shlex.split(command)[0])
+        program = {"./run": "rdata", "./zone": "zone_text"}.get(shlex.split(command)[0])
         if program is None and "|" in command:
-            program = "crates/zone_text/out/zone_text"
-        if program is None or not (TOP / program).exists():
+            program = "zone_text"
+        if program is None or not is_there(program):
             continue
         ran = subprocess.run(["bash", "-c", command], cwd=TOP, capture_output=True, text=True, check=False)
         if ran.stdout != output:

@@ -6,6 +6,7 @@
   tests/plain_table.py walks the message: where questions and records are, and what is rejected. Lines are compared
   as a whole, but for two: of RDATA that is rejected the reason is not, and the text of RDATA is read
   again by `zone_text read`, which must give the uncompressed octets that the model has.
+- Messages whose names follow as many compression pointers as a walk may, and one more.
 - Lines that are no message in hexadecimal digits.
 
 The built program is asked if it is up to date, else a quick build (`rt try`), in which nothing is proved. Then the lines go
@@ -131,6 +132,46 @@ def is_line(wanted, line, texts):
     return line.startswith(wanted[1]) and len(line) > len(wanted[1])
 
 
+def chained(records, pointers=8000):
+    """A message with a chain of compression pointers in the RDATA of its first record, and more records.
+
+    Each of these is how many pointers its owner follows, how many its RDATA does, and whether its RDATA is damaged: a name
+    server, or no octets if the RDATA follows none.
+    """
+    start = 12 + 11
+    chain = b"\0" + b"".join((0xC000 + start + max(0, 2 * i - 1)).to_bytes(2, "big") for i in range(pointers))
+
+    def name(count):
+        return (0xC000 + start + max(0, 2 * count - 3)).to_bytes(2, "big") if count else b"\0"
+
+    message = b"\0\0\x81\x80" + b"".join(n.to_bytes(2, "big") for n in (0, 1 + len(records), 0, 0))
+    message += b"\0" + (65280).to_bytes(2, "big") + b"\0\1\0\0\0\0" + len(chain).to_bytes(2, "big") + chain
+    for owner, content, is_damaged in records:
+        data = name(content) + b"\0" * is_damaged if content else b""
+        kind = 2 if content else 65280
+        message += name(owner) + kind.to_bytes(2, "big") + b"\0\1\0\0\0\0" + len(data).to_bytes(2, "big") + data
+    return message
+
+
+def asked(count):
+    """A message with so many questions, each of which is a compression pointer to the one before."""
+    questions = b"".join((0xC000 + 12 + max(0, 6 * i - 7)).to_bytes(2, "big") + b"\0\1\0\1" for i in range(1, count))
+    return b"\0\0\1\0" + count.to_bytes(2, "big") + b"\0" * 6 + b"\0\0\1\0\1" + questions
+
+
+def pointed():
+    """Messages whose names follow about as many compression pointers as a walk may."""
+    most = plain_table.LIMIT - 8 * 8000
+    for last in (most, most + 1):
+        yield chained([(8000, 0, False)] * 8 + [(last, 0, False)])
+        yield chained([(0, 8000, False)] * 8 + [(0, last, False), (0, 0, False)])
+        yield chained([(1, 7999, i % 2 == 0) for i in range(8)] + [(1, last - 1, True), (0, 0, False)])
+    yield chained([(8000, 0, False)] * 4090)
+    # The names of 362 questions follow 65,341 pointers, and those of 363 follow 65,703.
+    for count in (362, 363, 1000):
+        yield asked(count)
+
+
 def changed(message):
     """Every prefix of a message, and each of its octets changed."""
     for at in range(len(message)):
@@ -194,6 +235,7 @@ def main():
     cases += [(message.hex().encode() or b"-", wanted_lines(message)) for message, _ in whole]
     cases += [(line, [(WHOLE, text)]) for line, text in NO_MESSAGES]
     cases += [(message.hex().encode() or b"-", wanted_lines(message)) for message in others]
+    cases += [(message.hex().encode(), wanted_lines(message)) for message in pointed()]
     bad, texts = compare(cases, len(cases) if built else 1500)
     print(f"messages: {len(whole)} stored, {len(others)} changed")
     good = len(cases) - len(bad)

@@ -495,7 +495,61 @@ def read(kind, message, place, length):
     return canonical(sorted(parts) if is_opt else parts), emitted(parts, pointed), text
 
 
-# Messages (RFC 1035, 4.1). A class of a record without data (RFC 2136, 2.4 and 2.5).
+# The fields of types with names, up to the last name: so many octets, a string, a string of letters and digits, or a name.
+NAMED = {
+    **dict.fromkeys(("NS", "CNAME", "PTR", "ANAME"), ["name"]),
+    "SOA": ["name", "name"],
+    "MX": [2, "name"],
+    "SRV": [6, "name"],
+    "NAPTR": [4, "letters", "string", "string", "name"],
+    **dict.fromkeys(("SVCB", "HTTPS"), [2, "name"]),
+}
+
+
+def pointers_of(message, place):
+    """How many compression pointers the name at a place follows: all, or those up to the damage (RFC 1035, 4.1.4)."""
+    count, octets, began, at, end = 0, 0, place, place, len(message)
+    while at < end:
+        first = message[at]
+        if 0 < first < 64 and octets + first + 1 <= 254:
+            octets += first + 1
+            at += first + 1
+            continue
+        if first < 192 or at + 1 >= end:
+            break
+        target = (first - 192) * 256 + message[at + 1]
+        if target >= began:
+            break
+        count, end, began, at = count + 1, began, target, target
+    return count
+
+
+def data_pointers(kind, message, place):
+    """How many compression pointers the names of RDATA follow, up to and with a field that is rejected.
+
+    Fields are read as far as the message goes; that they pass RDLENGTH shows only at the end.
+    """
+    count = 0
+    for field in NAMED.get(NAMES.get(kind), []):
+        if field == "name":
+            count += pointers_of(message, place)
+            try:
+                _, place = name_at(message, place)
+            except NoData:
+                break
+            continue
+        size = field if isinstance(field, int) else 1 + (message[place] if place < len(message) else 0)
+        octets = message[place : place + size]
+        if len(octets) < size or field == "letters" and size > 1 and not is_plain(octets[1:]):
+            break
+        place += size
+    return count
+
+
+# Messages (RFC 1035, 4.1). How many compression pointers a walk follows at most. A class of a record without data (RFC 2136,
+# 2.4 and 2.5).
+LIMIT = 65536
+TOO_MANY = "more compression pointers than the limit"
 SECTIONS = "question answer authority additional".split()
 NO_DATA_CLASSES = (254, 255)
 
@@ -509,26 +563,35 @@ Entry = collections.namedtuple(
 )
 
 
-def entry_at(message, section, index, offset):
-    """The question or record at an offset, and where it ends; None for the end where the walk cannot go on."""
+def entry_at(message, section, index, offset, left):
+    """The question or record at an offset, where it ends, and how many compression pointers are left of so many.
+
+    The end is None where the walk cannot go on.
+    """
     head = (section, index, offset)
+    left -= pointers_of(message, offset)
+    if left < 0:
+        return Entry(*head, TOO_MANY), None, 0
     try:
         labels, at = name_at(message, offset)
     except NoData:
-        return Entry(*head, "invalid domain name"), None
+        return Entry(*head, "invalid domain name"), None, left
     is_question = section == "question"
     if len(message) - at < (4 if is_question else 10):
-        return Entry(*head, "unexpected end of the message"), None
+        return Entry(*head, "unexpected end of the message"), None, left
     kind, of = number(message[at : at + 2]), number(message[at + 2 : at + 4])
     if is_question:
-        return Entry(*head, None, labels, kind, of), at + 4
+        return Entry(*head, None, labels, kind, of), at + 4, left
     ttl, length, place = number(message[at + 4 : at + 8]), number(message[at + 8 : at + 10]), at + 10
-    left = len(message) - place
-    if left < length:
-        return Entry(*head, f"RDLENGTH is {length}, and {left} octets are left"), None
+    after = len(message) - place
+    if after < length:
+        return Entry(*head, f"RDLENGTH is {length}, and {after} octets are left"), None, left
     has_data = length > 0 or kind == NUMBERS["OPT"] or of not in NO_DATA_CLASSES
+    left -= data_pointers(kind, message, place) if has_data else 0
+    if left < 0:
+        return Entry(*head, TOO_MANY), None, 0
     fault = "RDATA" if has_data and fields(kind, message, place, length) is None else None
-    return Entry(*head, fault, labels, kind, of, ttl, place, length, has_data), place + length
+    return Entry(*head, fault, labels, kind, of, ttl, place, length, has_data), place + length, left
 
 
 def entries(message):
@@ -536,10 +599,10 @@ def entries(message):
 
     The octets are None if the walk ends before: an entry is refused, and not for its RDATA. The message has a whole header.
     """
-    found, offset = [], 12
+    found, offset, left = [], 12, LIMIT
     for i, section in enumerate(SECTIONS):
         for index in range(number(message[4 + 2 * i : 6 + 2 * i])):
-            entry, offset = entry_at(message, section, index, offset)
+            entry, offset, left = entry_at(message, section, index, offset, left)
             found.append(entry)
             if offset is None:
                 return found, None

@@ -5,7 +5,6 @@
  *
  *   check      octets -> whether they are data of the type
  *   text       octets -> a zone file's text in a buffer
- *   display    octets -> the text that hickory-proto prints, in a buffer
  *   canonical  octets -> canonical octets in a buffer
  *   wire       octets -> octets without pointers in a buffer
  *   name       octets -> the octets of the first name in a buffer
@@ -25,7 +24,7 @@
 #include <libknot/libknot.h>
 #endif
 
-enum { PARTS = 7, MOST = 4096, SAMPLES = 64, JOBS = 8 };
+enum { PARTS = 7, MOST = 4096, SAMPLES = 64, JOBS = 7 };
 
 struct sample {
     char name[24];
@@ -37,6 +36,7 @@ struct sample {
     size_t record_length;
     uint8_t other[MOST];  /* equal octets elsewhere */
     uint8_t other_record[MOST];
+    struct dns_rdata rdata, other_rdata;
 };
 
 static char text[65536];
@@ -47,47 +47,40 @@ static volatile unsigned long sink;
 
 static int our_check(const struct sample *s) {
     struct dns_rdata_refusal why;
-    return dns_rdata_check(s->data, s->length, 0, s->length, s->type, &why) == DNS_RDATA_OK;
+    return dns_rdata_check(&s->rdata, &why) == DNS_RDATA_OK;
 }
 
 static int our_text(const struct sample *s) {
     size_t n = 0;
-    int ok = dns_rdata_text(s->data, s->length, 0, s->length, s->type, text, sizeof text, &n) == DNS_RDATA_OK;
+    int ok = dns_rdata_text(&s->rdata, text, sizeof text, &n) == DNS_RDATA_OK;
     sink += n;
     return ok;
 }
 
-static int our_display(const struct sample *s) {
-    size_t n = 0;
-    dns_rdata_status status = dns_rdata_display_text(s->data, s->length, 0, s->length, s->type, text, sizeof text, &n);
-    sink += n;
-    return status == DNS_RDATA_OK || status == DNS_RDATA_NO_TEXT;
-}
-
 static int our_name(const struct sample *s) {
     size_t n = 0, begin = 0;
-    dns_rdata_status status = dns_rdata_name(s->data, s->length, 0, s->length, s->type, 0, out, sizeof out, &n, &begin);
+    dns_rdata_status status = dns_rdata_name(&s->rdata, 0, out, sizeof out, &n, &begin);
     sink += n;
     return status == DNS_RDATA_OK || status == DNS_RDATA_ABSENT;
 }
 
 static int our_canonical(const struct sample *s) {
     size_t n = 0;
-    int ok = dns_rdata_canonical(s->data, s->length, 0, s->length, s->type, out, sizeof out, &n) == DNS_RDATA_OK;
+    int ok = dns_rdata_canonical(&s->rdata, out, sizeof out, &n) == DNS_RDATA_OK;
     sink += n;
     return ok;
 }
 
 static int our_wire(const struct sample *s) {
     size_t n = 0;
-    int ok = dns_rdata_wire(s->data, s->length, 0, s->length, s->type, out, sizeof out, &n) == DNS_RDATA_OK;
+    int ok = dns_rdata_wire(&s->rdata, out, sizeof out, &n) == DNS_RDATA_OK;
     sink += n;
     return ok;
 }
 
 static int our_compare(const struct sample *s) {
     int32_t order = 9;
-    int ok = dns_rdata_compare(s->data, s->length, 0, s->length, s->other, s->length, 0, s->length, s->type, &order) == DNS_RDATA_OK;
+    int ok = dns_rdata_compare(&s->rdata, &s->other_rdata, &order) == DNS_RDATA_OK;
     return ok && order == 0;
 }
 
@@ -271,7 +264,6 @@ static const struct jobs all[JOBS] = {
         knot_canonical,
 #endif
     }},
-    {"display", {our_display, NULL, NULL}},
     {"wire", {our_wire, NULL, NULL}},
     {"name", {our_name, NULL, NULL}},
     {"compare", {our_compare,
@@ -325,6 +317,8 @@ static int read_sample(struct sample *s) {
     memcpy(s->record + 11, s->data, length);
     s->record_length = length + 11;
     memcpy(s->other_record, s->record, s->record_length);
+    s->rdata = (struct dns_rdata){s->data, s->length, 0, s->length, s->type};
+    s->other_rdata = (struct dns_rdata){s->other, s->length, 0, s->length, s->type};
     return 1;
 }
 
@@ -361,8 +355,8 @@ int main(int argc, char **argv) {
         for (size_t j = 0; j < JOBS; j++) {
             double least[3] = {-1, -1, -1};
             our_canonical(&s);
-            if (dns_rdata_canonical(s.data, s.length, 0, s.length, s.type, out, sizeof out, &key_length) != DNS_RDATA_OK) return 1;
-            if (dns_rdata_canonical(s.data, s.length, 0, s.length, s.type, out2, sizeof out2, &other_key_length) != DNS_RDATA_OK) return 1;
+            if (dns_rdata_canonical(&s.rdata, out, sizeof out, &key_length) != DNS_RDATA_OK) return 1;
+            if (dns_rdata_canonical(&s.rdata, out2, sizeof out2, &other_key_length) != DNS_RDATA_OK) return 1;
 #ifdef WITH_KNOT
             if (strcmp(all[j].name, "keys") == 0) {
                 knot_read(s.record, s.record_length, &key, true);

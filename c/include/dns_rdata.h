@@ -1,6 +1,6 @@
 /*
  * The RDATA of DNS resource records: checked, compared, written as canonical or as uncompressed octets, printed, and parsed from
- * text. The library behind these calls is proved: for every message, place, length and type each call does what is written here,
+ * text. The library behind these calls is proved: for every message, offset, length and type each call does what is written here,
  * reads and writes only the buffers that it is given, and returns.
  *
  * What every call has in common:
@@ -8,14 +8,16 @@
  *  - Buffers are the caller's, and no call keeps a pointer after it returns.
  *  - No pointer is NULL, not even that of a buffer of no octets (pass any address, "" for one). A buffer that a call writes
  *    overlaps no other buffer of the call. Lengths are in octets, true, and at most SIZE_MAX / 2.
- *  - `message` is any octets, well formed or not. `place` counts from its first octet, and may be past its end. Only the
- *    octets that the data and the pointers of its names lead to are looked at.
+ *  - A message is any octets, well formed or not. Offsets count from its first octet. Only the octets of the RDATA and those that
+ *    the compression pointers of its names lead to are looked at.
  *  - Calls allocate by malloc, and free everything before they return. If malloc fails, the call returns DNS_RDATA_MEMORY, or
  *    its usual result if it can do without that memory. Calls that never allocate say so.
  *  - Calls keep no state: threads may call at the same time. Not for signal handlers. A stack of 40 KiB is enough, and of 96 KiB
  *    for OPT of more than 8,195 octets.
  *  - The answer is a status, DNS_RDATA_OK or why not. From DNS_RDATA_REFUSED on, the octets are the data of no record of that
- *    type; from DNS_RDATA_NO_DATA_TEXT on, the text is of none. Neither is ever answered for octets or texts that are.
+ *    type; from DNS_RDATA_DAMAGED on, the message is damaged; from DNS_RDATA_NO_DATA_TEXT on, the text is of none. None of these is
+ *    ever answered for octets, messages or texts that are right. A later version may have more statuses in these ranges and below
+ *    them: treat a status that you do not know by its range.
  *  - Where octets or a text do not fit into the buffer the answer is DNS_RDATA_BUFFER, and *count tells how many octets they
  *    are (of a text without the 0 behind it, as snprintf does), so the call can be made again; a buffer of length 0 asks
  *    for that number. *count is set with DNS_RDATA_OK and DNS_RDATA_BUFFER, and otherwise left as it was.
@@ -62,12 +64,10 @@ enum {
     DNS_RDATA_MEMORY = 1,                /* malloc failed */
     DNS_RDATA_BUFFER = 2,                /* the buffer is too small, and *count says how large it must be */
     DNS_RDATA_TOO_LONG = 3,              /* more than 65535 octets with all names uncompressed (dns_rdata_parse: WRONG_WORD) */
-    DNS_RDATA_NO_TEXT = 4,               /* there is no text of OPT (dns_rdata_display_text alone) */
-    DNS_RDATA_UNFIT = 5,                 /* a value without octets, as of a long string (dns_rdata_parse_display_text alone) */
     DNS_RDATA_ORIGIN = 6,                /* the octets of the origin are no name */
-    DNS_RDATA_NOT_UTF8 = 7,              /* the text is not UTF-8 (never of dns_rdata_parse) */
-    DNS_RDATA_UNREAD = 8,                /* a value whose octets are not read again (dns_rdata_parse_display_text alone) */
-    DNS_RDATA_ABSENT = 9,                /* there is no name, option or parameter of this number */
+    DNS_RDATA_NOT_UTF8 = 7,              /* the text is not UTF-8 (dns_rdata_type_number alone) */
+    DNS_RDATA_ABSENT = 9,                /* there is no name, option or parameter of this number, or no record is left */
+    DNS_RDATA_OTHER_TYPE = 10,           /* two records have different types (dns_rdata_compare and dns_rdata_equal) */
 
     DNS_RDATA_REFUSED = 16,              /* the first refusal of octets */
     DNS_RDATA_MISSING_OCTETS = 16,       /* octets are missing at the end of the message */
@@ -84,12 +84,26 @@ enum {
     DNS_RDATA_PARAMETER_ORDER = 27,      /* keys of service parameters that do not rise: RFC 9460, 2.2 */
     DNS_RDATA_UTF8 = 28,                 /* octets that must be UTF-8, and are not */
 
+    DNS_RDATA_DAMAGED = 32,              /* the first status that says that a message is damaged (dns_rdata_records_*) */
+    DNS_RDATA_HEADER = 32,               /* the message has not the twelve octets of a header */
+    DNS_RDATA_QUESTION = 33,             /* a question is damaged */
+    DNS_RDATA_RECORD = 34,               /* the owner, the fixed fields or RDLENGTH of a record are damaged */
+    DNS_RDATA_POINTERS = 35,             /* more compression pointers than the walk may follow */
+
     DNS_RDATA_NO_DATA_TEXT = 48,         /* the first refusal of a text */
     DNS_RDATA_MISSING_WORD = 48,         /* a word is missing */
     DNS_RDATA_WRONG_WORD = 49,           /* a word, or the whole text, is wrong */
     DNS_RDATA_UNSUPPORTED_TYPE = 50,     /* no text is read of this type, or none but \# and octets */
-    DNS_RDATA_WRONG_ADDRESS = 51,        /* a word is no address (dns_rdata_parse_display_text alone) */
     DNS_RDATA_WRONG_VALUE = 52           /* a name or a value is wrong, or the octets of the text are no data of the type */
+};
+
+/* RDATA in a message. Any octets and any numbers in it are safe. */
+struct dns_rdata {
+    const uint8_t *message; /* the whole message, since compression pointers of names lead into it */
+    size_t message_length;  /* how many octets it has */
+    size_t offset;          /* the offset of the RDATA in the message; it may be past its end */
+    uint16_t length;        /* RDLENGTH */
+    uint16_t type;          /* the number of the type */
 };
 
 /* The numbers of a refusal; those that a status has nothing to say of are 0. */
@@ -102,7 +116,7 @@ struct dns_rdata_refusal {
 };
 
 /*
- * Checks whether the `length` octets at `place` of the message are the RDATA of a record of this type. Returns DNS_RDATA_OK exactly
+ * Checks whether the `length` octets at `offset` of the message are the RDATA of a record of this type. Returns DNS_RDATA_OK exactly
  * if they are. Otherwise it returns the first reason why they are not and sets *why to the numbers of that reason. DNS_RDATA_OK
  * leaves *why as it was. Does not allocate.
  *
@@ -117,34 +131,31 @@ struct dns_rdata_refusal {
  *     CSYNC, unknown flags, and a bitmap                  DNS_RDATA_LENGTH  DNS_RDATA_CSYNC_FLAGS     after the flags
  *     longer than the record, as five octets of A         DNS_RDATA_LENGTH  DNS_RDATA_OK              where the record ends
  *
- * With DNS_RDATA_LENGTH because of the number of octets, why->read is why->offset - place and why->len is `length`. If a part inside
+ * With DNS_RDATA_LENGTH because of the number of octets, why->read is why->offset - data->offset and why->len is `length`. If a part inside
  * RDATA of the right length has a wrong length, they are those of the part, and the cause is DNS_RDATA_LENGTH as well. With every
- * other status the cause is the status. If `place` is past the end of the message, nothing is read: the status and the cause are
- * DNS_RDATA_MISSING_OCTETS, and the offset is `place`.
+ * other status the cause is the status. If the offset of the RDATA is past the end of the message, nothing is read: the status and the
+ * cause are DNS_RDATA_MISSING_OCTETS, and why->offset is that offset.
  */
-DNS_RDATA_NONNULL dns_rdata_status dns_rdata_check(const uint8_t *message, size_t message_length, size_t place,
-                                                   uint16_t length, uint16_t type, struct dns_rdata_refusal *why);
+DNS_RDATA_NONNULL dns_rdata_status dns_rdata_check(const struct dns_rdata *data, struct dns_rdata_refusal *why);
 
 /*
  * Writes the canonical octets of the RDATA: this library's own form, for equality, order and hashing. All names are uncompressed
  * and lowercased (those of SVCB, HTTPS and ANAME, too), the options of OPT are sorted, and the bitmap of CSYNC is minimal. RDATA of
  * one type is equal exactly if its canonical octets are the same, so they are a key: compare them with dns_rdata_compare_canonical,
- * and hash them with any hash. Read again (place 0, length *count) they give equal RDATA. With DNS_RDATA_BUFFER and
+ * and hash them with any hash. Read again (offset 0, length *count) they give equal RDATA. With DNS_RDATA_BUFFER and
  * DNS_RDATA_TOO_LONG the buffer holds as many of them as fit. Does not allocate.
  *
  * NOT for DNSSEC: this is not the canonical form of RFC 4034, section 6.2. To sign or to validate, start from dns_rdata_wire and
  * lowercase the names of those types alone that RFC 4034 and RFC 6840, section 5.1, list.
  */
-DNS_RDATA_NONNULL dns_rdata_status dns_rdata_canonical(const uint8_t *message, size_t message_length, size_t place,
-                                                       uint16_t length, uint16_t type, uint8_t *out, size_t out_length,
+DNS_RDATA_NONNULL dns_rdata_status dns_rdata_canonical(const struct dns_rdata *data, uint8_t *out, size_t out_length,
                                                        size_t *count);
 
 /*
  * Writes the uncompressed octets of the RDATA, names with their case preserved. They mean the same in every message, and a DNSSEC
  * signer or validator starts from them. The buffer is written with DNS_RDATA_OK alone. Does not allocate.
  */
-DNS_RDATA_NONNULL dns_rdata_status dns_rdata_wire(const uint8_t *message, size_t message_length, size_t place,
-                                                  uint16_t length, uint16_t type, uint8_t *out, size_t out_length,
+DNS_RDATA_NONNULL dns_rdata_status dns_rdata_wire(const struct dns_rdata *data, uint8_t *out, size_t out_length,
                                                   size_t *count);
 
 /*
@@ -153,8 +164,7 @@ DNS_RDATA_NONNULL dns_rdata_status dns_rdata_wire(const uint8_t *message, size_t
  * other types have one or none. If there is no name with this index it returns DNS_RDATA_ABSENT. The buffer is written with DNS_RDATA_OK alone,
  * and *begin is set if *count is; 255 octets hold any name. Each call checks all of the RDATA. Does not allocate.
  */
-DNS_RDATA_NONNULL dns_rdata_status dns_rdata_name(const uint8_t *message, size_t message_length, size_t place,
-                                                  uint16_t length, uint16_t type, size_t index, uint8_t *out,
+DNS_RDATA_NONNULL dns_rdata_status dns_rdata_name(const struct dns_rdata *data, size_t index, uint8_t *out,
                                                   size_t out_length, size_t *count, size_t *begin);
 
 /*
@@ -171,8 +181,7 @@ DNS_RDATA_NONNULL dns_rdata_status dns_rdata_name(const uint8_t *message, size_t
  * DNS_RDATA_MISSING_OCTETS if the message ends before the RDATA does, with DNS_RDATA_NAME if no name follows the priority, and
  * with DNS_RDATA_LENGTH if the RDATA ends inside a part.
  */
-DNS_RDATA_NONNULL dns_rdata_status dns_rdata_part(const uint8_t *message, size_t message_length, size_t place,
-                                                  uint16_t length, uint16_t type, size_t index, uint16_t *number,
+DNS_RDATA_NONNULL dns_rdata_status dns_rdata_part(const struct dns_rdata *data, size_t index, uint16_t *number,
                                                   size_t *begin, size_t *count);
 
 /* Where the next part of RDATA is. The caller holds it; dns_rdata_parts_begin sets it, and dns_rdata_parts_next moves it. */
@@ -185,9 +194,9 @@ struct dns_rdata_parts {
  * Begins to go over all parts of RDATA, as in
  *
  *     struct dns_rdata_parts parts;
- *     dns_rdata_status status = dns_rdata_parts_begin(message, size, place, length, type, &parts);
+ *     dns_rdata_status status = dns_rdata_parts_begin(&data, &parts);
  *     while (status == DNS_RDATA_OK) {
- *         status = dns_rdata_parts_next(message, size, &parts, &number, &begin, &count);
+ *         status = dns_rdata_parts_next(&data, &parts, &number, &begin, &count);
  *         if (status == DNS_RDATA_OK) ..
  *     }
  *
@@ -195,35 +204,29 @@ struct dns_rdata_parts {
  * index 0, and fails as that does; with a status other than DNS_RDATA_OK the cursor has no parts. It looks at every code and length
  * once. Does not allocate.
  */
-DNS_RDATA_NONNULL dns_rdata_status dns_rdata_parts_begin(const uint8_t *message, size_t message_length, size_t place,
-                                                         uint16_t length, uint16_t type, struct dns_rdata_parts *parts);
+DNS_RDATA_NONNULL dns_rdata_status dns_rdata_parts_begin(const struct dns_rdata *data, struct dns_rdata_parts *parts);
 
 /*
  * Returns the part at the cursor, as dns_rdata_part does, and moves the cursor to the next one. After the last part it returns
- * DNS_RDATA_ABSENT and sets nothing. The message is the one that dns_rdata_parts_begin was given. A call looks at one code and one
+ * DNS_RDATA_ABSENT and sets nothing. The data is that which dns_rdata_parts_begin was given. A call looks at one code and one
  * length. Does not allocate. A cursor with other numbers is safe: the part that is returned is always inside the message.
  */
-DNS_RDATA_NONNULL dns_rdata_status dns_rdata_parts_next(const uint8_t *message, size_t message_length,
-                                                        struct dns_rdata_parts *parts, uint16_t *number, size_t *begin,
-                                                        size_t *count);
+DNS_RDATA_NONNULL dns_rdata_status dns_rdata_parts_next(const struct dns_rdata *data, struct dns_rdata_parts *parts,
+                                                        uint16_t *number, size_t *begin, size_t *count);
 
 /*
- * The order of the data of two records of one type, in two messages (or in one, twice): *order is -1, 0 or 1, the order of
- * their canonical octets. It is set with DNS_RDATA_OK alone. For sorting, take canonical octets once and sort those: this
- * call checks both RDATA each time. Does not allocate.
+ * The order of the RDATA of two records of one type: *order is -1, 0 or 1, the order of their canonical octets. It is set with
+ * DNS_RDATA_OK alone. If the types differ, the status is DNS_RDATA_OTHER_TYPE, and nothing is looked at. For sorting, take canonical
+ * octets once and sort those: this call checks both RDATA each time. Does not allocate.
  */
-DNS_RDATA_NONNULL dns_rdata_status dns_rdata_compare(const uint8_t *message, size_t message_length, size_t place,
-                                                     uint16_t length, const uint8_t *other, size_t other_message_length,
-                                                     size_t other_place, uint16_t other_length, uint16_t type,
+DNS_RDATA_NONNULL dns_rdata_status dns_rdata_compare(const struct dns_rdata *data, const struct dns_rdata *other,
                                                      int32_t *order);
 
 /*
- * Whether the data of two records of one type, in two messages (or in one, twice), is equal: *equal is 1 where their
- * canonical octets are the same, and 0 otherwise. It is set with DNS_RDATA_OK alone. Does not allocate.
+ * Whether the RDATA of two records of one type is equal: *equal is 1 if their canonical octets are the same, and 0 otherwise. It is
+ * set with DNS_RDATA_OK alone. If the types differ, the status is DNS_RDATA_OTHER_TYPE. Does not allocate.
  */
-DNS_RDATA_NONNULL dns_rdata_status dns_rdata_equal(const uint8_t *message, size_t message_length, size_t place,
-                                                   uint16_t length, const uint8_t *other, size_t other_message_length,
-                                                   size_t other_place, uint16_t other_length, uint16_t type,
+DNS_RDATA_NONNULL dns_rdata_status dns_rdata_equal(const struct dns_rdata *data, const struct dns_rdata *other,
                                                    int32_t *equal);
 
 /* -1, 0 or 1, the order of two lists of octets, a beginning of the other first: a total order. Takes no memory. */
@@ -237,32 +240,8 @@ DNS_RDATA_NONNULL int32_t dns_rdata_compare_canonical(const uint8_t *octets, siz
  * as unknown RDATA, \# and hexadecimal digits (RFC 3597, section 5). The buffer is written with DNS_RDATA_OK alone. RDATA of more than
  * 65535 octets once its names are uncompressed is rejected with DNS_RDATA_TOO_LONG, since nothing reads its text.
  */
-DNS_RDATA_NONNULL dns_rdata_status dns_rdata_text(const uint8_t *message, size_t message_length, size_t place,
-                                                  uint16_t length, uint16_t type, char *out, size_t out_length,
+DNS_RDATA_NONNULL dns_rdata_status dns_rdata_text(const struct dns_rdata *data, char *out, size_t out_length,
                                                   size_t *count);
-
-/*
- * Writes the text that hickory-proto prints of the RDATA, followed by a zero octet. The buffer is written with DNS_RDATA_OK alone.
- * OPT has no such text: DNS_RDATA_NO_TEXT.
- *
- * The text is for people, and is not promised to be valid in a zone file: use dns_rdata_text for that. It is not valid for TXT and
- * HINFO, whose strings have no quotes, for NULL and types without a format of their own, whose octets are base64, and for SVCB and
- * HTTPS, whose lists end with a comma.
- */
-DNS_RDATA_NONNULL dns_rdata_status dns_rdata_display_text(const uint8_t *message, size_t message_length, size_t place,
-                                                          uint16_t length, uint16_t type, char *out, size_t out_length,
-                                                          size_t *count);
-
-/*
- * Data from a text as hickory-proto reads it, into the octets of dns_rdata_wire. Words, quotes, parentheses and comments are
- * those of a zone file behind the type (RFC 1035, 5.1); the form \# of RFC 3597 is not read. `origin` is the octets of a
- * name, with its 0 at the end, by which relative names are completed; with origin_length 0 there is none, and they stand as
- * if they were fully qualified. What is put into the buffer is data of the type (dns_rdata_check of it is DNS_RDATA_OK). The
- * buffer is written with DNS_RDATA_OK alone.
- */
-DNS_RDATA_NONNULL dns_rdata_status dns_rdata_parse_display_text(const char *text, size_t text_length, uint16_t type,
-                                                                const uint8_t *origin, size_t origin_length, uint8_t *out,
-                                                                size_t out_length, size_t *count);
 
 /*
  * Data from its text in a zone file, as it stands behind the type, into the octets of dns_rdata_wire (RFC 1035, 5.1; RFC 9460, 2.1;
@@ -279,6 +258,71 @@ DNS_RDATA_NONNULL dns_rdata_status dns_rdata_parse_display_text(const char *text
  */
 DNS_RDATA_NONNULL dns_rdata_status dns_rdata_parse(const char *text, size_t text_length, uint16_t type, const uint8_t *origin,
                                                    size_t origin_length, uint8_t *out, size_t out_length, size_t *count);
+
+/* Where a walk over the records of a message is. The caller holds it; dns_rdata_records_begin sets it, and _next moves it. */
+struct dns_rdata_records {
+    size_t next;   /* the offset of the next record in the message */
+    size_t passed; /* how many records precede it */
+    size_t until;  /* how many records there are by the header of the message */
+    size_t left;   /* one more than the compression pointers that may still be followed */
+};
+
+/* A record (RFC 1035, section 4.1.3), but for its RDATA. */
+struct dns_rdata_record {
+    size_t owner;      /* the offset of the record, where its owner is encoded; it ends ten octets before `rdata` */
+    size_t rdata;      /* the offset of its RDATA */
+    size_t index;      /* its index in its section, counted from 0 */
+    uint32_t section;  /* 1: answers, 2: authorities, 3: additional records */
+    uint32_t ttl;      /* the TTL in seconds, as it is encoded; of OPT other things (RFC 6891, section 6.1.3) */
+    uint16_t type;     /* the number of its type */
+    uint16_t rrclass;  /* its class: 1 for IN; of OPT the size of UDP payloads */
+    uint16_t length;   /* RDLENGTH */
+    uint16_t has_data; /* 0 for a record of UPDATE that has no data: class ANY or NONE, RDLENGTH 0 (RFC 2136, 2.4 and 2.5); else 1 */
+};
+
+/*
+ * Begins to go over the records of a message: answers, authorities, additional records, as many as its header says, as in
+ *
+ *     struct dns_rdata_records records;
+ *     struct dns_rdata_record record;
+ *     dns_rdata_status status = dns_rdata_records_begin(message, size, &records);
+ *     while (status != DNS_RDATA_ABSENT && status < DNS_RDATA_DAMAGED) {
+ *         status = dns_rdata_records_next(message, size, &records, &record);
+ *         if (status == DNS_RDATA_OK) ..
+ *     }
+ *
+ * after which the status is DNS_RDATA_ABSENT if the walk came to the end of the last record. Fails with DNS_RDATA_HEADER if the
+ * message is shorter than a header, with DNS_RDATA_QUESTION if one of its questions is damaged, and with DNS_RDATA_POINTERS if its
+ * questions follow too many compression pointers; the cursor then has no records. Does not allocate.
+ *
+ * The names in one hostile message can follow the same thousands of compression pointers thousands of times. A walk follows
+ * 65,536 of them at most, and ends with DNS_RDATA_POINTERS after that; real messages need a few for each name. For another limit, set
+ * records.left to one more than it after this call.
+ */
+DNS_RDATA_NONNULL dns_rdata_status dns_rdata_records_begin(const uint8_t *message, size_t message_length,
+                                                           struct dns_rdata_records *records);
+
+/*
+ * Returns the record at the cursor, and moves the cursor to the next one. The message is the one that dns_rdata_records_begin was
+ * given. Does not allocate. A cursor with other numbers is safe: the record that is returned is always inside the message.
+ *
+ *  - DNS_RDATA_OK: *record is set, and its RDATA is that of its type (dns_rdata_check returns DNS_RDATA_OK), or it has no data.
+ *  - From DNS_RDATA_REFUSED on, below DNS_RDATA_DAMAGED: *record is set, and its RDATA is rejected for this reason, which
+ *    dns_rdata_check returns too. The walk goes on, since RDLENGTH says where the record ends.
+ *  - DNS_RDATA_RECORD: no record is encoded there, since its owner is no name, or the message ends in its fixed fields or before
+ *    its RDATA does. The walk has ended.
+ *  - DNS_RDATA_POINTERS: the walk has followed more compression pointers than it may, and has ended.
+ *  - DNS_RDATA_ABSENT: no record is left.
+ */
+DNS_RDATA_NONNULL dns_rdata_status dns_rdata_records_next(const uint8_t *message, size_t message_length,
+                                                          struct dns_rdata_records *records, struct dns_rdata_record *record);
+
+/* The RDATA of a record that dns_rdata_records_next told of this message, for the other calls. */
+static inline struct dns_rdata dns_rdata_of_record(const uint8_t *message, size_t message_length,
+                                                   const struct dns_rdata_record *record) {
+    struct dns_rdata data = {message, message_length, record->rdata, record->length, record->type};
+    return data;
+}
 
 /* The type's name in capitals, or TYPE and its number (RFC 3597, 5), with a 0 behind it. */
 DNS_RDATA_NONNULL dns_rdata_status dns_rdata_type_text(uint16_t type, char *out, size_t out_length, size_t *count);

@@ -1,5 +1,5 @@
 /* Each call at least once: prints what it gives, which run.sh compares with calls.out. */
-#include "dns_rdata.h"
+#include "at.h"
 
 #include <stdio.h>
 #include <stdlib.h>
@@ -46,7 +46,7 @@ static int by_octets(const void *a, const void *b) {
 static struct dns_rdata_refusal rejection(const uint8_t *octets, size_t count, size_t place, uint16_t length, uint16_t type,
                                           dns_rdata_status status, dns_rdata_status cause, size_t offset, const char *what) {
     struct dns_rdata_refusal why = {9, 9, 9, 9, 9};
-    want(dns_rdata_check(octets, count, place, length, type, &why) == status, what);
+    want(dns_rdata_check(at(octets, count, place, length, type), &why) == status, what);
     want(why.cause == cause && why.offset == offset, what);
     if (status == DNS_RDATA_LENGTH && cause != DNS_RDATA_LENGTH)
         want(why.read == offset - place && why.len == length, what);
@@ -87,7 +87,11 @@ static void rejected(void) {
     want(why.number == 255, "the number of ANY");
 }
 
-/* 16,000 options without octets, in time linear in their number. */
+/* 16,000 options without octets, in time linear in their number: 50 milliseconds, or SLOWER times as many, for an emulator. */
+#ifndef SLOWER
+#define SLOWER 1
+#endif
+
 static void many_options(void) {
     enum { MANY = 16000 };
     static uint8_t octets[4 * MANY];
@@ -97,16 +101,16 @@ static void many_options(void) {
     clock_t start = clock();
     for (size_t i = 0; i < MANY; i++)
         octets[4 * i + 1] = 12;
-    dns_rdata_status status = dns_rdata_parts_begin(octets, sizeof octets, 0, sizeof octets, 41, &parts);
+    dns_rdata_status status = dns_rdata_parts_begin(at(octets, sizeof octets, 0, sizeof octets, 41), &parts);
     while (status == DNS_RDATA_OK) {
-        status = dns_rdata_parts_next(octets, sizeof octets, &parts, &code, &begin, &count);
+        status = dns_rdata_parts_next(at(octets, sizeof octets, 0, 0, 0), &parts, &code, &begin, &count);
         if (status == DNS_RDATA_OK) {
             want(code == 12 && count == 0 && begin == 4 * seen + 4, "an option in its order");
             seen++;
         }
     }
     want(status == DNS_RDATA_ABSENT && seen == MANY, "all options");
-    want((clock() - start) * 20 < CLOCKS_PER_SEC, "16,000 options in 50 milliseconds");
+    want((clock() - start) * 20 < CLOCKS_PER_SEC * SLOWER, "16,000 options in 50 milliseconds");
 }
 
 /* SVCB with a compressed target. Its RDATA has one octet more when it is uncompressed; past 65535 no text of it can be read. */
@@ -119,11 +123,55 @@ static void long_text(void) {
     rdata[1] = 1;
     rdata[2] = 0xc0; /* a compression pointer to it */
     rdata[4] = 0xff, rdata[6] = 0xff, rdata[7] = 0xf7; /* key65280 with 65,527 octets */
-    want(dns_rdata_text(octets, sizeof octets, 3, 65535, 64, text, sizeof text, &count) == DNS_RDATA_TOO_LONG && count == 5, "65,536 octets uncompressed");
+    want(dns_rdata_text(at(octets, sizeof octets, 3, 65535, 64), text, sizeof text, &count) == DNS_RDATA_TOO_LONG && count == 5, "65,536 octets uncompressed");
     rdata[7] = 0xf6;
-    want(dns_rdata_text(octets, sizeof octets, 3, 65534, 64, text, sizeof text, &count) == DNS_RDATA_OK, "65,535 octets uncompressed");
+    want(dns_rdata_text(at(octets, sizeof octets, 3, 65534, 64), text, sizeof text, &count) == DNS_RDATA_OK, "65,535 octets uncompressed");
     static uint8_t read[65535];
     want(dns_rdata_parse(text, count, 64, octets, 0, read, sizeof read, &count) == DNS_RDATA_OK && count == 65535, "whose text is read");
+}
+
+/* The records of a message are told one after the other. Rejected RDATA does not end the walk, and damage before it does. */
+static void records_of_message(void) {
+    struct dns_rdata_records records;
+    struct dns_rdata_record record;
+    uint8_t copy[sizeof message];
+    dns_rdata_status status = dns_rdata_records_begin(message, sizeof message, &records);
+    want(status == DNS_RDATA_OK && records.next == 29 && records.passed == 0 && records.until == 2 && records.left == 65537, "a walk");
+    while ((status = dns_rdata_records_next(message, sizeof message, &records, &record)) == DNS_RDATA_OK)
+        printf("record %zu of section %u: owner at %zu, type %u, class %u, TTL %u, %u octets at %zu, data %u\n", record.index,
+               (unsigned)record.section, record.owner, record.type, record.rrclass, (unsigned)record.ttl, record.length, record.rdata,
+               record.has_data);
+    want(status == DNS_RDATA_ABSENT && records.next == sizeof message, "the end of the records");
+    want(dns_rdata_records_next(message, sizeof message, &records, &record) == DNS_RDATA_ABSENT, "none after the last");
+
+    want(dns_rdata_records_begin(message, 11, &records) == DNS_RDATA_HEADER, "no header");
+    want(dns_rdata_records_next(message, sizeof message, &records, &record) == DNS_RDATA_ABSENT, "no records after an error");
+    want(dns_rdata_records_begin(message, 28, &records) == DNS_RDATA_QUESTION, "the message ends in its question");
+
+    memcpy(copy, message, sizeof message);
+    copy[43] = 64; /* no length of a label: the RDATA of the first record is rejected */
+    want(dns_rdata_records_begin(copy, sizeof copy, &records) == DNS_RDATA_OK, "a walk over rejected RDATA");
+    status = dns_rdata_records_next(copy, sizeof copy, &records, &record);
+    want(status == DNS_RDATA_LENGTH && record.index == 0 && record.rdata == 41 && record.length == 9 && record.type == 15, "rejected RDATA");
+    status = dns_rdata_records_next(copy, sizeof copy, &records, &record);
+    want(status == DNS_RDATA_LENGTH && record.index == 1 && record.rdata == 62, "the record after it, whose name points there");
+    want(dns_rdata_records_next(copy, sizeof copy, &records, &record) == DNS_RDATA_ABSENT, "the end after rejected RDATA");
+
+    copy[40] = 200; /* RDLENGTH passes the end of the message */
+    want(dns_rdata_records_begin(copy, sizeof copy, &records) == DNS_RDATA_OK, "a walk over a damaged record");
+    want(dns_rdata_records_next(copy, sizeof copy, &records, &record) == DNS_RDATA_RECORD, "a damaged record");
+    want(dns_rdata_records_next(copy, sizeof copy, &records, &record) == DNS_RDATA_ABSENT, "the walk has ended");
+
+    want(dns_rdata_records_begin(message, sizeof message, &records) == DNS_RDATA_OK, "a walk with a limit");
+    records.left = 2; /* one pointer, and the first record has two */
+    want(dns_rdata_records_next(message, sizeof message, &records, &record) == DNS_RDATA_POINTERS, "too many pointers");
+    want(dns_rdata_records_next(message, sizeof message, &records, &record) == DNS_RDATA_ABSENT, "the walk has ended there");
+
+    /* an UPDATE that deletes all addresses of a name: class ANY, no data (RFC 2136, section 2.5.2) */
+    static const uint8_t update[] = {0, 1, 40, 0, 0, 1, 0, 0, 0, 1, 0, 0, 1, 'x', 0, 0, 6, 0, 1, 0xc0, 12, 0, 1, 0, 255, 0, 0, 0, 0, 0, 0};
+    want(dns_rdata_records_begin(update, sizeof update, &records) == DNS_RDATA_OK, "an UPDATE");
+    status = dns_rdata_records_next(update, sizeof update, &records, &record);
+    want(status == DNS_RDATA_OK && record.section == 2 && record.has_data == 0 && record.length == 0 && record.rrclass == 255, "no data");
 }
 
 int main(void) {
@@ -140,88 +188,86 @@ int main(void) {
     want(dns_rdata_type_text(4711, text, sizeof text, &count) == DNS_RDATA_OK, "the text of 4711");
     printf("type 4711 is %s, of %zu\n", text, count);
 
-    want(dns_rdata_check(message, sizeof message, 41, 9, 15, &why) == DNS_RDATA_OK, "the first is data of MX");
-    status = dns_rdata_check(message, sizeof message, 41, 8, 15, &why);
+    want(dns_rdata_check(at(message, sizeof message, 41, 9, 15), &why) == DNS_RDATA_OK, "the first is data of MX");
+    status = dns_rdata_check(at(message, sizeof message, 41, 8, 15), &why);
     printf("of 8 octets: status %u, read %zu, length %zu\n", status, why.read, why.len);
-    status = dns_rdata_check(message, sizeof message, 41, 8, 255, &why);
+    status = dns_rdata_check(at(message, sizeof message, 41, 8, 255), &why);
     printf("of ANY: status %u, number %u\n", status, why.number);
 
-    want(dns_rdata_display_text(message, sizeof message, 41, 9, 15, text, sizeof text, &count) == DNS_RDATA_OK, "a text");
+    want(dns_rdata_text(at(message, sizeof message, 41, 9, 15), text, sizeof text, &count) == DNS_RDATA_OK, "a text");
     printf("text %s, of %zu\n", text, count);
-    status = dns_rdata_display_text(message, sizeof message, 41, 9, 15, text, 0, &count);
+    status = dns_rdata_text(at(message, sizeof message, 41, 9, 15), text, 0, &count);
     want(status == DNS_RDATA_BUFFER && count == strlen(text), "the length of a text");
-    want(dns_rdata_display_text(message, sizeof message, 41, 9, 15, text, count, &count) == DNS_RDATA_BUFFER, "no room for the 0");
-    want(dns_rdata_display_text(message, sizeof message, 41, 9, 15, text, count + 1, &count) == DNS_RDATA_OK, "room for it");
+    want(dns_rdata_text(at(message, sizeof message, 41, 9, 15), text, count, &count) == DNS_RDATA_BUFFER, "no room for the 0");
+    want(dns_rdata_text(at(message, sizeof message, 41, 9, 15), text, count + 1, &count) == DNS_RDATA_OK, "room for it");
 
-    want(dns_rdata_canonical(message, sizeof message, 41, 9, 15, octets, sizeof octets, &count) == DNS_RDATA_OK, "canonical");
+    want(dns_rdata_canonical(at(message, sizeof message, 41, 9, 15), octets, sizeof octets, &count) == DNS_RDATA_OK, "canonical");
     print_octets("canonical ", octets, count);
-    want(dns_rdata_wire(message, sizeof message, 41, 9, 15, octets, sizeof octets, &count) == DNS_RDATA_OK, "wire");
+    want(dns_rdata_wire(at(message, sizeof message, 41, 9, 15), octets, sizeof octets, &count) == DNS_RDATA_OK, "wire");
     print_octets("wire ", octets, count);
 
-    want(dns_rdata_text(message, sizeof message, 41, 9, 15, text, sizeof text, &count) == DNS_RDATA_OK, "a zone file's text");
-    printf("zone text %s, of %zu\n", text, count);
     static const uint8_t strings[] = {3, 'a', ' ', '"', 0};
-    want(dns_rdata_text(strings, sizeof strings, 0, sizeof strings, 16, text, sizeof text, &count) == DNS_RDATA_OK, "strings");
-    printf("zone text %s, of %zu\n", text, count);
+    want(dns_rdata_text(at(strings, sizeof strings, 0, sizeof strings, 16), text, sizeof text, &count) == DNS_RDATA_OK, "strings");
+    printf("text %s, of %zu\n", text, count);
 
     size_t begin = 0;
-    want(dns_rdata_name(message, sizeof message, 41, 9, 15, 0, octets, sizeof octets, &count, &begin) == DNS_RDATA_OK, "a name");
+    want(dns_rdata_name(at(message, sizeof message, 41, 9, 15), 0, octets, sizeof octets, &count, &begin) == DNS_RDATA_OK, "a name");
     printf("at %zu ", begin);
     print_octets("name ", octets, count);
-    want(dns_rdata_name(message, sizeof message, 41, 9, 15, 1, octets, sizeof octets, &count, &begin) == DNS_RDATA_ABSENT, "no second name");
+    want(dns_rdata_name(at(message, sizeof message, 41, 9, 15), 1, octets, sizeof octets, &count, &begin) == DNS_RDATA_ABSENT, "no second name");
     static const uint8_t start[] = {1, 'x', 0, 1, 'Y', 0xc0, 0, 0, 0, 0, 1, 0, 0, 0, 2, 0, 0, 0, 3, 0, 0, 0, 4, 0, 0, 0, 5};
-    want(dns_rdata_name(start, sizeof start, 0, sizeof start, 6, 1, octets, sizeof octets, &count, &begin) == DNS_RDATA_OK, "the second of SOA");
+    want(dns_rdata_name(at(start, sizeof start, 0, sizeof start, 6), 1, octets, sizeof octets, &count, &begin) == DNS_RDATA_OK, "the second of SOA");
     printf("at %zu ", begin);
     print_octets("name ", octets, count);
 
     static const uint8_t service[] = {0, 1, 1, 'x', 0, 0, 1, 0, 3, 2, 'h', '2', 0, 3, 0, 2, 1, 0xbb};
-    for (size_t i = 0; dns_rdata_part(service, sizeof service, 0, sizeof service, 64, i, &type, &begin, &count) == DNS_RDATA_OK; i++)
+    for (size_t i = 0; dns_rdata_part(at(service, sizeof service, 0, sizeof service, 64), i, &type, &begin, &count) == DNS_RDATA_OK; i++)
         printf("parameter %u, %zu octets at %zu\n", type, count, begin);
     static const uint8_t options[] = {0, 10, 0, 2, 1, 2, 0, 12, 0, 0};
-    for (size_t i = 0; dns_rdata_part(options, sizeof options, 0, sizeof options, 41, i, &type, &begin, &count) == DNS_RDATA_OK; i++)
+    for (size_t i = 0; dns_rdata_part(at(options, sizeof options, 0, sizeof options, 41), i, &type, &begin, &count) == DNS_RDATA_OK; i++)
         printf("option %u, %zu octets at %zu\n", type, count, begin);
     struct dns_rdata_parts parts;
-    for (status = dns_rdata_parts_begin(service, sizeof service, 0, sizeof service, 64, &parts); status == DNS_RDATA_OK;)
-        if ((status = dns_rdata_parts_next(service, sizeof service, &parts, &type, &begin, &count)) == DNS_RDATA_OK)
+    for (status = dns_rdata_parts_begin(at(service, sizeof service, 0, sizeof service, 64), &parts); status == DNS_RDATA_OK;)
+        if ((status = dns_rdata_parts_next(at(service, sizeof service, 0, 0, 0), &parts, &type, &begin, &count)) == DNS_RDATA_OK)
             printf("next parameter %u, %zu octets at %zu\n", type, count, begin);
     want(status == DNS_RDATA_ABSENT, "the end of the parameters");
-    want(dns_rdata_parts_begin(options, sizeof options, 0, 9, 41, &parts) == DNS_RDATA_LENGTH, "three octets after an option");
-    want(dns_rdata_parts_next(options, sizeof options, &parts, &type, &begin, &count) == DNS_RDATA_ABSENT, "no parts after an error");
-    want(dns_rdata_parts_begin(options, sizeof options, 0, 8, 41, &parts) == DNS_RDATA_ABSENT, "a truncated OPT has no options");
-    want(dns_rdata_parts_begin(message, sizeof message, 41, 9, 15, &parts) == DNS_RDATA_ABSENT, "MX has no parts");
+    want(dns_rdata_parts_begin(at(options, sizeof options, 0, 9, 41), &parts) == DNS_RDATA_LENGTH, "three octets after an option");
+    want(dns_rdata_parts_next(at(options, sizeof options, 0, 0, 0), &parts, &type, &begin, &count) == DNS_RDATA_ABSENT, "no parts after an error");
+    want(dns_rdata_parts_begin(at(options, sizeof options, 0, 8, 41), &parts) == DNS_RDATA_ABSENT, "a truncated OPT has no options");
+    want(dns_rdata_parts_begin(at(message, sizeof message, 41, 9, 15), &parts) == DNS_RDATA_ABSENT, "MX has no parts");
+    records_of_message();
     rejected();
     many_options();
     long_text();
 
-    want(dns_rdata_compare(message, sizeof message, 41, 9, message, sizeof message, 62, 4, 15, &order) == DNS_RDATA_OK, "cmp");
+    want(dns_rdata_compare(at(message, sizeof message, 41, 9, 15), at(message, sizeof message, 62, 4, 15), &order) == DNS_RDATA_OK, "cmp");
     printf("10 against 5: %d\n", order);
+    want(dns_rdata_compare(at(message, sizeof message, 41, 9, 15), at(message, sizeof message, 62, 4, 16), &order) == DNS_RDATA_OTHER_TYPE, "MX and TXT");
 
     int32_t equal = 7;
-    want(dns_rdata_equal(message, sizeof message, 41, 9, message, sizeof message, 62, 4, 15, &equal) == DNS_RDATA_OK, "equal");
+    want(dns_rdata_equal(at(message, sizeof message, 41, 9, 15), at(message, sizeof message, 62, 4, 15), &equal) == DNS_RDATA_OK, "equal");
     printf("10 and 5 are equal: %d\n", equal);
 
     const char *mail = "10 MAIL ; a comment";
     static const uint8_t origin[] = {7, 'e', 'x', 'a', 'm', 'p', 'l', 'e', 3, 'c', 'o', 'm', 0};
-    status = dns_rdata_parse_display_text(mail, strlen(mail), 15, origin, sizeof origin, octets, sizeof octets, &count);
+    status = dns_rdata_parse(mail, strlen(mail), 15, origin, sizeof origin, octets, sizeof octets, &count);
     want(status == DNS_RDATA_OK, "a text is read");
     print_octets("parsed ", octets, count);
-    want(dns_rdata_compare(message, sizeof message, 41, 9, octets, count, 0, (uint16_t)count, 15, &order) == DNS_RDATA_OK, "again");
-    want(dns_rdata_equal(message, sizeof message, 41, 9, octets, count, 0, (uint16_t)count, 15, &equal) == DNS_RDATA_OK, "equal");
+    want(dns_rdata_compare(at(message, sizeof message, 41, 9, 15), at(octets, count, 0, (uint16_t)count, 15), &order) == DNS_RDATA_OK, "again");
+    want(dns_rdata_equal(at(message, sizeof message, 41, 9, 15), at(octets, count, 0, (uint16_t)count, 15), &equal) == DNS_RDATA_OK, "equal");
     printf("as the first: %d, and equal: %d\n", order, equal);
-    status = dns_rdata_parse_display_text("ten mail", 8, 15, origin, sizeof origin, octets, sizeof octets, &count);
-    printf("a wrong word: status %u\n", status);
 
     const char *zone_mail = "( 10 MAIL ) ; a comment";
     want(dns_rdata_parse(zone_mail, strlen(zone_mail), 15, origin, sizeof origin, octets, sizeof octets, &count) == DNS_RDATA_OK, "a zone file's text is read");
-    print_octets("zone parsed ", octets, count);
+    print_octets("parsed ", octets, count);
     want(dns_rdata_parse("\\# 2 abcd", 9, 4711, origin, 0, octets, sizeof octets, &count) == DNS_RDATA_OK, "unknown data is read");
-    print_octets("zone parsed ", octets, count);
-    want(dns_rdata_text(strings, sizeof strings, 0, sizeof strings, 16, text, sizeof text, &count) == DNS_RDATA_OK, "strings again");
+    print_octets("parsed ", octets, count);
+    want(dns_rdata_text(at(strings, sizeof strings, 0, sizeof strings, 16), text, sizeof text, &count) == DNS_RDATA_OK, "strings again");
     want(dns_rdata_parse(text, count, 16, origin, sizeof origin, octets, sizeof octets, &count) == DNS_RDATA_OK, "what is written is read");
     want(count == sizeof strings && memcmp(octets, strings, count) == 0, "as it was");
     want(dns_rdata_parse(text, 9, 16, origin, sizeof origin, octets, 4, &count) == DNS_RDATA_BUFFER && count == 5, "one octet short");
     status = dns_rdata_parse("ten mail", 8, 15, origin, sizeof origin, octets, sizeof octets, &count);
-    printf("a wrong word in a zone file: status %u\n", status);
+    printf("a wrong word: status %u\n", status);
     status = dns_rdata_parse("10", 2, 15, origin, sizeof origin, octets, sizeof octets, &count);
     printf("a missing word: status %u\n", status);
     status = dns_rdata_parse("x", 1, 41, origin, sizeof origin, octets, sizeof octets, &count);
@@ -235,14 +281,14 @@ int main(void) {
     if (keys == NULL)
         return 3;
     for (int i = 0; i < 3; i++) {
-        status = dns_rdata_parse_display_text(texts[i], strlen(texts[i]), 15, origin, sizeof origin, octets, sizeof octets, &count);
+        status = dns_rdata_parse(texts[i], strlen(texts[i]), 15, origin, sizeof origin, octets, sizeof octets, &count);
         want(status == DNS_RDATA_OK, "a text to sort");
-        status = dns_rdata_canonical(octets, count, 0, (uint16_t)count, 15, keys[i].octets, sizeof keys[i].octets, &keys[i].count);
+        status = dns_rdata_canonical(at(octets, count, 0, (uint16_t)count, 15), keys[i].octets, sizeof keys[i].octets, &keys[i].count);
         want(status == DNS_RDATA_OK, "a key");
     }
     qsort(keys, 3, sizeof *keys, by_octets);
     for (int i = 0; i < 3; i++) {
-        status = dns_rdata_display_text(keys[i].octets, keys[i].count, 0, (uint16_t)keys[i].count, 15, text, sizeof text, &count);
+        status = dns_rdata_text(at(keys[i].octets, keys[i].count, 0, (uint16_t)keys[i].count, 15), text, sizeof text, &count);
         want(status == DNS_RDATA_OK, "a sorted text");
         printf("%s\n", text);
     }

@@ -2,7 +2,7 @@
  * Each request for memory of each call refused in turn: the answer is DNS_RDATA_MEMORY, or the very answer that is given with
  * that memory, where the call can do without, and nothing stays held. This file stands in the place of heap.c.
  */
-#include "dns_rdata.h"
+#include "at.h"
 
 #include <stdio.h>
 #include <stdlib.h>
@@ -46,33 +46,38 @@ static size_t count, begin;
 static uint16_t number;
 static struct dns_rdata_refusal why;
 static struct dns_rdata_parts parts;
+static const uint8_t response[] = {0, 1, 0x80, 0, 0, 0, 0, 1, 0, 0, 0, 0, 1, 'x', 0, 0, 15, 0, 1, 0, 0, 0, 0, 0, 4, 0, 10, 0xc0, 12};
+static struct dns_rdata_records records;
+static struct dns_rdata_record record;
 static int32_t order;
 
 static dns_rdata_status call(int n) {
     size_t length = sizeof name - 1, place = length - 4;
     switch (n) {
-    case 0: return dns_rdata_check(name, length, place, 4, 15, &why);
-    case 1: return dns_rdata_display_text(name, length, place, 4, 15, text, sizeof text, &count);
-    case 2: return dns_rdata_canonical(name, length, place, 4, 15, out, sizeof out, &count);
-    case 3: return dns_rdata_wire(name, length, place, 4, 15, out, sizeof out, &count);
-    case 4: return dns_rdata_compare(name, length, place, 4, name, length, place, 4, 15, &order);
+    case 0: return dns_rdata_check(at(name, length, place, 4, 15), &why);
+    case 2: return dns_rdata_canonical(at(name, length, place, 4, 15), out, sizeof out, &count);
+    case 3: return dns_rdata_wire(at(name, length, place, 4, 15), out, sizeof out, &count);
+    case 4: return dns_rdata_compare(at(name, length, place, 4, 15), at(name, length, place, 4, 15), &order);
     case 5: return dns_rdata_type_text(4711, text, sizeof text, &count);
-    case 6: return dns_rdata_equal(name, length, place, 4, name, length, place, 4, 15, &order);
-    case 7: return dns_rdata_text(name, length, place, 4, 15, text, sizeof text, &count);
-    case 8: return dns_rdata_name(name, length, place, 4, 15, 0, out, sizeof out, &count, &begin);
-    case 9: return dns_rdata_part(service, sizeof service, 0, sizeof service, 64, 1, &number, &begin, &count);
+    case 6: return dns_rdata_equal(at(name, length, place, 4, 15), at(name, length, place, 4, 15), &order);
+    case 7: return dns_rdata_text(at(name, length, place, 4, 15), text, sizeof text, &count);
+    case 8: return dns_rdata_name(at(name, length, place, 4, 15), 0, out, sizeof out, &count, &begin);
+    case 9: return dns_rdata_part(at(service, sizeof service, 0, sizeof service, 64), 1, &number, &begin, &count);
     case 18:
-        if (dns_rdata_parts_begin(service, sizeof service, 0, sizeof service, 64, &parts) != DNS_RDATA_OK) return DNS_RDATA_MEMORY;
-        return dns_rdata_parts_next(service, sizeof service, &parts, &number, &begin, &count);
+        if (dns_rdata_parts_begin(at(service, sizeof service, 0, sizeof service, 64), &parts) != DNS_RDATA_OK) return DNS_RDATA_MEMORY;
+        return dns_rdata_parts_next(at(service, sizeof service, 0, 0, 0), &parts, &number, &begin, &count);
+    case 19:
+        if (dns_rdata_records_begin(response, sizeof response, &records) != DNS_RDATA_OK) return DNS_RDATA_MEMORY;
+        return dns_rdata_records_next(response, sizeof response, &records, &record);
     case 10: case 11: case 12: case 13:
         return dns_rdata_parse(texts[n - 10], strlen(texts[n - 10]), kinds[n - 10], name, 73, out, sizeof out, &count);
-    default: return dns_rdata_parse_display_text(texts[n - 14], strlen(texts[n - 14]), kinds[n - 14], name, 73, out, sizeof out, &count);
+    default: return dns_rdata_type_number("TYPE4711", 8, &number);
     }
 }
 
 int main(void) {
     int failed = 0;
-    for (int n = 0; n < 19; n++) {
+    for (int n = 0; n < 20; n++) {
         requests = refuse = 0;
         memset(out, 0xee, sizeof out);
         dns_rdata_status wanted = call(n);

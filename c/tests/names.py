@@ -1,5 +1,6 @@
-"""Compares c/include/dns_rdata.h, rust/src/lib.rs and python/dns_rdata.py with crates/dns_rdata_c/src: the numbers of statuses with
-their names, the fields of structs, and each call with the types of what it takes and answers. Status 0 where all are the same."""
+"""Compares c/include/dns_rdata.h, rust/dns-rdata-sys/src/lib.rs and python/src/dns_rdata with crates/dns_rdata_c/src: the numbers of
+statuses with their names, the fields of structs, and each call with the types of its arguments and its result. The status is 0 if all
+are the same."""
 
 import pathlib
 import re
@@ -13,17 +14,32 @@ IN_C = {
     "Global": [], "&[u8]": ["octets", "size_t"], "&mut [u8]": ["buffer", "size_t"], "usize": ["size_t"], "u16": ["uint16_t"],
     "&mut usize": ["size_t *"], "&mut u16": ["uint16_t *"], "&mut i32": ["int32_t *"],
     "&mut Reason": ["struct dns_rdata_refusal *"], "&mut PartsCursor": ["struct dns_rdata_parts *"],
+    "&Rdata<'_>": ["const struct dns_rdata *"], "&mut RecordsCursor": ["struct dns_rdata_records *"], "&mut Record": ["struct dns_rdata_record *"],
 }
 OF_C = {"const uint8_t *": "octets", "const char *": "octets", "uint8_t *": "buffer", "char *": "buffer", "dns_rdata_status": "u32", "int32_t": "i32"}
 OF_RUST = {
-    "*const u8": "octets", "*mut u8": "buffer", "usize": "size_t", "u16": "uint16_t", "*mut usize": "size_t *", "*mut u16": "uint16_t *",
-    "*mut i32": "int32_t *", "*mut RawRefusal": "struct dns_rdata_refusal *", "*mut RawParts": "struct dns_rdata_parts *",
+    "*const u8": "octets", "*const c_char": "octets", "*mut u8": "buffer", "*mut c_char": "buffer", "usize": "size_t", "u16": "uint16_t",
+    "*mut usize": "size_t *", "*mut u16": "uint16_t *", "*mut i32": "int32_t *", "*mut dns_rdata_refusal": "struct dns_rdata_refusal *",
+    "*mut dns_rdata_parts": "struct dns_rdata_parts *", "*const dns_rdata": "const struct dns_rdata *",
+    "*mut dns_rdata_records": "struct dns_rdata_records *", "*mut dns_rdata_record": "struct dns_rdata_record *", "dns_rdata_status": "u32",
 }
 OF_PYTHON = {
-    "*DATA": ["octets", "size_t", "size_t", "uint16_t"], "*ROOM": ["buffer", "size_t", "size_t *"], "OCTETS": ["octets"], "SIZE": ["size_t"],
+    "DATA": ["const struct dns_rdata *"], "*ROOM": ["buffer", "size_t", "size_t *"], "OCTETS": ["octets"], "SIZE": ["size_t"],
     "SHORT": ["uint16_t"], "TELLS": ["int32_t *"], "NUMBER": ["uint16_t *"], "COUNT": ["size_t *"],
     "ctypes.POINTER(Refusal)": ["struct dns_rdata_refusal *"], "ctypes.POINTER(Parts)": ["struct dns_rdata_parts *"],
+    "ctypes.POINTER(Records)": ["struct dns_rdata_records *"], "ctypes.POINTER(Record)": ["struct dns_rdata_record *"],
 }
+# The structs: where the crate has each, its name there and in Python.
+STRUCTS = {
+    "dns_rdata": ("rdata.rt", "Rdata", "Data"), "dns_rdata_refusal": ("check.rt", "Reason", "Refusal"),
+    "dns_rdata_parts": ("parts.rt", "PartsCursor", "Parts"), "dns_rdata_records": ("records.rt", "RecordsCursor", "Records"),
+    "dns_rdata_record": ("records.rt", "Record", "Record"),
+}
+# The types of their fields in the crate and in dns-rdata-sys, and in Python. Octets of the crate are a pointer and a length.
+FIELD = {"usize": "size_t", "u32": "uint32_t", "u16": "uint16_t", "*const u8": "const uint8_t *"}
+PYTHON_FIELD = {"size_t": "size_t", "uint32": "uint32_t", "uint16": "uint16_t", "char_p": "const uint8_t *"}
+# Fields that Rust cannot name as C does, or C++ as Rust does.
+C_NAME = {"type_number": "type", "class": "rrclass"}
 
 wrong = 0
 
@@ -55,9 +71,9 @@ def header_calls(header):
 
 def rust_calls(source):
     calls = {}
-    for name, given, answer in re.findall(r"fn (dns_rdata_\w+)\(([^)]*)\) -> (\w+);", source):
+    for name, given, answer in re.findall(r"fn (dns_rdata_\w+)\(([^)]*)\)\s*-> (\w+);", source):
         types = [it.split(":")[1].strip() for it in given.split(",") if ":" in it]
-        calls[name] = ([OF_RUST.get(it, it) for it in types], answer)
+        calls[name] = ([OF_RUST.get(it, it) for it in types], OF_RUST.get(answer, answer))
     return calls
 
 
@@ -68,24 +84,33 @@ def python_calls(source):
     return calls
 
 
+def fields_of(body):
+    """The fields of a struct in Rust, as C has them."""
+    fields = []
+    for field, kind in re.findall(r"pub (\w+): ([^,]+),", body):
+        if kind == "&'a [u8]":
+            fields += [(field, "const uint8_t *"), (field + "_length", "size_t")]
+        else:
+            fields.append((C_NAME.get(field, field), FIELD.get(kind, kind)))
+    return fields
+
+
 def crate_fields(file, name):
-    body = re.search(rf"pub struct {name} \{{(.*?)\n\}}", (CRATE / file).read_text(), re.S).group(1)
-    return [(field, {"usize": "size_t", "u32": "uint32_t"}[kind]) for field, kind in re.findall(r"pub (\w+): (\w+),", body)]
+    return fields_of(re.search(rf"#\[repr\(C\)\]\n#\[derive\([^)]*\)\]\npub struct {name}(?:<'a>)? \{{(.*?)\n\}}", (CRATE / file).read_text(), re.S).group(1))
 
 
 def header_fields(header, name):
     body = re.search(rf"^struct {name} \{{(.*?)\n\}};", header, re.S | re.M).group(1)
-    return [(field, kind) for kind, field in re.findall(r"(\w+) (\w+);", body)]
+    return [(field, kind.strip()) for kind, field in re.findall(r"^    (\w[\w ]* \*?)(\w+);", body, re.M)]
 
 
 def rust_fields(source, name):
-    body = re.search(rf"^struct {name} \{{(.*?)\n\}}", source, re.S | re.M).group(1)
-    return [(field, {"usize": "size_t", "u32": "uint32_t"}[kind]) for field, kind in re.findall(r"(\w+): (\w+),", body)]
+    return fields_of(re.search(rf"#\[repr\(C\)\]\n#\[derive\([^)]*\)\]\npub struct {name} \{{(.*?)\n\}}", source, re.S).group(1))
 
 
 def python_fields(source, name):
     body = re.search(rf"^class {name}\(ctypes\.Structure\):.*?_fields_ = \[(.*?)\]\n", source, re.S | re.M).group(1)
-    return [(field, {"size_t": "size_t", "uint32": "uint32_t"}[kind]) for field, kind in re.findall(r'"(\w+)", ctypes\.c_(\w+)\)', body)]
+    return [(field, PYTHON_FIELD.get(kind, kind)) for field, kind in re.findall(r'"(\w+)", ctypes\.c_(\w+)\)', body)]
 
 
 def numbers(text, pattern):
@@ -95,25 +120,25 @@ def numbers(text, pattern):
 def main():
     status = (CRATE / "status.rt").read_text()
     header = (TOP / "c/include/dns_rdata.h").read_text()
-    rust = (TOP / "rust/src/lib.rs").read_text()
+    rust = (TOP / "rust/dns-rdata-sys/src/lib.rs").read_text()
     of_crate = numbers(status, r"^pub const (\w+): u32 = (\d+);")
     want_same("status", of_crate, numbers(header, r"^    DNS_RDATA_(\w+) = (\d+)"))
-    python = (TOP / "python/dns_rdata.py").read_text()
-    of_python = numbers(python, r"^    ([A-Z_\d]+) = (\d+)$")
-    want_same("Python's status", {name: of_crate.get(name) for name in of_python}, of_python)
-    of_rust = numbers(rust, r"^const (\w+): u32 = (\d+);")
-    want_same("Rust's status", {name: of_crate.get(name) for name in of_rust}, of_rust)
-    for file, of_crate, name in [("check.rt", "Reason", "Refusal"), ("parts.rt", "PartsCursor", "Parts")]:
-        of_header = "dns_rdata_" + name.lower()
-        fields = {of_header: crate_fields(file, of_crate)}
-        want_same("the fields of", fields, {of_header: header_fields(header, of_header)})
-        want_same("in Rust the fields of", fields, {of_header: rust_fields(rust, "Raw" + name)})
-        want_same("in Python the fields of", fields, {of_header: python_fields(python, name)})
+    python = (TOP / "python/src/dns_rdata/_calls.py").read_text()
+    of_python = numbers((TOP / "python/src/dns_rdata/_errors.py").read_text(), r"^    ([A-Z_\d]+) = (\d+)$")
+    firsts = ("REFUSED", "DAMAGED", "NO_DATA_TEXT")
+    want_same("Python's status", {name: number for name, number in of_crate.items() if name not in firsts}, of_python)
+    want_same("Rust's status", of_crate, numbers(rust, r"^pub const DNS_RDATA_(\w+): dns_rdata_status = (\d+);"))
+    want_same("struct", dict.fromkeys(STRUCTS, 1), dict.fromkeys(re.findall(r"^struct (\w+) \{", header, re.M), 1))
+    for name, (file, in_crate, in_python) in STRUCTS.items():
+        fields = {name: crate_fields(file, in_crate)}
+        want_same("the fields of", fields, {name: header_fields(header, name)})
+        want_same("in Rust the fields of", fields, {name: rust_fields(rust, name)})
+        want_same("in Python the fields of", fields, {name: python_fields(python, in_python)})
     calls = crate_calls()
     want_same("call", calls, header_calls(header))
     want_same("Rust's call", calls, rust_calls(rust))
     want_same("Python's call", {name: takes for name, (takes, answer) in calls.items()}, python_calls(python))
-    print(f"{len(calls)} calls, {wrong} not the same")
+    print(f"{len(calls)} calls, {len(STRUCTS)} structs, {wrong} not the same")
     return 1 if wrong or len(calls) < 10 else 0
 
 

@@ -1,12 +1,20 @@
 /*
  * Four threads on small stacks make every call side by side, and each finds as much data as it would alone. RDATA of 2,048 options
  * in no order needs no more stack. Four threads on larger stacks do the same with OPT of 65,532 octets.
+ *
+ * Each stack ends at a page that cannot be touched. Where the system's threads need larger stacks than these, as on aarch64, the
+ * octets that a thread has written are counted instead. They are printed in any case.
+ *   ./threads [SMALL LARGE]    other sizes than 40 and 96 KiB, in octets, as for an archive of another compiler
  */
-#include "dns_rdata.h"
+#define _GNU_SOURCE
+#include "at.h"
 
 #include <pthread.h>
 #include <stdio.h>
+#include <stdlib.h>
 #include <string.h>
+#include <sys/mman.h>
+#include <unistd.h>
 
 enum { THREADS = 4, ROUNDS = 5000, STACK = 40 * 1024, LARGE_STACK = 96 * 1024, SIZE = 60 };
 
@@ -25,20 +33,18 @@ static unsigned long calls(const uint8_t *message, uint16_t length, uint16_t typ
     size_t count = 0;
     int32_t order = 5, equal = 5;
     struct dns_rdata_refusal why;
-    if (dns_rdata_check(message, SIZE, 0, length, type, &why) != DNS_RDATA_OK)
+    if (dns_rdata_check(at(message, SIZE, 0, length, type), &why) != DNS_RDATA_OK)
         return 0;
-    unsigned long good = dns_rdata_compare(message, SIZE, 0, length, message, SIZE, 0, length, type, &order) == DNS_RDATA_OK && order == 0;
-    good += dns_rdata_equal(message, SIZE, 0, length, message, SIZE, 0, length, type, &equal) == DNS_RDATA_OK && equal == 1;
-    good += dns_rdata_wire(message, SIZE, 0, length, type, out, sizeof out, &count) == DNS_RDATA_OK;
-    good += dns_rdata_canonical(message, SIZE, 0, length, type, out, sizeof out, &count) == DNS_RDATA_OK;
-    good += dns_rdata_text(message, SIZE, 0, length, type, text, sizeof text, &count) == DNS_RDATA_OK
+    unsigned long good = dns_rdata_compare(at(message, SIZE, 0, length, type), at(message, SIZE, 0, length, type), &order) == DNS_RDATA_OK && order == 0;
+    good += dns_rdata_equal(at(message, SIZE, 0, length, type), at(message, SIZE, 0, length, type), &equal) == DNS_RDATA_OK && equal == 1;
+    good += dns_rdata_wire(at(message, SIZE, 0, length, type), out, sizeof out, &count) == DNS_RDATA_OK;
+    good += dns_rdata_canonical(at(message, SIZE, 0, length, type), out, sizeof out, &count) == DNS_RDATA_OK;
+    good += dns_rdata_text(at(message, SIZE, 0, length, type), text, sizeof text, &count) == DNS_RDATA_OK
         && dns_rdata_parse(text, count, type, (const uint8_t *)"", 1, out, sizeof out, &count) == DNS_RDATA_OK;
     size_t begin = 0;
     uint16_t number = 0;
-    good += dns_rdata_name(message, SIZE, 0, length, type, 0, out, sizeof out, &count, &begin) != DNS_RDATA_MEMORY;
-    good += dns_rdata_part(message, SIZE, 0, length, type, 0, &number, &begin, &count) != DNS_RDATA_MEMORY;
-    if (dns_rdata_display_text(message, SIZE, 0, length, type, text, sizeof text, &count) == DNS_RDATA_OK)
-        good += dns_rdata_parse_display_text(text, count, type, (const uint8_t *)"", 1, out, sizeof out, &count) != DNS_RDATA_MEMORY;
+    good += dns_rdata_name(at(message, SIZE, 0, length, type), 0, out, sizeof out, &count, &begin) != DNS_RDATA_MEMORY;
+    good += dns_rdata_part(at(message, SIZE, 0, length, type), 0, &number, &begin, &count) != DNS_RDATA_MEMORY;
     return good;
 }
 
@@ -58,9 +64,9 @@ static void fill(uint8_t *octets, unsigned count, int turned) {
 static unsigned long many(const uint8_t *one, const uint8_t *other, uint16_t length, uint8_t *out) {
     size_t count = 0;
     int32_t order = 5, equal = 5;
-    unsigned long good = dns_rdata_compare(one, length, 0, length, other, length, 0, length, OPT, &order) == DNS_RDATA_OK && order == 0;
-    good += dns_rdata_equal(one, length, 0, length, other, length, 0, length, OPT, &equal) == DNS_RDATA_OK && equal == 1;
-    good += dns_rdata_canonical(one, length, 0, length, OPT, out, length, &count) == DNS_RDATA_OK && count == length;
+    unsigned long good = dns_rdata_compare(at(one, length, 0, length, OPT), at(other, length, 0, length, OPT), &order) == DNS_RDATA_OK && order == 0;
+    good += dns_rdata_equal(at(one, length, 0, length, OPT), at(other, length, 0, length, OPT), &equal) == DNS_RDATA_OK && equal == 1;
+    good += dns_rdata_canonical(at(one, length, 0, length, OPT), out, length, &count) == DNS_RDATA_OK && count == length;
     return good;
 }
 
@@ -86,18 +92,44 @@ static void *run_most(void *given) {
     return NULL;
 }
 
-/* Four threads on stacks of this size, and each alone: 1 if one finds another number of results that are as wanted, else 0. */
-static int side_by_side(void *(*what)(void *), size_t stack) {
-    static struct work works[THREADS], alone[THREADS];
-    pthread_t threads[THREADS];
+enum { UNTOUCHED = 0xa5 };
+
+/* A stack of at least `size` octets, after a page that cannot be touched, or NULL. */
+static uint8_t *stack_of(size_t size) {
+    size_t page = (size_t)sysconf(_SC_PAGESIZE);
+    uint8_t *at = (uint8_t *)mmap(NULL, page + size, PROT_READ | PROT_WRITE, MAP_PRIVATE | MAP_ANONYMOUS, -1, 0);
+    if (at == MAP_FAILED || mprotect(at, page, PROT_NONE) != 0)
+        return NULL;
+    memset(at + page, UNTOUCHED, size);
+    return at + page;
+}
+
+/* The octets of a stack, which grows downwards, from the lowest one that was written to its top. */
+static size_t used_of(const uint8_t *stack, size_t size) {
+    size_t left = 0;
+    while (left < size && stack[left] == UNTOUCHED)
+        left++;
+    return size - left;
+}
+
+/* Starts a thread on a stack of its own. */
+static int start(pthread_t *thread, uint8_t *stack, size_t size, void *(*what)(void *), struct work *work) {
     pthread_attr_t attributes;
     pthread_attr_init(&attributes);
-    if (pthread_attr_setstacksize(&attributes, stack) != 0)
-        return 1;
+    return stack == NULL || pthread_attr_setstack(&attributes, stack, size) != 0 || pthread_create(thread, &attributes, what, work) != 0;
+}
+
+/* Four threads on stacks of this size, and each alone: 1 if one finds another number of results that are as wanted, else 0. */
+static int side_by_side(void *(*what)(void *), size_t most_used) {
+    static struct work works[THREADS], alone[THREADS];
+    pthread_t threads[THREADS];
+    uint8_t *stacks[THREADS];
+    size_t least = (size_t)sysconf(_SC_THREAD_STACK_MIN), size = most_used < least ? least : most_used, used = 0;
     for (int i = 0; i < THREADS; i++) {
         works[i].seed = alone[i].seed = (uint64_t)i + 1;
         works[i].good = alone[i].good = 0;
-        if (pthread_create(&threads[i], &attributes, what, &works[i]) != 0)
+        stacks[i] = stack_of(size);
+        if (start(&threads[i], stacks[i], size, what, &works[i]) != 0)
             return 1;
     }
     int failed = 0;
@@ -106,15 +138,19 @@ static int side_by_side(void *(*what)(void *), size_t stack) {
         what(&alone[i]);
         printf("%lu calls are as wanted, %lu alone\n", works[i].good, alone[i].good);
         failed |= works[i].good != alone[i].good || works[i].good == 0;
+        if (used_of(stacks[i], size) > used)
+            used = used_of(stacks[i], size);
     }
-    return failed;
+    printf("stack: %zu octets, of %zu\n", used, most_used);
+    return failed | (used > most_used);
 }
 
-int main(void) {
+int main(int argc, char **argv) {
+    size_t small = argc == 3 ? strtoul(argv[1], NULL, 10) : STACK, large = argc == 3 ? strtoul(argv[2], NULL, 10) : LARGE_STACK;
     for (int turned = 0; turned < 2; turned++) {
         fill(few[turned], FEW, turned);
         fill(most[turned], MOST, turned);
     }
-    int failed = side_by_side(run, STACK);
-    return side_by_side(run_most, LARGE_STACK) | failed;
+    int failed = side_by_side(run, small);
+    return side_by_side(run_most, large) | failed;
 }

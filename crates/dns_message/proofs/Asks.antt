@@ -1,7 +1,8 @@
 -- What a walk over questions gives, from what each call of `next` gives.
-use Rattle.std.proofs.Common.{◌≡◌, ℕ, suc, ◌+◌, ◌≤◌, ◌<◌, ◌⊎◌, inl, inr, List, [], ◌∷◌, length, None, Ok, Err, refl, sym, ap, subst, arith}
+use Rattle.std.proofs.Common.{◌≡◌, ℕ, suc, ◌+◌, ◌-◌, ◌≤◌, ◌<◌, ◌⊎◌, inl, inr, List, [], ◌∷◌, length, None, Ok, Err, refl, sym, ap, subst, arith}
 use Rattle.std.specs.Iterator.{Drains, Yields}
-use Rattle.dns_message.specs.{State.Asking}
+use Rattle.dns_view.specs.Pointers.{NamePointers}
+use Rattle.dns_message.specs.{State.Asking, Pointers.SumOf, Pointers.OfQuestion}
 use Rattle.dns_message.specs.Asks.{AskedItem, NextQuestion, PassesQuestion, StopsAtQuestion, ShowsAll, EndsAsking, AsksGive}
 
 -- after the last item there is none
@@ -12,19 +13,23 @@ no_more j (x ∷ xs) e done y = absurd (none y.1.is) where
   none (inl p) = let left = p.left in omega arith
   none (inr p) = let left = p.left in omega arith
 
--- the state after a question that ends at an offset
-abbrev beyond : Asking → ℕ → Asking
-beyond s end = record { message = s.message; offset = end; passed = s.passed + 1; until = s.until }
+-- the state after a question that ends at an offset and follows so many compression pointers
+abbrev beyond : Asking → ℕ → ℕ → Asking
+beyond s end k = record { message = s.message; offset = end; passed = s.passed + 1; until = s.until; left = s.left - k }
 
-abbrev Ended : Asking → ℕ → ℕ → List AskedItem → Type 0
-Ended s n end rest = ((rest ≡ []) × (n ≡ s.until)) ⊎ ((n < s.until) × EndsAsking s.message n end rest)
+abbrev Ended : Asking → ℕ → ℕ → ℕ → List AskedItem → Type 0
+Ended s n end left rest = ((rest ≡ []) × (n ≡ s.until)) ⊎ ((n < s.until) × EndsAsking s.message n end left rest)
 
-ended_as : (s : Asking) (n k end : ℕ) (rest : List AskedItem) → n ≡ k → Ended s n end rest → Ended s k end rest
-ended_as s n k end rest e w = subst (λ (i : ℕ). Ended s i end rest) e w
+ended_as : (s : Asking) (n k end left other : ℕ) (rest : List AskedItem) → n ≡ k → left ≡ other → Ended s n end left rest → Ended s k end other rest
+ended_as s n k end left other rest e f w =
+    subst (λ (i : ℕ). Ended s i end other rest) e (subst (λ (l : ℕ). Ended s n end l rest) f w)
 
 asks_more : (s : Asking) (x : AskedItem) (j : Asking) (xs : List AskedItem) → PassesQuestion s x j → AsksGive j xs → AsksGive s (x ∷ xs)
 asks_more s x j xs p w =
-    let v : AsksGive (beyond s j.offset) xs = subst (λ (t : Asking). AsksGive t xs) p.after w in
+    let v : AsksGive (beyond s j.offset p.pointers) xs = subst (λ (t : Asking). AsksGive t xs) p.after w in
+    let here : SumOf (OfQuestion s.message) (p.is.question ∷ v.questions) (p.pointers + v.pointers) =
+    (p.pointers, v.pointers, subst (λ (q : ℕ). NamePointers s.message q p.pointers) (sym p.is.is.starts) p.followed, v.followed, refl) in
+    let less : s.left - p.pointers - v.pointers ≡ s.left - (p.pointers + v.pointers) = omega arith in
     let one : s.passed + 1 ≡ suc s.passed = omega arith in
     let all : s.passed + 1 + length v.questions ≡ s.passed + length (p.is.question ∷ v.questions) = omega arith in
     let others : ShowsAll s.message (suc s.passed) v.questions v.shown = subst (λ (i : ℕ). ShowsAll s.message i v.questions v.shown) one v.shows in
@@ -34,11 +39,15 @@ asks_more s x j xs p w =
       questions = p.is.question ∷ v.questions;
       end = v.end;
       found = record { many = refl; follow = (j.offset, p.is.is, v.found.follow) };
+      pointers = p.pointers + v.pointers;
+      followed = here;
+      few = omega (arith, p.within, v.few);
       shown = Ok p.question ∷ v.shown;
       shows = (p.is.shows, others);
       rest = v.rest;
       split = cc;
-      ends = ended_as s (s.passed + 1 + length v.questions) (s.passed + length (p.is.question ∷ v.questions)) v.end v.rest all v.ends;
+      ends = ended_as s (s.passed + 1 + length v.questions) (s.passed + length (p.is.question ∷ v.questions)) v.end
+          (s.left - p.pointers - v.pointers) (s.left - (p.pointers + v.pointers)) v.rest all less v.ends;
     }
 
 asks_stop : (s : Asking) (x : AskedItem) (xs : List AskedItem) (t : Asking) → StopsAtQuestion s x t → xs ≡ [] → AsksGive s (x ∷ xs)
@@ -46,16 +55,19 @@ asks_stop s x xs t p none =
     let given = p.given in
     let last : x ∷ xs ≡ Err p.error ∷ [] = cc in
     let left = p.left in
-    let ends : EndsAsking s.message s.passed s.offset (x ∷ xs) = record { error = p.error; last = last; damaged = p.damaged } in
+    let ends : EndsAsking s.message s.passed s.offset s.left (x ∷ xs) = record { error = p.error; last = last; why = p.why } in
     record {
       questions = [];
       end = s.offset;
       found = record { many = refl; follow = refl };
+      pointers = 0;
+      followed = refl;
+      few = omega arith;
       shown = [];
       shows = tt;
       rest = x ∷ xs;
       split = refl;
-      ends = ended_as s s.passed (s.passed + 0) s.offset (x ∷ xs) (omega arith) (inr (left, ends));
+      ends = ended_as s s.passed (s.passed + 0) s.offset s.left (s.left - 0) (x ∷ xs) (omega arith) (omega arith) (inr (left, ends));
     }
 
 -- a walk is done where nothing is left
@@ -64,6 +76,9 @@ asks_done s done = record {
   questions = [];
   end = s.offset;
   found = record { many = refl; follow = refl };
+  pointers = 0;
+  followed = refl;
+  few = omega arith;
   shown = [];
   shows = tt;
   rest = [];
@@ -94,3 +109,9 @@ asks_give (x ∷ xs) s e u order y last =
 
 pub asks_drain : (s : Asking) → s.passed ≤ s.until → (xs : List AskedItem) → Drains NextQuestion s xs → AsksGive s xs
 asks_drain s order xs d = asks_give xs s d.1.0 d.0 order d.1.1 d.1.2
+
+-- two states with as many compression pointers left
+pub left_as : {m : List ℕ} {p n u l k : ℕ} → l ≡ k
+    → (let s : Asking = record { message = m; offset = p; passed = n; until = u; left = l } in s)
+    ≡ record { message = m; offset = p; passed = n; until = u; left = k }
+left_as {m} {p} {n} {u} e = ap (λ (l : ℕ). let s : Asking = record { message = m; offset = p; passed = n; until = u; left = l } in s) e

@@ -3,7 +3,9 @@ pub mod Headers
 pub mod Fields
 pub mod RefusedRdata
 pub mod Follow
+pub mod Stops
 pub mod Walks
 pub mod Asks
 pub mod Starts
 pub mod Examples
+pub mod RecordFields

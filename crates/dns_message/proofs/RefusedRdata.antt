@@ -5,6 +5,8 @@ use Rattle.dns_types.specs.{declared.record_type.RecordType.RecordType, declared
 use Rattle.dns_types.specs.declared.error.DecodeError.TheVariants as decode
 use Rattle.dns_names_wire.specs.State.{Reading}
 use Rattle.dns_rdata.specs.{Data.NoValue, ReadErrors.IsReadError, Views.IsViewOf, declared.view.RDataRef.RDataRef}
+use Rattle.dns_view.specs.Pointers.{Leaves}
+use Rattle.dns_rdata.specs.Pointers.{RDataPointers}
 use Rattle.dns_message.specs.Items.{IsRefusedAt}
 
 -- by a decoder that begins at q
@@ -21,3 +23,9 @@ refused_at m q n t (Err e) d new is none why memory = record {
   cause = subst (λ (x : Reading). IsReadError t n x new e) is why;
   memory = memory;
 }
+
+-- what is left after the compression pointers that are followed there
+pub leaves_at : (m : List ℕ) (q n k : ℕ) (t : RecordType) (d : Reading) (left after : ℕ) → d ≡ record { message = m; index = q } → n ≡ k
+    → Leaves (RDataPointers t n d) left after → Leaves (RDataPointers t k (record { message = m; index = q })) left after
+leaves_at m q n k t d left after is same h = subst (λ (x : Reading). Leaves (RDataPointers t k x) left after) is
+    (subst (λ (x : ℕ). Leaves (RDataPointers t x d) left after) same h)

@@ -2,6 +2,8 @@ pub mod Entries
 pub mod Headers
 pub mod Questions
 pub mod Records
+pub mod Pointers
+pub mod Stops
 pub mod Readings
 pub mod State
 pub mod Asks

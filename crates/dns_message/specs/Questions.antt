@@ -4,10 +4,9 @@ use Rattle.dns_types.specs.RecordTypes.{record_type_of}
 use Rattle.dns_fields.specs.{Labels.DomainName, Fields.Stands}
 use Rattle.dns_fields.specs.declared.Kind.{TheVariants.Number, TheVariants.Name}
 use Rattle.dns_message.specs.Entries.{Follow, NoName, EndsAfterName}
-use Rattle.dns_message.specs.declared.{error.Fault.Fault, error.RecordError.RecordError}
+use Rattle.dns_message.specs.declared.error.Fault.{Fault}
 use Rattle.dns_message.specs.declared.question.QuestionRef.{QuestionRef}
 use Rattle.dns_message.specs.declared.error.Fault.TheVariants as faults
-use Rattle.dns_message.specs.declared.error.Section.TheVariants as sections
 
 -- a question, and the offset where it starts
 pub record Question : Type 0 where
@@ -50,11 +49,3 @@ pub record GivesQuestion (m : List ℕ) (i p end : ℕ) (x : QuestionRef) : Type
   pub question : Question
   pub is : IsQuestion m p question end
   pub shows : ShowsQuestion m i question x
-
--- the error says that the question of this index, which would start at p, is not encoded there, and why
-pub record IsDamagedQuestion (m : List ℕ) (i p : ℕ) (e : RecordError) : Type 0 where
-  pub section : e.section ≡ sections.Question
-  pub index : e.index ≡ i
-  pub offset : e.offset ≡ p
-  pub none : NoQuestion m p
-  pub fault : IsQuestionFault m p e.fault

@@ -3,7 +3,7 @@ use Rattle.std.specs.Prelude.{◌≡◌, ◌≢◌, ℕ, ◌+◌, ◌<◌, ◌�
 use Rattle.dns_fields.specs.{Labels.DomainName, Fields.Stands}
 use Rattle.dns_fields.specs.declared.Kind.{TheVariants.Number, TheVariants.Name}
 use Rattle.dns_message.specs.Entries.{Follow, NoName, EndsAfterName}
-use Rattle.dns_message.specs.declared.{error.Fault.Fault, error.Section.Section, error.RecordError.RecordError}
+use Rattle.dns_message.specs.declared.error.Fault.{Fault}
 use Rattle.dns_message.specs.declared.error.Fault.TheVariants as faults
 
 -- a record, and the offsets where it and its RDATA start
@@ -51,6 +51,7 @@ IsRecordFault message offset faults.Name = NoName message offset
 IsRecordFault message offset faults.Truncated = EndsAfterName message offset 10
 IsRecordFault message offset (faults.Length n left) = LengthPasses message offset n left
 IsRecordFault message offset (faults.RData e) = ⊥
+IsRecordFault message offset faults.Pointers = ⊥
 
 -- A record of UPDATE that has no data: class NONE or ANY, and RDLENGTH 0 (RFC 2136, 2.4 and 2.5). The class of OPT is
 -- no class (RFC 6891, 6.1.2).
@@ -58,11 +59,3 @@ pub record HasNoData (type c rdlength : ℕ) : Type 0 where
   pub class : (c ≡ 254) ⊎ (c ≡ 255)
   pub empty : rdlength ≡ 0
   pub other : type ≢ 41
-
--- the error says that the record of this section and index, which would start at p, is not encoded there, and why
-pub record IsDamagedRecord (m : List ℕ) (s : Section) (i p : ℕ) (e : RecordError) : Type 0 where
-  pub section : e.section ≡ s
-  pub index : e.index ≡ i
-  pub offset : e.offset ≡ p
-  pub none : NoRecord m p
-  pub fault : IsRecordFault m p e.fault

@@ -1,13 +1,20 @@
--- What contracts see of an iterator over questions and of one over records.
+-- What contracts see of a message, of an iterator over questions, and of one over records.
 use Rattle.std.specs.Prelude.{ℕ, List}
 use Rattle.dns_message.specs.declared.header.Header.{Header}
 
--- the message, the offset of the next question, how many questions precede it, and how many there are until the end
+-- The octets of a message, and how many compression pointers one walk over its records may follow.
+pub record Message : Type 0 where
+  pub octets : List ℕ
+  pub limit : ℕ
+
+-- The message, the offset of the next question, how many questions precede it, and how many there are until the end.
+-- `left` is one more than the compression pointers that may still be followed: the walk ends when it is 0.
 pub record Asking : Type 0 where
   pub message : List ℕ
   pub offset : ℕ
   pub passed : ℕ
   pub until : ℕ
+  pub left : ℕ
 
 -- The same of records. The header says how many records each section has.
 pub record Walking : Type 0 where
@@ -16,3 +23,4 @@ pub record Walking : Type 0 where
   pub offset : ℕ
   pub passed : ℕ
   pub until : ℕ
+  pub left : ℕ

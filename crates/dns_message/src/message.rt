@@ -1,31 +1,39 @@
 //! A message that is looked at where it is.
 
-ghost use Rattle.std.specs.Prelude.{◌≡◌, ◌+◌, ◌≤◌, ◌<◌, ℕ, List, length, IfOk, IfErr, OnOk};
+ghost use Rattle.std.specs.Prelude.{◌≡◌, ◌+◌, ◌≤◌, ◌<◌, ℕ, List, length, IfOk, IfErr, IfSome, IfNone, OnOk};
 ghost use Rattle.std.specs.Iterator.{Drains};
 ghost use Rattle.dns_message.specs.Headers.{IsHeader, HasHeader, record_count};
-ghost use Rattle.dns_message.specs.Starts.{Begins, BreaksIn, BeginsAsking};
+ghost use Rattle.dns_message.specs.Starts.{Begins, BreaksIn, BeginsAsking, Resumes, NoResume};
+ghost use Rattle.dns_message.specs.{Readings.IsFound, Records.NoRecord};
 ghost use Rattle.dns_message.specs.{Items.Item, Walks.NextRecord, Walks.WalkGives};
 ghost use Rattle.dns_message.specs.Asks.{AskedItem, NextQuestion, AsksGive};
 
 use crate::error::{MessageError, RecordError};
 use crate::header::{HEADER_OCTETS, Header, header_of};
+use crate::progress::Progress;
 use crate::question::{Questions, questions_of};
-use crate::records::{Records, records_between};
+use crate::reading::{FixedFields, fixed_at};
+use crate::records::{Records, records_between, resume_at};
 use crate::sections::records_in;
 use std::marker::Model;
+
+// How many compression pointers a walk follows at most, if the caller sets no other limit.
+const DEFAULT_LIMIT: u32 = 65_536;
 
 /// A message with a whole header. What follows the header is looked at by the iterators.
 #[derive(Drop)]
 pub struct MessageRef<'a> {
     octets: &'a [u8],
+    limit: u32,
 }
 
 impl<'a> Model for MessageRef<'a> {
-    ghost use Rattle.std.specs.Prelude.{◌≤◌, ℕ, List, length};
+    ghost use Rattle.std.specs.Prelude.{◌≤◌, length};
+    ghost use Rattle.dns_message.specs.State.{Message};
 
-    ghost Value = { List ℕ };
+    ghost Value = { Message };
 
-    ghost view = { λ m. m.octets.now };
+    ghost view = { λ m. record { octets = m.octets.now; limit = m.limit } };
 
     ghost invariant = { λ m. 12 ≤ length m.octets.now };
 }
@@ -37,7 +45,7 @@ impl<'a> MessageRef<'a> {
     ///
     /// [`Truncated`](MessageError::Truncated): the octets are fewer than the twelve of the header.
     pub fn read(octets: &'a [u8]) -> Result<MessageRef<'a>, MessageError>
-        ensures found { IfOk result (λ m. m ≡ octets.now) }
+        ensures found { IfOk result (λ m. m ≡ record { octets = octets.now; limit = 65536 }) }
         ensures header { OnOk result (HasHeader octets.now) }
         ensures refused { IfErr result (λ e. (e ≡ MessageError.Truncated (length octets.now)) × (length octets.now < 12)) }
         ensures none { IfErr result (λ e. HasHeader octets.now → ⊥) }
@@ -47,33 +55,53 @@ impl<'a> MessageRef<'a> {
         }
         // For the proof: brings in that a header is there.
         let _header = header_of(octets);
-        Ok(MessageRef { octets })
+        Ok(MessageRef {
+            octets,
+            limit: DEFAULT_LIMIT,
+        })
+    }
+
+    /// The same message with another limit: how many compression pointers (RFC 1035, section 4.1.4) one walk over its
+    /// questions or records may follow. The limit of a message that was read is 65,536.
+    ///
+    /// The names in a hostile message of 64 KiB can follow the same 8,000 pointers some 4,000 times. A walk that passes
+    /// the limit ends with [`Pointers`](crate::Fault::Pointers), so before that it has followed at most so many
+    /// pointers, and those of one record.
+    #[inline]
+    pub fn with_limit(&self, limit: u32) -> MessageRef<'a>
+        ensures { result ≡ record { octets = self.now.octets; limit = limit } }
+    {
+        MessageRef {
+            octets: self.octets,
+            limit,
+        }
     }
 
     /// The octets of the message.
     #[inline]
     pub fn octets(&self) -> &'a [u8]
-        ensures { result.now ≡ self.now }
+        ensures { result.now ≡ self.now.octets }
     {
         self.octets
     }
 
     /// The header. Allocates nothing.
     pub fn header(&self) -> Header
-        ensures { IsHeader self.now result }
+        ensures { IsHeader self.now.octets result }
     {
         header_of(self.octets)
     }
 
     /// The questions, as many as the header says (RFC 1035, section 4.1.2). Allocates nothing.
     ///
-    /// A question that is damaged gives one error, and it is the last item.
+    /// A question that is damaged gives one error, and it is the last item. So does one with which the names of the
+    /// questions follow more compression pointers than the limit.
     pub fn questions(&self) -> Questions<'a>
         ensures begins { BeginsAsking self.now result }
         ensures all { (xs : List AskedItem) → Drains NextQuestion result xs → AsksGive result xs }
     {
         let header = header_of(self.octets);
-        questions_of(self.octets, header.question_count as usize)
+        questions_of(self.octets, self.limit, header.question_count as usize)
     }
 
     /// All records: answers, authorities, and additional records, as many as the header says (RFC 1035, section 4.1.3).
@@ -83,7 +111,8 @@ impl<'a> MessageRef<'a> {
     ///
     /// # Errors
     ///
-    /// A question is damaged: its section, index and offset, and what is wrong.
+    /// A question is damaged, or the names of the questions follow more compression pointers than the limit: the
+    /// section, index and offset of the question, and what is wrong.
     pub fn records(&self) -> Result<Records<'a>, RecordError>
         ensures begins { IfOk result (Begins self.now (λ h. 0) record_count) }
         ensures all { IfOk result (λ s. (xs : List Item) → Drains NextRecord s xs → WalkGives s xs) }
@@ -91,7 +120,7 @@ impl<'a> MessageRef<'a> {
     {
         let header = header_of(self.octets);
         let until = records_in(&header);
-        records_between(self.octets, header, 0, until)
+        records_between(self.octets, self.limit, header, 0, until)
     }
 
     /// The answers. Allocates nothing.
@@ -107,7 +136,13 @@ impl<'a> MessageRef<'a> {
         ensures damaged { IfErr result (BreaksIn self.now (λ h. 0)) }
     {
         let header = header_of(self.octets);
-        records_between(self.octets, header, 0, header.answer_count as usize)
+        records_between(
+            self.octets,
+            self.limit,
+            header,
+            0,
+            header.answer_count as usize,
+        )
     }
 
     /// The authorities. Allocates nothing.
@@ -116,8 +151,9 @@ impl<'a> MessageRef<'a> {
     ///
     /// # Errors
     ///
-    /// A question is damaged, or the owner, the fixed fields or RDLENGTH of an answer: its section, index and offset, and
-    /// what is wrong.
+    /// A question is damaged, or the owner, the fixed fields or RDLENGTH of an answer; or the names of the questions
+    /// and the owners of the answers follow more compression pointers than the limit: the section, index and offset
+    /// where that is, and what is wrong.
     pub fn authorities(&self) -> Result<Records<'a>, RecordError>
         ensures begins { IfOk result (Begins self.now (λ h. h.answer_count) (λ h. h.answer_count + h.authority_count)) }
         ensures all { IfOk result (λ s. (xs : List Item) → Drains NextRecord s xs → WalkGives s xs) }
@@ -127,6 +163,7 @@ impl<'a> MessageRef<'a> {
         let from = header.answer_count as usize;
         records_between(
             self.octets,
+            self.limit,
             header,
             from,
             from + header.authority_count as usize,
@@ -135,13 +172,14 @@ impl<'a> MessageRef<'a> {
 
     /// The additional records. Allocates nothing.
     ///
-    /// The call goes over the questions, the answers and the authorities, whatever their RDATA is, and the iterator begins
-    /// after them.
+    /// The call goes over the questions, the answers and the authorities, whatever their RDATA is, and the iterator
+    /// begins after them.
     ///
     /// # Errors
     ///
-    /// A question is damaged, or the owner, the fixed fields or RDLENGTH of an answer or an authority: its section, index
-    /// and offset, and what is wrong.
+    /// A question is damaged, or the owner, the fixed fields or RDLENGTH of an answer or an authority; or the names of
+    /// the questions and the owners of these records follow more compression pointers than the limit: the section,
+    /// index and offset where that is, and what is wrong.
     pub fn additionals(&self) -> Result<Records<'a>, RecordError>
         ensures begins { IfOk result (Begins self.now (λ h. h.answer_count + h.authority_count) record_count) }
         ensures all { IfOk result (λ s. (xs : List Item) → Drains NextRecord s xs → WalkGives s xs) }
@@ -150,6 +188,34 @@ impl<'a> MessageRef<'a> {
         let header = header_of(self.octets);
         let from = header.answer_count as usize + header.authority_count as usize;
         let until = records_in(&header);
-        records_between(self.octets, header, from, until)
+        records_between(self.octets, self.limit, header, from, until)
+    }
+
+    /// Goes on with a walk over the records of this message, where [`Records::progress`] said that it was. Allocates
+    /// nothing.
+    ///
+    /// Returns `None` if no walk over the records can be there: the offset is past the end of the message, or `until`
+    /// is more than the records that the header counts. The limit of the message is not looked at: `left` says how much
+    /// of it is left.
+    pub fn resume(&self, progress: Progress) -> Option<Records<'a>>
+        ensures some { IfSome result (Resumes self.now.octets progress) }
+        ensures none { IfNone result (NoResume self.now.octets progress) }
+        ensures all { IfSome result (λ s. progress.passed ≤ progress.until →
+            (xs : List Item) → Drains NextRecord s xs → WalkGives s xs) }
+    {
+        let header = header_of(self.octets);
+        resume_at(self.octets, header, progress)
+    }
+
+    /// The fields of the record at an offset, such as that of an error, or `None` if no record is encoded there: its owner, its
+    /// fixed fields or RDLENGTH are damaged, or the offset is past the end of the message. Allocates nothing.
+    pub fn fields_at(&self, offset: usize) -> Option<FixedFields>
+        ensures some { IfSome result (IsFound self.now.octets offset) }
+        ensures none { IfNone result (NoRecord self.now.octets offset) }
+    {
+        if offset > self.octets.len() {
+            return None;
+        }
+        fixed_at(self.octets, offset)
     }
 }

@@ -1,8 +1,8 @@
 //! Questions, one after the other.
 
-ghost use Rattle.std.specs.Prelude.{◌≡◌, ◌-◌, ◌≤◌, length, IfOk, IfErr};
+ghost use Rattle.std.specs.Prelude.{◌≡◌, ◌+◌, ◌-◌, ◌<◌, ◌≤◌, length, IfOk, IfErr};
 ghost use Rattle.std.specs.Iterator.{at_most};
-ghost use Rattle.dns_message.specs.{Readings.IsAsked, Questions.GivesQuestion, Starts.AskedBefore, Starts.BreaksAsked};
+ghost use Rattle.dns_message.specs.{Readings.IsAsked, Questions.GivesQuestion, Starts.AskedWithin, Starts.BreaksAsked};
 
 use crate::error::{RecordError, Section};
 use crate::header::HEADER_OCTETS;
@@ -54,13 +54,15 @@ fn question_at<'a>(message: &'a [u8], index: usize, offset: usize, asked: Asked)
 
 /// The questions of a message, one after the other. Allocates nothing.
 ///
-/// A question that is damaged gives one error, and it is the last item.
+/// A question that is damaged gives one error, and it is the last item. So does one whose name follows more compression
+/// pointers than the limit of the message leaves.
 #[derive(Drop)]
 pub struct Questions<'a> {
     message: &'a [u8],
     offset: usize,
     passed: usize,
     until: usize,
+    left: usize,
 }
 
 impl<'a> Model for Questions<'a> {
@@ -69,21 +71,28 @@ impl<'a> Model for Questions<'a> {
 
     ghost Value = { Asking };
 
-    ghost view = { λ s. record { message = s.message.now; offset = s.offset; passed = s.passed; until = s.until } };
+    ghost view = { λ s. record {
+      message = s.message.now;
+      offset = s.offset;
+      passed = s.passed;
+      until = s.until;
+      left = s.left;
+    } };
 
     ghost invariant = { λ s. s.offset ≤ length s.message.now };
 }
 
 // The questions of a message that begin after its header.
-pub(crate) fn questions_of<'a>(message: &'a [u8], until: usize) -> Questions<'a>
+pub(crate) fn questions_of<'a>(message: &'a [u8], limit: u32, until: usize) -> Questions<'a>
     requires { 12 ≤ length message.now }
-    ensures { result ≡ record { message = message.now; offset = 12; passed = 0; until = until } }
+    ensures { result ≡ record { message = message.now; offset = 12; passed = 0; until = until; left = limit + 1 } }
 {
     Questions {
         message,
         offset: HEADER_OCTETS,
         passed: 0,
         until,
+        left: limit as usize + 1,
     }
 }
 
@@ -103,10 +112,12 @@ impl<'a> Iterator for Questions<'a> {
         }
         let message = self.message;
         let offset = self.offset;
-        match read_question(message, offset) {
+        let mut left = self.left;
+        match read_question(message, offset, &mut left) {
             Ok(asked) => {
                 self.offset = asked.end;
                 self.passed = passed + 1;
+                self.left = left;
                 Some(Ok(question_at(message, passed, offset, asked)))
             }
             Err(fault) => {
@@ -122,16 +133,22 @@ impl<'a> Iterator for Questions<'a> {
     }
 }
 
-// Goes over the questions of a message, and returns the offset where they end.
-pub(crate) fn skip_questions(message: &[u8], count: usize) -> Result<usize, RecordError>
-    requires { 12 ≤ length message.now }
-    ensures found { IfOk result (AskedBefore message.now count) }
+// Goes over the questions of a message, and returns the offset where they end. Takes the compression pointers of their
+// names off `left`.
+pub(crate) fn skip_questions(
+    message: &[u8],
+    count: usize,
+    left: &mut usize,
+) -> Result<usize, RecordError>
+    requires long { 12 ≤ length message.now }
+    requires some { 0 < left.old }
+    ensures found { IfOk result (AskedWithin message.now count left.old left.new) }
     ensures inside { IfOk result (λ p. p ≤ length message.now) }
-    ensures damaged { IfErr result (BreaksAsked message.now count) }
+    ensures damaged { IfErr result (BreaksAsked message.now count left.old) }
 {
     let mut offset = HEADER_OCTETS;
     for index in 0..count {
-        let asked = match read_question(message, offset) {
+        let asked = match read_question(message, offset, left) {
             Ok(asked) => asked,
             Err(fault) => {
                 return Err(RecordError {

@@ -1,14 +1,15 @@
 //! What is read of one question and of one record.
 
-ghost use Rattle.std.specs.Prelude.{◌≡◌, ◌+◌, ◌≤◌, length, IfOk, IfErr};
-ghost use Rattle.dns_view.specs.NameEnds.{NameEnds};
+ghost use Rattle.std.specs.Prelude.{◌≡◌, ◌+◌, ◌≤◌, length, IfOk, IfErr, IfSome, IfNone, OnOk};
+ghost use Rattle.dns_view.specs.{NameEnds.NameEnds, Pointers.NamePointers};
+ghost use Rattle.dns_message.specs.{Pointers.Takes, Stops.IsQuestionStop, Stops.IsOwnerStop};
 ghost use Rattle.dns_message.specs.Questions.{NoQuestion, IsQuestionFault};
 ghost use Rattle.dns_message.specs.Records.{NoRecord, IsRecordFault};
 ghost use Rattle.dns_message.specs.Readings.{IsAsked, IsFound};
 
 use crate::error::Fault;
 use crate::numbers::{long_at, number_at};
-use dns_view::names::skip_name;
+use dns_view::names::{pass_name, skip_name};
 
 // How many octets follow the name of a question (RFC 1035, section 4.1.2).
 const AFTER_NAME: usize = 4;
@@ -24,15 +25,21 @@ pub(crate) struct Asked {
     pub(crate) end: usize,
 }
 
-// What follows the owner of a record, and where the RDATA and the record end.
-#[derive(Clone, Copy)]
-pub(crate) struct Fixed {
-    pub(crate) record_type: u16,
-    pub(crate) class: u16,
-    pub(crate) ttl: u32,
-    pub(crate) rdlength: u16,
-    pub(crate) rdata: usize,
-    pub(crate) end: usize,
+/// The fields between the owner and the RDATA of a record (RFC 1035, section 4.1.3), and where it ends.
+#[derive(Clone, Copy, Debug, PartialEq, Eq)]
+pub struct FixedFields {
+    /// The number of the type.
+    pub record_type: u16,
+    /// The class.
+    pub class: u16,
+    /// The TTL in seconds, as it is encoded.
+    pub ttl: u32,
+    /// RDLENGTH: the number of octets of RDATA.
+    pub rdlength: u16,
+    /// The offset in the message where the RDATA starts.
+    pub rdata: usize,
+    /// The offset where the record ends.
+    pub end: usize,
 }
 
 // Reads the fields after the name of a question, which ends at `end`.
@@ -57,22 +64,26 @@ fn read_asked(message: &[u8], offset: usize, end: usize) -> Result<Asked, Fault>
     })
 }
 
-// Reads the question at an offset (RFC 1035, section 4.1.2).
-pub(crate) fn read_question(message: &[u8], offset: usize) -> Result<Asked, Fault>
+// Reads the question at an offset (RFC 1035, section 4.1.2), and takes the compression pointers of its name off `left`.
+pub(crate) fn read_question(message: &[u8], offset: usize, left: &mut usize) -> Result<Asked, Fault>
     requires { offset ≤ length message.now }
     ensures found { IfOk result (IsAsked message.now offset) }
     ensures inside { IfOk result (λ q. q.end ≤ length message.now) }
-    ensures none { IfErr result (λ e. NoQuestion message.now offset) }
-    ensures fault { IfErr result (IsQuestionFault message.now offset) }
+    ensures within { OnOk result (Takes (NamePointers message.now offset) left.old left.new) }
+    ensures stopped { IfErr result (IsQuestionStop message.now offset left.old) }
 {
-    match skip_name(message, offset) {
+    let name = pass_name(message, offset, left);
+    if *left == 0 {
+        return Err(Fault::Pointers);
+    }
+    match name {
         Some(end) => read_asked(message, offset, end),
         None => Err(Fault::Name),
     }
 }
 
 // Reads the fields after the owner of a record, which ends at `end`.
-fn read_fixed(message: &[u8], offset: usize, end: usize) -> Result<Fixed, Fault>
+fn read_fixed(message: &[u8], offset: usize, end: usize) -> Result<FixedFields, Fault>
     requires name { NameEnds message.now offset end }
     requires inside { end ≤ length message.now }
     ensures found { IfOk result (IsFound message.now offset) }
@@ -96,7 +107,7 @@ fn read_fixed(message: &[u8], offset: usize, end: usize) -> Result<Fixed, Fault>
             left,
         });
     }
-    Ok(Fixed {
+    Ok(FixedFields {
         record_type,
         class,
         ttl,
@@ -106,16 +117,38 @@ fn read_fixed(message: &[u8], offset: usize, end: usize) -> Result<Fixed, Fault>
     })
 }
 
-// Reads the record at an offset (RFC 1035, section 4.1.3), all but its RDATA, of which it only tells where it is.
-pub(crate) fn read_record(message: &[u8], offset: usize) -> Result<Fixed, Fault>
+// Reads the record at an offset (RFC 1035, section 4.1.3), all but its RDATA, of which it only tells where it is. Takes
+// the compression pointers of its owner off `left`.
+pub(crate) fn read_record(
+    message: &[u8],
+    offset: usize,
+    left: &mut usize,
+) -> Result<FixedFields, Fault>
     requires { offset ≤ length message.now }
     ensures found { IfOk result (IsFound message.now offset) }
     ensures inside { IfOk result (λ r. (r.rdata ≤ length message.now) × (r.end ≤ length message.now)) }
-    ensures none { IfErr result (λ e. NoRecord message.now offset) }
-    ensures fault { IfErr result (IsRecordFault message.now offset) }
+    ensures within { OnOk result (Takes (NamePointers message.now offset) left.old left.new) }
+    ensures stopped { IfErr result (IsOwnerStop message.now offset left.old) }
 {
-    match skip_name(message, offset) {
+    let owner = pass_name(message, offset, left);
+    if *left == 0 {
+        return Err(Fault::Pointers);
+    }
+    match owner {
         Some(end) => read_fixed(message, offset, end),
         None => Err(Fault::Name),
+    }
+}
+
+// The fixed fields of the record at an offset, or `None` if no record is encoded there.
+pub(crate) fn fixed_at(message: &[u8], offset: usize) -> Option<FixedFields>
+    requires { offset ≤ length message.now }
+    ensures some { IfSome result (IsFound message.now offset) }
+    ensures none { IfNone result (NoRecord message.now offset) }
+{
+    let end = skip_name(message, offset)?;
+    match read_fixed(message, offset, end) {
+        Ok(fixed) => Some(fixed),
+        Err(_) => None,
     }
 }

@@ -1,13 +1,16 @@
 //! One record of a message.
 
-ghost use Rattle.std.specs.Prelude.{◌≡◌, ◌≢◌, ◌≤◌, ◌↔◌, IsTrue, length, IfOk, IfErr, MatchOption};
+ghost use Rattle.std.specs.Prelude.{◌≡◌, ◌≢◌, ◌≤◌, ◌↔◌, IsTrue, length, IfOk, IfErr, OnOk, MatchOption};
 ghost use Rattle.dns_rdata.specs.{Views.IsViewOf};
 ghost use Rattle.dns_message.specs.OptRecords.{IsEdns};
+ghost use Rattle.dns_view.specs.Pointers.{Leaves};
+ghost use Rattle.dns_rdata.specs.Pointers.{RDataPointers};
+ghost use Rattle.dns_message.specs.{Pointers.DataPointers, Pointers.RecordPointers, Pointers.Takes, Stops.IsRecordStop};
 ghost use Rattle.dns_message.specs.{Readings.IsFound, Records.HasNoData, Items.IsDataOf, Items.IsRefusedAt, Items.IsRejected, Items.GivesRecord};
 
 use crate::edns::{Edns, edns_of};
 use crate::error::{Fault, RecordError, Section};
-use crate::reading::Fixed;
+use crate::reading::{FixedFields, read_record};
 use crate::sections::Position;
 use dns_rdata::RDataRef;
 use dns_types::{DecodeError, RecordType, Restrict};
@@ -50,11 +53,11 @@ pub struct RecordRef<'a> {
     pub record_type: RecordType,
     /// The class: 1 for IN. Of OPT it is the UDP payload size: see [`edns`](RecordRef::edns).
     pub class: u16,
-    /// The TTL in seconds, as it is encoded: a value of 2^31 or more means 0 (RFC 2181, section 8). Of OPT it is more: see
-    /// [`edns`](RecordRef::edns).
+    /// The TTL in seconds, as it is encoded: a value of 2^31 or more means 0 (RFC 2181, section 8). Of OPT it is more:
+    /// see [`edns`](RecordRef::edns).
     pub ttl: u32,
-    /// The RDATA. `None` for a record of UPDATE that has no data: class NONE or ANY, and RDLENGTH 0 (RFC 2136, sections 2.4
-    /// and 2.5), but not for OPT.
+    /// The RDATA. `None` for a record of UPDATE that has no data: class NONE or ANY, and RDLENGTH 0 (RFC 2136, sections
+    /// 2.4 and 2.5), but not for OPT.
     pub rdata: Option<RDataRef<'a>>,
 }
 
@@ -84,26 +87,36 @@ fn has_no_data(record_type: u16, class: u16, rdlength: u16) -> bool
     }
 }
 
-// Checks the RDATA at an offset.
+// Checks the RDATA at an offset, and takes its compression pointers off `left`.
 fn read_rdata<'a>(
     message: &'a [u8],
     record_type: RecordType,
     rdlength: u16,
     rdata: usize,
+    left: &mut usize,
 ) -> Result<RDataRef<'a>, DecodeError>
     requires { rdata ≤ length message.now }
     ensures found { IfOk result (IsViewOf message.now rdata rdlength record_type) }
     ensures refused { IfErr result (IsRefusedAt message.now rdata rdlength record_type) }
+    ensures pointers { Leaves (RDataPointers record_type rdlength (record { message = message.now; index = rdata }))
+        left.old left.new }
 {
     let mut walk = Walk::at(message, rdata);
-    RDataRef::read_in(&mut walk, record_type, Restrict::new(rdlength))
+    RDataRef::read_in(&mut walk, record_type, Restrict::new(rdlength), left)
 }
 
 // The RDATA of a record, or none if it has no data.
-fn rdata_of<'a>(message: &'a [u8], fixed: &Fixed) -> Result<Option<RDataRef<'a>>, DecodeError>
+fn rdata_of<'a>(
+    message: &'a [u8],
+    fixed: &FixedFields,
+    left: &mut usize,
+) -> Result<Option<RDataRef<'a>>, DecodeError>
     requires { fixed.now.rdata ≤ length message.now }
     ensures found { IfOk result (IsDataOf message.now fixed.now.record_type fixed.now.class fixed.now.rdlength fixed.now.rdata) }
     ensures refused { IfErr result (IsRejected message.now fixed.now.record_type fixed.now.class fixed.now.rdlength fixed.now.rdata) }
+    ensures pointers { Leaves
+        (DataPointers message.now fixed.now.record_type fixed.now.class fixed.now.rdlength fixed.now.rdata)
+        left.old left.new }
 {
     if has_no_data(fixed.record_type, fixed.class, fixed.rdlength) {
         return Ok(None);
@@ -113,27 +126,32 @@ fn rdata_of<'a>(message: &'a [u8], fixed: &Fixed) -> Result<Option<RDataRef<'a>>
         RecordType::from(fixed.record_type),
         fixed.rdlength,
         fixed.rdata,
+        left,
     ) {
         Ok(rdata) => Ok(Some(rdata)),
         Err(reason) => Err(reason),
     }
 }
 
-// What is given for the record at an offset, whose fixed fields were read.
-pub(crate) fn record_at<'a>(
+// What is given for the record at an offset, whose fixed fields were read. Takes the compression pointers of its RDATA
+// off `left`.
+fn record_at<'a>(
     message: &'a [u8],
     position: Position,
     offset: usize,
-    fixed: Fixed,
+    fixed: FixedFields,
+    left: &mut usize,
 ) -> Result<RecordRef<'a>, RecordError>
     requires inside { offset ≤ length message.now }
     requires rdata { fixed.rdata ≤ length message.now }
     requires found { IsFound message.now offset fixed }
-    ensures { GivesRecord message.now position.section position.index offset fixed.end result }
+    ensures gives { GivesRecord message.now position.section position.index offset fixed.end result }
+    ensures pointers { Leaves (DataPointers message.now fixed.record_type fixed.class fixed.rdlength fixed.rdata)
+        left.old left.new }
 {
     let owner = NameRef::at(message, offset);
     let record_type = RecordType::from(fixed.record_type);
-    match rdata_of(message, &fixed) {
+    match rdata_of(message, &fixed, left) {
         Ok(rdata) => Ok(RecordRef {
             section: position.section,
             index: position.index,
@@ -150,5 +168,39 @@ pub(crate) fn record_at<'a>(
             offset,
             fault: Fault::RData(reason),
         }),
+    }
+}
+
+// What is given for a record, and its fixed fields.
+#[derive(Clone, Copy)]
+pub(crate) struct Entry<'a> {
+    pub(crate) item: Result<RecordRef<'a>, RecordError>,
+    pub(crate) fixed: FixedFields,
+}
+
+// What is given for the record at an offset. Takes its compression pointers off `left`: those of its owner, and those
+// of its RDATA. If none are left then, it is not given.
+pub(crate) fn read_entry<'a>(
+    message: &'a [u8],
+    position: Position,
+    offset: usize,
+    left: &mut usize,
+) -> Result<Entry<'a>, Fault>
+    requires { offset ≤ length message.now }
+    ensures gives { IfOk result
+        (λ e. GivesRecord message.now position.section position.index offset e.fixed.end e.item) }
+    ensures inside { IfOk result (λ e. e.fixed.end ≤ length message.now) }
+    ensures within { OnOk result (Takes (RecordPointers message.now offset) left.old left.new) }
+    ensures stopped { IfErr result (IsRecordStop message.now offset left.old) }
+{
+    match read_record(message, offset, left) {
+        Ok(fixed) => {
+            let item = record_at(message, position, offset, fixed, left);
+            if *left == 0 {
+                return Err(Fault::Pointers);
+            }
+            Ok(Entry { item, fixed })
+        }
+        Err(fault) => Err(fault),
     }
 }

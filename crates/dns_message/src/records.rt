@@ -1,22 +1,29 @@
 //! Records, one after the other.
 
-ghost use Rattle.std.specs.Prelude.{◌≡◌, ◌+◌, ◌-◌, ◌≤◌, ◌^◌, ◌<◌, length, drop, IfOk, IfErr, MatchOption};
+ghost use Rattle.std.specs.Prelude.{◌≡◌, ◌+◌, ◌-◌, ◌≤◌, ◌^◌, ◌<◌, length, drop, IfOk, IfErr, IfSome, IfNone, MatchOption};
 ghost use Rattle.std.specs.Iterator.{at_most};
-ghost use Rattle.dns_message.specs.{Headers.record_count, Starts.FoundBetween, Starts.Breaks, Starts.BreaksFound, Starts.BeginsAt};
+ghost use Rattle.dns_message.specs.{Headers.record_count, Starts.FoundWithin, Starts.Breaks, Starts.BreaksFound, Starts.BeginsAt};
+ghost use Rattle.dns_message.specs.{Starts.ResumesAt, Starts.NoResumeAt};
 
 use crate::error::RecordError;
 use crate::header::Header;
+use crate::progress::Progress;
 use crate::question::skip_questions;
 use crate::reading::read_record;
-use crate::record_ref::{RecordRef, record_at};
+use crate::record_ref::{RecordRef, read_entry};
 use crate::sections::{position_of, records_in};
 use std::marker::Model;
 
 /// Records of a message, one after the other. Allocates nothing.
 ///
-/// An item is a record, or why its RDATA is rejected; the walk goes on after both, since RDLENGTH says where the record ends.
-/// A record whose owner, fixed fields or RDLENGTH are damaged gives one error, and it is the last item. There are at most as
-/// many items as the counts of the header say.
+/// An item is a record, or why its RDATA is rejected; the walk goes on after both, since RDLENGTH says where the record
+/// ends. A record whose owner, fixed fields or RDLENGTH are damaged gives one error, and it is the last item. There are
+/// at most as many items as the counts of the header say.
+///
+/// The walk counts the compression pointers (RFC 1035, section 4.1.4) that it follows: in the names of the questions,
+/// in the owners of records, and in names of RDATA, up to the damage where there is one. A record with which they are
+/// more than the limit of the message is not given: the item is an error with [`Pointers`](crate::Fault::Pointers), and
+/// it is the last one.
 ///
 /// [`MessageRef`](crate::MessageRef) makes it, for all records or those of a section.
 #[derive(Drop)]
@@ -26,6 +33,7 @@ pub struct Records<'a> {
     offset: usize,
     passed: usize,
     until: usize,
+    left: usize,
 }
 
 impl<'a> Model for Records<'a> {
@@ -34,14 +42,21 @@ impl<'a> Model for Records<'a> {
 
     ghost Value = { Walking };
 
-    ghost view = { λ s. record { message = s.message.now; header = s.header; offset = s.offset; passed = s.passed; until = s.until } };
+    ghost view = { λ s. record {
+      message = s.message.now;
+      header = s.header;
+      offset = s.offset;
+      passed = s.passed;
+      until = s.until;
+      left = s.left;
+    } };
 
     ghost invariant = { λ s. (s.offset ≤ length s.message.now) × (s.until ≤ record_count s.header) };
 }
 
 impl<'a> Records<'a> {
-    /// The octets after the last record of the message, or `None` if the walk has not come there: records are left, in its own
-    /// section or a later one, or one was damaged. Allocates nothing.
+    /// The octets after the last record of the message, or `None` if the walk has not come there: records are left, in
+    /// its own section or a later one, or one was damaged. Allocates nothing.
     pub fn trailing(&self) -> Option<&'a [u8]>
         ensures { MatchOption result (self.now.passed < record_count self.now.header)
             (λ s. (record_count self.now.header ≤ self.now.passed) × (s.now ≡ drop self.now.offset self.now.message)) }
@@ -51,6 +66,24 @@ impl<'a> Records<'a> {
             return None;
         }
         Some(&self.message[self.offset..])
+    }
+
+    /// Where the walk is, for [`MessageRef::resume`](crate::MessageRef::resume).
+    #[inline]
+    pub fn progress(&self) -> Progress
+        ensures { result ≡ record {
+          offset = self.now.offset;
+          passed = self.now.passed;
+          until = self.now.until;
+          left = self.now.left;
+        } }
+    {
+        Progress {
+            offset: self.offset,
+            passed: self.passed,
+            until: self.until,
+            left: self.left,
+        }
     }
 }
 
@@ -71,11 +104,14 @@ impl<'a> Iterator for Records<'a> {
         let message = self.message;
         let offset = self.offset;
         let position = position_of(&self.header, passed);
-        match read_record(message, offset) {
-            Ok(fixed) => {
-                let item = record_at(message, position, offset, fixed);
+        let mut left = self.left;
+        match read_entry(message, position, offset, &mut left) {
+            Ok(entry) => {
+                let item = entry.item;
+                let fixed = entry.fixed;
                 self.offset = fixed.end;
                 self.passed = passed + 1;
+                self.left = left;
                 Some(item)
             }
             Err(fault) => {
@@ -91,22 +127,25 @@ impl<'a> Iterator for Records<'a> {
     }
 }
 
-// Goes over so many records from an offset on, whatever their RDATA is, and returns the offset where they end.
+// Goes over so many records from an offset on, whatever their RDATA is, and returns the offset where they end. Takes
+// the compression pointers of their owners off `left`.
 fn skip_records(
     message: &[u8],
     header: &Header,
     start: usize,
     count: usize,
+    left: &mut usize,
 ) -> Result<usize, RecordError>
     requires inside { start ≤ length message.now }
     requires few { count ≤ record_count header.now }
-    ensures found { IfOk result (FoundBetween message.now start count) }
+    requires some { 0 < left.old }
+    ensures found { IfOk result (FoundWithin message.now start count left.old left.new) }
     ensures inside { IfOk result (λ p. p ≤ length message.now) }
-    ensures damaged { IfErr result (BreaksFound message.now header.now start count) }
+    ensures damaged { IfErr result (BreaksFound message.now header.now start count left.old) }
 {
     let mut offset = start;
     for passed in 0..count {
-        let fixed = match read_record(message, offset) {
+        let fixed = match read_record(message, offset, left) {
             Ok(fixed) => fixed,
             Err(fault) => {
                 let position = position_of(header, passed);
@@ -126,6 +165,7 @@ fn skip_records(
 // A walk over records, of which so many are passed when it begins, and so many when it ends.
 pub(crate) fn records_between<'a>(
     message: &'a [u8],
+    limit: u32,
     header: Header,
     from: usize,
     until: usize,
@@ -133,21 +173,46 @@ pub(crate) fn records_between<'a>(
     requires long { 12 ≤ length message.now }
     requires order { from ≤ until }
     requires few { until ≤ record_count header }
-    ensures begins { IfOk result (BeginsAt message.now header from until) }
-    ensures damaged { IfErr result (Breaks message.now header from) }
+    ensures begins { IfOk result (BeginsAt message.now (limit + 1) header from until) }
+    ensures damaged { IfErr result (Breaks message.now header from (limit + 1)) }
 {
-    let first = match skip_questions(message, header.question_count as usize) {
+    let mut left = limit as usize + 1;
+    let first = match skip_questions(message, header.question_count as usize, &mut left) {
         Ok(first) => first,
         Err(error) => return Err(error),
     };
-    match skip_records(message, &header, first, from) {
+    match skip_records(message, &header, first, from, &mut left) {
         Ok(offset) => Ok(Records {
             message,
             header,
             offset,
             passed: from,
             until,
+            left,
         }),
         Err(error) => Err(error),
     }
+}
+
+// The walk over records that is where `progress` says, if one can be.
+pub(crate) fn resume_at<'a>(
+    message: &'a [u8],
+    header: Header,
+    progress: Progress,
+) -> Option<Records<'a>>
+    ensures some { IfSome result (ResumesAt message.now header progress) }
+    ensures none { IfNone result (NoResumeAt message.now header progress) }
+{
+    let count = records_in(&header);
+    if progress.offset > message.len() || progress.until > count {
+        return None;
+    }
+    Some(Records {
+        message,
+        header,
+        offset: progress.offset,
+        passed: progress.passed,
+        until: progress.until,
+        left: progress.left,
+    })
 }

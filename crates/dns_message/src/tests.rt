@@ -1,6 +1,6 @@
 //! Messages of RFCs and of README, as the iterators give them.
 
-use crate::{Fault, MessageRef, Section};
+use crate::{Fault, MessageRef, Progress, Section};
 use dns_rdata::{DecodeError, RecordType};
 use std::test::Fail;
 
@@ -46,5 +46,51 @@ fn goes_on_after_damaged_rdata(rt: HostRuntime) -> Result<(), Fail> {
     records.next().ok_or("no third record")??;
     assert!(rt; records.next().is_none());
     assert_eq!(rt; records.trailing().ok_or("records are left")?.len(), 3);
+    Ok(())
+}
+
+// The fault of the answer that the limit ends the walk at, whose index is asked.
+fn fault_at(limit: u32, index: usize) -> Result<Fault, Fail> {
+    let message = MessageRef::read(&EXCHANGES)?.with_limit(limit);
+    let mut records = message.records()?;
+    for _ in 0..index {
+        let _ = records.next().ok_or("too few records")?;
+    }
+    let item = records.next().ok_or("too few records")?;
+    let error = item.err().ok_or("a record is given")?;
+    Ok(error.fault)
+}
+
+// The three answers follow two compression pointers, one and two.
+#[test]
+fn ends_at_the_limit(rt: HostRuntime) -> Result<(), Fail> {
+    assert_eq!(rt; fault_at(0, 0)?, Fault::Pointers);
+    assert_eq!(rt; fault_at(2, 1)?, Fault::Pointers);
+    assert_eq!(rt; fault_at(4, 2)?, Fault::Pointers);
+    let message = MessageRef::read(&EXCHANGES)?.with_limit(5);
+    let mut records = message.records()?;
+    records.next().ok_or("no first record")??;
+    let _ = records.next().ok_or("no second record")?;
+    records.next().ok_or("no third record")??;
+    assert!(rt; records.next().is_none());
+    Ok(())
+}
+
+#[test]
+fn resumes_where_it_was(rt: HostRuntime) -> Result<(), Fail> {
+    let message = MessageRef::read(&EXCHANGES)?;
+    let mut records = message.records()?;
+    records.next().ok_or("no first record")??;
+    let progress = records.progress();
+    assert_eq!(rt; progress.left, 65_535);
+    let mut others = message.resume(progress).ok_or("no walk")?;
+    let second = others.next().ok_or("no second record")?;
+    let error = second.err().ok_or("the second record is damaged")?;
+    assert_eq!(rt; error.index, 1);
+    let past_the_end = Progress {
+        offset: 91,
+        ..progress
+    };
+    assert!(rt; message.resume(past_the_end).is_none());
     Ok(())
 }

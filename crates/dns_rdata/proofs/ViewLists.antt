@@ -1,27 +1,28 @@
 -- The fields of a value, by the view of its RDATA.
 use Rattle.std.proofs.Common.{◌≡◌, ℕ, suc, ◌+◌, ◌-◌, ◌≤◌, inl, inr, List, [], ◌∷◌, ◌++◌, length, take, drop, Option, Some, None, refl, sym, ap, ◌∙◌, arith, subst, Bor}
 use Rattle.std.proofs.lemmas.List.{take_all, append-nil}
-use Rattle.std.specs.List.{flat_map}
+use Rattle.std.specs.List.{flat_map, AllByRecursion}
 use Rattle.std.specs.{declared.net.ip_addr.IpAddr.IpAddr, declared.net.ipv4_addr.Ipv4Addr.Ipv4Addr, declared.net.ipv6_addr.Ipv6Addr.Ipv6Addr}
 use Rattle.std.specs.Net.Addr.{ipv4_octets, ipv6_octets, segments_of, octets_of}
 use Rattle.std.specs.declared.net.ip_addr.IpAddr.TheVariants.{V4, V6}
 use Rattle.dns_types.specs.declared.record_type.RecordType.{RecordType}
 use Rattle.dns_types.specs.declared.record_type.RecordType.TheVariants as types
 use Rattle.dns_fields.specs.declared.Kind.{Kind}
-use Rattle.dns_fields.specs.declared.Kind.TheVariants.{CharacterStrings, Options, Parameters}
+use Rattle.dns_fields.specs.declared.Kind.TheVariants.{CharacterStrings, Options, Parameters, Bitmap}
 use Rattle.dns_fields.specs.{Octets.At, Fields.Value, Fields.Values, Fields.IsField}
 use Rattle.dns_fields.specs.Tlvs.{string, Numbered, tlvs, AreTlvs, AllHeld, OptionValue, OptionHeld, ParameterValue, ParameterHeld}
+use Rattle.dns_fields.specs.Bitmaps.{Block, block, IsBlock}
 use Rattle.dns_rows.specs.{declared.row.Part.Part, Table.table, Table.kinds_of}
 use Rattle.dns_fields.proofs.{Tlvs.complete_or_truncated, OctetLaws.AreOctets-at}
-use Rattle.dns_view.specs.{Rows.HasRow, Shown.ShowsAt, Shown.IsShown, Tlvs.AreComplete, TlvList.NoTlv}
+use Rattle.dns_view.specs.{Rows.HasRow, Shown.ShowsAt, Shown.IsShown, Tlvs.AreComplete, TlvList.NoTlv, TypeList.block_types, TypeList.ListsTypes}
 use Rattle.dns_view.specs.declared.field.FieldRef.{FieldRef}
 use Rattle.dns_view.specs.declared.field.FieldRef.TheVariants as shown
-use Rattle.dns_view.proofs.{Alone.between_is, TlvSteps.no_octets}
+use Rattle.dns_view.proofs.{Alone.between_is, TlvSteps.no_octets, TypeLists.lists_types}
 use Rattle.dns_rdata_base.proofs.Addresses.{octets_of-segments}
 use Rattle.dns_rdata.specs.{Data.FieldsOf, Data.fields_of, Data.type_of, Data.Fills, Laws.address_of}
 use Rattle.dns_rdata.specs.{declared.record_data.RData.RData, declared.view.RDataRef.RDataRef, Views.IsViewOf}
 use Rattle.dns_rdata.specs.declared.record_data.RData.TheVariants as rdata
-use Rattle.dns_rdata.specs.ViewLists.{strings_in, options_in, parameters_in}
+use Rattle.dns_rdata.specs.ViewLists.{strings_in, options_in, parameters_in, types_in}
 use Rattle.dns_rdata.proofs.{Views.meets_row, Values.value_is, Values.value_for-a, Values.value_for-aaaa}
 
 -- ---- what is said of the fields of the row is said of the value
@@ -209,3 +210,60 @@ no_address v ne other = refl
 pub address_none : {m : List ℕ} {p n : ℕ} {t : RecordType} {v : RData} {r : RDataRef} → IsViewOf m p n t r → Fills m p n t v
     → (r.record_type ≡ types.A → ⊥) → (r.record_type ≡ types.AAAA → ⊥) → None ≡ address_of v
 address_none {v = v} is f ne other = sym (no_address v (λ e. ne (is.type ∙ sym f.value.type ∙ e)) (λ e. other (is.type ∙ sym f.value.type ∙ e)))
+
+-- ---- types
+
+abbrev third_types : (kinds : List Kind) → Values kinds → List ℕ
+third_types (a ∷ (b ∷ (Bitmap ∷ kinds))) vs = vs.1.1.0
+third_types kinds vs = []
+
+types_third : (v : RData) → types_in v ≡ third_types (fields_of v).kinds (fields_of v).values
+types_third (rdata.CSYNC x) = refl
+types_third v = refl
+
+-- what blocks yield
+abbrev pub YieldsTypes : List ℕ → List ℕ → Type 0
+YieldsTypes o r = (blocks : List Block) → AllByRecursion IsBlock blocks → o ≡ flat_map block blocks → r ≡ flat_map block_types blocks
+
+shown_types : (kinds : List Kind) (vs : Values kinds) (s : Bor (List ℕ)) (r : List ℕ) → ShowsAt 2 kinds vs (shown.Bitmap s) → YieldsTypes s.now r
+    → ListsTypes r (third_types kinds vs)
+shown_types [] vs s r h y = absurd h
+shown_types (a ∷ []) vs s r h y = absurd h
+shown_types (a ∷ (b ∷ [])) vs s r h y = absurd h
+shown_types (a ∷ (b ∷ (Bitmap ∷ kinds))) vs s r h y =
+    let f = h.is.is in
+    subst (λ (x : List ℕ). ListsTypes x vs.1.1.0) (sym (y f.blocks f.fit (whole_octets f.at))) (lists_types f)
+shown_types (a ∷ (b ∷ (k ∷ kinds))) vs s r h y = absurd h.is
+
+pub types_told : (v : RData) (s : Bor (List ℕ)) (r : List ℕ) → ShowsAt 2 (fields_of v).kinds (fields_of v).values (shown.Bitmap s) → YieldsTypes s.now r
+    → ListsTypes r (types_in v)
+types_told v s r h y = subst (ListsTypes r) (sym (types_third v)) (shown_types (fields_of v).kinds (fields_of v).values s r h y)
+
+lists_nothing : (r v : List ℕ) → r ≡ [] → v ≡ [] → ListsTypes r v
+lists_nothing r v e f = subst (λ (x : List ℕ). ListsTypes x v) (sym e)
+    (subst (ListsTypes []) (sym f) (record { members = λ t. refl; rising = λ rises. refl }))
+
+shown_bitmap : (f : FieldRef) (v : Value Bitmap) → IsShown f Bitmap v → (s : Bor (List ℕ)) × (f ≡ shown.Bitmap s)
+shown_bitmap (shown.Bitmap s) v h = (s, refl)
+shown_bitmap f v h = absurd h
+
+no_third : (kinds : List Kind) (vs : Values kinds) (f : FieldRef) → ShowsAt 2 kinds vs f → ((s : Bor (List ℕ)) → f ≡ shown.Bitmap s → ⊥)
+    → third_types kinds vs ≡ []
+no_third [] vs f h ne = refl
+no_third (a ∷ []) vs f h ne = refl
+no_third (a ∷ (b ∷ [])) vs f h ne = refl
+no_third (a ∷ (b ∷ (Bitmap ∷ kinds))) vs f h ne = let w = shown_bitmap f vs.1.1.0 h.is in absurd (ne w.0 w.1)
+no_third (a ∷ (b ∷ (k ∷ kinds))) vs f h ne = refl
+
+no_types : (kinds : List Kind) (vs : Values kinds) → length kinds ≤ 2 → third_types kinds vs ≡ []
+no_types [] vs h = refl
+no_types (a ∷ []) vs h = refl
+no_types (a ∷ (b ∷ [])) vs h = refl
+no_types (a ∷ (b ∷ (k ∷ kinds))) vs h = absurd (omega (arith, h))
+
+pub types_other : (v : RData) (f : FieldRef) (r : List ℕ) → ShowsAt 2 (fields_of v).kinds (fields_of v).values f
+    → ((s : Bor (List ℕ)) → f ≡ shown.Bitmap s → ⊥) → r ≡ [] → ListsTypes r (types_in v)
+types_other v f r h ne none = lists_nothing r (types_in v) none (types_third v ∙ no_third (fields_of v).kinds (fields_of v).values f h ne)
+
+pub types_missing : (v : RData) (r : List ℕ) → length (fields_of v).kinds ≤ 2 → r ≡ [] → ListsTypes r (types_in v)
+types_missing v r h none = lists_nothing r (types_in v) none (types_third v ∙ no_types (fields_of v).kinds (fields_of v).values h)

@@ -27,7 +27,7 @@ pub use dns_rdata_service::{HTTPS, Items, SVCB, https, items, svcb};
 pub use dns_text::{Lexer, Token};
 pub use dns_tokens::{FromTokens, TokenList};
 pub use dns_types::Strings;
-pub use dns_view::{FieldRef, Labels, NameRef, StringsRef, Tlv, Tlvs};
+pub use dns_view::{FieldRef, Labels, NameRef, StringsRef, Tlv, Tlvs, TypesRef};
 pub use record_data::RData;
 pub use traits::RecordData;
 pub use view::RDataRef;

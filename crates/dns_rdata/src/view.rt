@@ -7,13 +7,15 @@ ghost use Rattle.dns_rows.specs.Table.{table};
 ghost use Rattle.dns_view.specs.Rows.{is_row};
 ghost use Rattle.dns_names_wire.specs.Terms.{StaysBehind};
 ghost use Rattle.dns_rdata.specs.{Data.parts_of, Data.Fills, Data.HasValue, Data.NoValue, Data.IsNeverRead, ReadErrors.IsReadError, ReadErrors.OwnResult};
+ghost use Rattle.dns_view.specs.Pointers.{Leaves};
+ghost use Rattle.dns_rdata.specs.Pointers.{RDataPointers};
 
 use crate::record_data::RData;
 use dns_names_wire::{BinDecoder, DecodeError, RecordType, Restrict};
 use dns_rows::row::NULL;
 use dns_rows::{Part, Row, row_of};
 use dns_view::skip::skip_row;
-use dns_view::{FieldRef, NameRef, RowView, StringsRef, Tlvs, Walk};
+use dns_view::{FieldRef, NameRef, RowView, StringsRef, Tlvs, TypesRef, Walk};
 use std::alloc::{AllocError, Global};
 use std::cmp::Ordering;
 use std::net::{IpAddr, Ipv4Addr, Ipv6Addr};
@@ -71,8 +73,9 @@ impl<'a> RDataRef<'a> {
     ghost use Rattle.dns_rdata.specs.Views.{ComparesAs};
     ghost use Rattle.std.specs.Prelude.{◌≤◌, MatchOption};
     ghost use Rattle.dns_view.specs.{Shown.ShowsAt, NameFields.names_in, NameFields.ShowsNameAt};
-    ghost use Rattle.dns_rdata.specs.{Data.fields_of, Laws.address_of, ViewLists.strings_in, ViewLists.options_in, ViewLists.parameters_in};
+    ghost use Rattle.dns_rdata.specs.{Data.fields_of, Laws.address_of, ViewLists.strings_in, ViewLists.options_in, ViewLists.parameters_in, ViewLists.types_in};
     ghost use Rattle.dns_fields.specs.Tlvs.{AllHeld, OptionHeld, ParameterHeld};
+    ghost use Rattle.dns_view.specs.TypeList.{ListsTypes};
 
     /// Checks that the next `length` octets are the RDATA of a record of this type. The decoder is then at their end.
     /// Allocates nothing.
@@ -102,7 +105,8 @@ impl<'a> RDataRef<'a> {
             return Err(DecodeError::UnknownRecordTypeValue(record_type.into()));
         };
         let mut walk = Walk::at(decoder.message(), start);
-        let outcome = RowView::read(&mut walk, parts, length);
+        let mut unlimited = usize::MAX;
+        let outcome = RowView::read(&mut walk, parts, length, &mut unlimited);
         let _taken = decoder.read_slice(walk.index() - start);
         match outcome {
             Ok(view) => Ok(RDataRef { view, record_type }),
@@ -113,6 +117,9 @@ impl<'a> RDataRef<'a> {
     /// The same by a decoder without an allocator: checks that the next `length` octets are the RDATA of a record of this type.
     /// The decoder is then at their end. Allocates nothing.
     ///
+    /// Takes off `left` how many compression pointers the names of the RDATA follow (RFC 1035, section 4.1.4), down to
+    /// 0. If the RDATA is rejected, these are the names up to and with the field that is rejected.
+    ///
     /// # Errors
     ///
     /// Those of [`read`](RDataRef::read), and the decoder is where that leaves it.
@@ -120,6 +127,7 @@ impl<'a> RDataRef<'a> {
         walk: &mut Walk<'a>,
         record_type: RecordType,
         length: Restrict<u16>,
+        left: &mut usize,
     ) -> Result<RDataRef<'a>, DecodeError>
         ensures found { IfOk result (IsViewOf walk.old.message walk.old.index length record_type) }
         ensures after { OnOk result (walk.new.index ≡ walk.old.index + length) }
@@ -127,13 +135,14 @@ impl<'a> RDataRef<'a> {
         ensures why { IfErr result (IsReadError record_type length walk.old walk.new) }
         ensures allocates_nothing { IfErr result (λ e. e ≢ DecodeError.Memory) }
         ensures behind { StaysBehind walk.old walk.new }
+        ensures pointers { Leaves (RDataPointers record_type length walk.old) left.old left.new }
     {
         // For the proof: brings in that the offset is inside the message.
         let _start = walk.index();
         let Some(parts) = parts_of_type(record_type) else {
             return Err(DecodeError::UnknownRecordTypeValue(record_type.into()));
         };
-        match RowView::read(walk, parts, length) {
+        match RowView::read(walk, parts, length, left) {
             Ok(view) => Ok(RDataRef { view, record_type }),
             Err(e) => Err(e),
         }
@@ -168,7 +177,13 @@ impl<'a> RDataRef<'a> {
             return Err(DecodeError::UnknownRecordTypeValue(record_type.into()));
         };
         let mut walk = Walk::at(decoder.message(), start);
-        let own = skip_row(&mut walk, parts, length.unverified() as usize);
+        let mut unlimited = usize::MAX;
+        let own = skip_row(
+            &mut walk,
+            parts,
+            length.unverified() as usize,
+            &mut unlimited,
+        );
         let _taken = decoder.read_slice(walk.index() - start);
         own
     }
@@ -313,6 +328,24 @@ impl<'a> RDataRef<'a> {
                 _ => Tlvs::of(&[]),
             },
             None => Tlvs::of(&[]),
+        }
+    }
+
+    /// The types of CSYNC's bitmap (RFC 7477, 2.1.1; RFC 4034, 4.1.2), window by window. Other types of records have none.
+    /// Allocates nothing.
+    ///
+    /// They have the types of the value, and no others; if they rise, they are those of the value. The RFC asks for windows that
+    /// rise, and then they do. A bitmap whose windows do not rise is read too: its types come in the order of its windows, and a
+    /// type twice if its window comes twice. The contract does not say in which order they come.
+    pub fn types(&self) -> TypesRef<'a>
+        ensures { (m : List ℕ) (p n : ℕ) (t : RecordType) (v : RData) → IsViewOf m p n t self.now → Fills m p n t v → ListsTypes result (types_in v) }
+    {
+        match self.field(2) {
+            Some(field) => match field {
+                FieldRef::Bitmap(octets) => TypesRef::of(octets),
+                _ => TypesRef::of(&[]),
+            },
+            None => TypesRef::of(&[]),
         }
     }
 

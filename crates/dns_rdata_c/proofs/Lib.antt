@@ -1,3 +1,4 @@
 pub mod ViewCalls
 pub mod PartOctets
 pub mod ZoneReads
+pub mod RecordWalks

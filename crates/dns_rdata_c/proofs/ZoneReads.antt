@@ -4,11 +4,10 @@ use Rattle.std.proofs.{Math.Facts.Fits-lt-pow, lemmas.List.Elements.All-from_get
 use Rattle.dns_fields.{specs.Fields.Stands, specs.Labels.DomainName, specs.Octets.AreOctets, proofs.OctetLaws.AreOctets-front, proofs.OctetLaws.AreOctets-same}
 use Rattle.dns_types.specs.declared.{error.ParseError.ParseError, record_type.RecordType.RecordType}
 use Rattle.dns_types.specs.declared.error.ParseError.TheVariants as parse
-use Rattle.dns_rdata.specs.{declared.record_data.RData.RData, WholeOctets.all_whole, WholeOctets.whole_data, DataTokens.GivesNoneAt, DataTokens.HasNoTokens, Data.FieldsOf, Data.shape, Data.Fills}
+use Rattle.dns_rdata.specs.{declared.record_data.RData.RData, WholeOctets.all_whole, WholeOctets.whole_data, Data.FieldsOf, Data.shape, Data.Fills}
 use Rattle.dns_tokens.specs.Reads.{UnlessParseMemory}
-use Rattle.dns_text.specs.TextWords.{NoTextWords}
 use Rattle.dns_rdata_zone.{specs.ZoneGives.AreDataOf, specs.ZoneGives.GivesValue, specs.ZoneGives.GivesNone, specs.ZoneFaults.ZoneFault, proofs.Again.own_fields, proofs.Filled.fills_give, proofs.ZoneOnce.one_given}
-use Rattle.dns_rdata_c.specs.{Buffers.IsPut, Calls.HasZoneData, Calls.IsNoText, Calls.IsNoZoneText, Calls.IsOrigin, Calls.OfZoneText, Calls.PutsWire, Status.parse_status}
+use Rattle.dns_rdata_c.specs.{Buffers.IsPut, Calls.HasZoneData, Calls.IsNoZoneText, Calls.IsOrigin, Calls.OfZoneText, Calls.PutsWire, Status.parse_status}
 
 -- ---- octets that are put
 
@@ -82,17 +81,4 @@ refused_text origin t text e s told none (inl memory) = inl (told ∙ ap parse_s
 refused_text origin t text e s told none (inr fault) = elim (high e) [
   | inl memory ↦ inl (told ∙ ap parse_status memory)
   | inr h ↦ inr (omega (arith, told, h), record { none = unless e (GivesNone origin t text) h none; error = e; told = told; fault = fault })
-]
-
--- The same of a text that `RData` reads.
-pub refused_tokens : (origin : Option DomainName) (t : RecordType) (text : List ℕ) (e : ParseError) (s : ℕ) → s ≡ parse_status e
-    → UnlessParseMemory e (NoTextWords text ⊎ GivesNoneAt origin t text)
-    → (HasNoTokens t → UnlessParseMemory e ((e ≡ parse.UnsupportedRecordType t) ⊎ NoTextWords text))
-    → (s ≡ 1) ⊎ ((48 ≤ s) × IsNoText origin t text s)
-refused_tokens origin t text e s told none why = elim (high e) [
-  | inl memory ↦ inl (told ∙ ap parse_status memory)
-  | inr h ↦
-      let no_words = unless e (NoTextWords text ⊎ GivesNoneAt origin t text) h none in
-      let other = λ (n : HasNoTokens t). unless e ((e ≡ parse.UnsupportedRecordType t) ⊎ NoTextWords text) h (why n) in
-      inr (omega (arith, told, h), record { none = no_words; error = e; told = told; unsupported = other })
 ]

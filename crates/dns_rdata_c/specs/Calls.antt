@@ -64,20 +64,6 @@ pub record IsWhy (m : List ℕ) (p n : ℕ) (t : RecordType) (status : ℕ) (why
   pub numbers : why ≡ numbers_of error own offset
   pub cause : IsCauseAt m p n t error own offset
 
--- ---- texts
-
--- the value's text is in the buffer
-pub record PutsText (v : RData) (old new : List ℕ) (count : ℕ) : Type 0 where
-  pub text : List ℕ
-  pub is_text : data_text v ≡ Some text
-  pub put : IsTextPut text old new count
-
--- the value's text does not fit
-pub record LacksRoomForText (v : RData) (old new : List ℕ) (count : ℕ) : Type 0 where
-  pub text : List ℕ
-  pub is_text : data_text v ≡ Some text
-  pub too_long : IsTextTooLong text old new count
-
 -- ---- octets
 
 -- the octets are the uncompressed octets of the value
@@ -94,17 +80,6 @@ pub record PutsWire (v : RData) (old new : List ℕ) (count : ℕ) : Type 0 wher
 pub record LacksRoomForWire (v : RData) (old new : List ℕ) (count : ℕ) : Type 0 where
   pub short : length (whole_data v) ≤ 65535
   pub too_many : IsTooMany (whole_data v) old new count
-
--- the octets of the value are in the buffer, and are RDATA of the type
-pub record PutsData (t : RecordType) (v : RData) (old new : List ℕ) (count : ℕ) : Type 0 where
-  pub short : length (whole_data v) ≤ 65535
-  pub reads : HasData (whole_data v) 0 (length (whole_data v)) t (λ _. Unit {0})
-  pub put : IsPut (whole_data v) old new count
-
--- the octets of the value are no data of the type
-pub record IsUnread (t : RecordType) (v : RData) : Type 0 where
-  pub short : length (whole_data v) ≤ 65535
-  pub none : NoValue (whole_data v) 0 (length (whole_data v)) t
 
 -- ---- orders
 
@@ -138,16 +113,6 @@ pub record HasEquality (t : RecordType) (m : List ℕ) (p n : ℕ) (m' : List �
   pub other_fills : Fills m' p' n' t other
   pub tells : TellsSame (data_octets value) (data_octets other) answer
 
--- ---- data from a text
-
--- The text is of no value of the type, and the status is the number of the parser's error. A type that has no display
--- text is rejected as such, where the text has tokens at all.
-pub record IsNoText (origin : Option DomainName) (t : RecordType) (text : List ℕ) (status : ℕ) : Type 0 where
-  pub none : NoTextWords text ⊎ GivesNoneAt origin t text
-  pub error : ParseError
-  pub told : status ≡ parse_status error
-  pub unsupported : HasNoTokens t → (error ≡ parse.UnsupportedRecordType t) ⊎ NoTextWords text
-
 -- ---- origins
 
 -- the octets are a name's, uncompressed; no octets are no origin
@@ -157,20 +122,6 @@ IsOrigin octets (Some x) = IsNameIn octets 0 x (length octets)
 
 abbrev pub IsNoOrigin : List ℕ → Type 0
 IsNoOrigin octets = (x : DomainName) → ¬ (IsNameIn octets 0 x (length octets))
-
--- the octets are an origin, the text is of a value, and P holds of it
-pub record HasTextData (octets : List ℕ) (t : RecordType) (text : List ℕ) (P : RData → Type 0) : Type 0 where
-  pub origin : Option DomainName
-  pub is_origin : IsOrigin octets origin
-  pub value : RData
-  pub is_text : IsDataTextAt origin t text value
-  pub holds : P value
-
--- the octets are an origin, and the text is of no value
-pub record IsRefusedText (octets : List ℕ) (t : RecordType) (text : List ℕ) (status : ℕ) : Type 0 where
-  pub origin : Option DomainName
-  pub is_origin : IsOrigin octets origin
-  pub why : IsNoText origin t text status
 
 -- ---- data from the text of a zone file
 
@@ -208,6 +159,6 @@ IsUnwritten v e =
     Because e (65535 < length (canonical (fields_of v).kinds (fields_of v).values))
     (all_emittable (fields_of v).kinds (fields_of v).values ≡ false)
 
--- the status by which a value has no octets: memory ran out, or they are too many, or it cannot be emitted
+-- the status by which a value has no octets: memory ran out, or they are too many
 abbrev pub IsUnmade : RData → ℕ → Type 0
-IsUnmade v status = (status ≡ 1) ⊎ ((status ≡ 3) × (65535 < length (whole_data v))) ⊎ ((status ≡ 5) × ¬ (IsEmittable v))
+IsUnmade v status = (status ≡ 1) ⊎ ((status ≡ 3) × (65535 < length (whole_data v)))

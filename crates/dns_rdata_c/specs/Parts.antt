@@ -109,6 +109,13 @@ pub record HasPart (m : List ℕ) (p n : ℕ) (t : RecordType) (i number begin c
   pub within : p + n ≤ length m
   pub part : IsPartOf (take (p + n) m) p t i number begin count
 
+-- there is a first part
+pub record HasFirstPart (m : List ℕ) (p n : ℕ) (t : RecordType) : Type 0 where
+  pub number : ℕ
+  pub begin : ℕ
+  pub count : ℕ
+  pub part : HasPart m p n t 0 number begin count
+
 -- RDATA of the type has no parts, or the n octets from p are at most i parts, or they are truncated options.
 abbrev pub LacksPart : List ℕ → ℕ → ℕ → RecordType → ℕ → Type 0
 LacksPart m p n t i =

@@ -25,5 +25,5 @@ parse_status parse.Memory = 1
 parse_status (parse.MissingToken token) = 48
 parse_status (parse.Message text) = 49
 parse_status (parse.UnsupportedRecordType t) = 50
-parse_status parse.AddrParse = 51
+parse_status parse.AddrParse = 52
 parse_status (parse.Proto e) = 52

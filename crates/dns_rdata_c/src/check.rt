@@ -1,10 +1,10 @@
 //! Whether octets are RDATA of a type, and why they are not.
 
 ghost use Rattle.std.specs.Prelude.{◌≡◌, ◌≢◌, ◌≤◌, ◌⊎◌};
-ghost use Rattle.dns_types.specs.RecordTypes.{record_type_of};
 ghost use Rattle.dns_rdata.specs.Data.{HasValue, NoValue};
-ghost use Rattle.dns_rdata_c.specs.{Status.decode_status, Calls.IsWhy, Calls.numbers_of, Calls.own_number, Calls.own_status};
+ghost use Rattle.dns_rdata_c.specs.{Reading.Of, Status.decode_status, Calls.IsWhy, Calls.numbers_of, Calls.own_number, Calls.own_status};
 
+use crate::rdata::Rdata;
 use crate::status::{OK, REFUSED, status_of};
 use dns_rdata::{BinDecoder, DecodeError, RDataRef, RecordType, Restrict};
 use dns_rdata_base::counted::by_length;
@@ -72,32 +72,25 @@ fn status_in(own: Result<(), DecodeError>) -> u32
     }
 }
 
-/// Tells whether the `length` octets from an offset of the message are RDATA of a record of the type of this number, and,
-/// if they are not, the first reason with its numbers, the record's own error, and the offset where reading stopped.
+/// Tells whether the octets are RDATA of their type, and, if they are not, the first reason with its numbers, the record's own error, and the offset where reading stopped.
 /// Allocates nothing.
 #[unsafe(no_mangle)]
-pub extern "C" fn dns_rdata_check(
-    alloc: Global,
-    message: &[u8],
-    offset: usize,
-    length: u16,
-    type_number: u16,
-    why: &mut Reason,
-) -> u32
+pub extern "C" fn dns_rdata_check(alloc: Global, rdata: &Rdata<'_>, why: &mut Reason) -> u32
     // A value of the type fills the octets.
-    ensures ok { result ≡ OK → HasValue message.now offset length (record_type_of type_number) }
+    ensures ok { result ≡ OK → Of rdata.now HasValue }
     // None does.
-    ensures refused { REFUSED ≤ result → NoValue message.now offset length (record_type_of type_number) }
-    ensures why { result ≢ OK → IsWhy message.now offset length (record_type_of type_number) result why.new }
+    ensures refused { REFUSED ≤ result → Of rdata.now NoValue }
+    ensures why { result ≢ OK → Of rdata.now (λ m p n t. IsWhy m p n t result why.new) }
     ensures status { (result ≡ OK) ⊎ (REFUSED ≤ result) }
     ensures untold { result ≡ OK → why.new ≡ why.old }
 {
-    let Ok(mut decoder) = BinDecoder::at(alloc, message, offset) else {
+    let offset = rdata.offset;
+    let Ok(mut decoder) = BinDecoder::at(alloc, rdata.message, offset) else {
         let error = DecodeError::InsufficientBytes;
         return tell(error, Err(error), offset, why);
     };
-    let length = Restrict::new(length);
-    let own = RDataRef::own_result(&mut decoder, RecordType::from(type_number), length);
+    let length = Restrict::new(rdata.length);
+    let own = RDataRef::own_result(&mut decoder, RecordType::from(rdata.type_number), length);
     match by_length(own, &decoder, offset, length) {
         Ok(()) => OK,
         Err(error) => tell(error, own, decoder.index(), why),

@@ -1,12 +1,13 @@
 //! The order of record data, and whether it is equal.
 
 ghost use Rattle.std.specs.Prelude.{◌≡◌, ◌≢◌, ◌≤◌, ◌⊎◌, ℕ, List};
-ghost use Rattle.dns_types.specs.{RecordTypes.record_type_of, declared.record_type.RecordType.RecordType};
+ghost use Rattle.dns_types.specs.declared.record_type.RecordType.{RecordType};
 ghost use Rattle.dns_rdata.specs.Views.{IsViewOf};
-ghost use Rattle.dns_rdata_c.specs.{Reading.IsRejected, Calls.HasOrder, Calls.HasEquality, Calls.order_number, Calls.octets_order};
+ghost use Rattle.dns_rdata_c.specs.{Reading.Of, Reading.Rejected, Calls.HasOrder, Calls.HasEquality, Calls.order_number, Calls.octets_order};
 
+use crate::rdata::Rdata;
 use crate::reading::view_at;
-use crate::status::{OK, REFUSED};
+use crate::status::{OK, OTHER_TYPE, REFUSED};
 use dns_rdata::RDataRef;
 use std::alloc::Global;
 use std::cmp::Ordering;
@@ -33,31 +34,28 @@ fn order_of(view: &RDataRef<'_>, other: &RDataRef<'_>) -> Ordering
     }
 }
 
-/// Tells the order of the data of two records of one type, in two messages: -1, 0 or 1, by their canonical octets. Allocates
-/// nothing.
+/// Tells the order of the RDATA of two records of one type: -1, 0 or 1, by their canonical octets. Allocates nothing.
 #[unsafe(no_mangle)]
 pub extern "C" fn dns_rdata_compare(
     alloc: Global,
-    message: &[u8],
-    offset: usize,
-    length: u16,
-    other: &[u8],
-    other_offset: usize,
-    other_length: u16,
-    type_number: u16,
+    rdata: &Rdata<'_>,
+    other: &Rdata<'_>,
     order: &mut i32,
 ) -> u32
-    ensures ok { result ≡ OK → HasOrder (record_type_of type_number) message.now offset length other.now other_offset other_length order.new }
-    ensures cause { REFUSED ≤ result → IsRejected message.now offset length (record_type_of type_number) result
-        ⊎ IsRejected other.now other_offset other_length (record_type_of type_number) result }
-    ensures status { (result ≡ OK) ⊎ (REFUSED ≤ result) }
+    ensures ok { result ≡ OK → Of rdata.now (λ m p n t. Of other.now (λ l q k u. HasOrder t m p n l q k order.new)) }
+    ensures cause { REFUSED ≤ result → Rejected rdata.now result ⊎ Rejected other.now result }
+    ensures types { result ≡ OTHER_TYPE → rdata.now.type_number ≢ other.now.type_number }
+    ensures status { (result ≡ OK) ⊎ (result ≡ OTHER_TYPE) ⊎ (REFUSED ≤ result) }
     ensures untold { result ≢ OK → order.new ≡ order.old }
 {
-    let data = match view_at(alloc, message, offset, length, type_number) {
+    if rdata.type_number != other.type_number {
+        return OTHER_TYPE;
+    }
+    let data = match view_at(alloc, rdata) {
         Ok(data) => data,
         Err(status) => return status,
     };
-    match view_at(alloc, other, other_offset, other_length, type_number) {
+    match view_at(alloc, other) {
         Err(status) => status,
         Ok(other) => {
             *order = number_of(order_of(&data, &other));
@@ -74,31 +72,29 @@ fn equality_of(view: &RDataRef<'_>, other: &RDataRef<'_>) -> i32
     if view.equals(other) { 1 } else { 0 }
 }
 
-/// Tells whether the data of two records of one type, in two messages, is equal: 1 where their canonical octets are the same,
-/// and 0 otherwise. Allocates nothing.
+/// Tells whether the RDATA of two records of one type is equal: 1 if their canonical octets are the same, and 0 otherwise.
+/// Allocates nothing.
 #[unsafe(no_mangle)]
 pub extern "C" fn dns_rdata_equal(
     alloc: Global,
-    message: &[u8],
-    offset: usize,
-    length: u16,
-    other: &[u8],
-    other_offset: usize,
-    other_length: u16,
-    type_number: u16,
+    rdata: &Rdata<'_>,
+    other: &Rdata<'_>,
     equal: &mut i32,
 ) -> u32
-    ensures ok { result ≡ OK → HasEquality (record_type_of type_number) message.now offset length other.now other_offset other_length equal.new }
-    ensures cause { REFUSED ≤ result → IsRejected message.now offset length (record_type_of type_number) result
-        ⊎ IsRejected other.now other_offset other_length (record_type_of type_number) result }
-    ensures status { (result ≡ OK) ⊎ (REFUSED ≤ result) }
+    ensures ok { result ≡ OK → Of rdata.now (λ m p n t. Of other.now (λ l q k u. HasEquality t m p n l q k equal.new)) }
+    ensures cause { REFUSED ≤ result → Rejected rdata.now result ⊎ Rejected other.now result }
+    ensures types { result ≡ OTHER_TYPE → rdata.now.type_number ≢ other.now.type_number }
+    ensures status { (result ≡ OK) ⊎ (result ≡ OTHER_TYPE) ⊎ (REFUSED ≤ result) }
     ensures untold { result ≢ OK → equal.new ≡ equal.old }
 {
-    let data = match view_at(alloc, message, offset, length, type_number) {
+    if rdata.type_number != other.type_number {
+        return OTHER_TYPE;
+    }
+    let data = match view_at(alloc, rdata) {
         Ok(data) => data,
         Err(status) => return status,
     };
-    match view_at(alloc, other, other_offset, other_length, type_number) {
+    match view_at(alloc, other) {
         Err(status) => status,
         Ok(other) => {
             *equal = equality_of(&data, &other);

@@ -4,8 +4,9 @@ ghost use Rattle.std.specs.Prelude.{◌≡◌, ◌≢◌, ◌≤◌, ◌⊎◌};
 ghost use Rattle.dns_types.specs.RecordTypes.{record_type_of};
 ghost use Rattle.dns_view.specs.NameFields.{names_in};
 ghost use Rattle.dns_rdata.specs.{Data.fields_of, WholeOctets.name_octets};
-ghost use Rattle.dns_rdata_c.specs.{Reading.HasData, Reading.IsRejected, Buffers.IsPut, Buffers.IsTooMany, Names.HasName};
+ghost use Rattle.dns_rdata_c.specs.{Reading.Filled, Reading.Rejected, Buffers.IsPut, Buffers.IsTooMany, Names.Named};
 
+use crate::rdata::Rdata;
 use crate::reading::view_at;
 use crate::status::{ABSENT, BUFFER, OK, REFUSED};
 use std::alloc::Global;
@@ -16,27 +17,24 @@ use std::alloc::Global;
 #[unsafe(no_mangle)]
 pub extern "C" fn dns_rdata_name(
     alloc: Global,
-    message: &[u8],
-    offset: usize,
-    length: u16,
-    type_number: u16,
+    rdata: &Rdata<'_>,
     index: usize,
     out: &mut [u8],
     count: &mut usize,
     begin: &mut usize,
 ) -> u32
-    ensures ok { result ≡ OK → HasName message.now offset length (record_type_of type_number) index
+    ensures ok { result ≡ OK → Named rdata.now index
         (λ q x. IsPut (name_octets x) out.old out.new count.new × (begin.new ≡ q)) }
-    ensures buffer { result ≡ BUFFER → HasName message.now offset length (record_type_of type_number) index
+    ensures buffer { result ≡ BUFFER → Named rdata.now index
         (λ q x. IsTooMany (name_octets x) out.old out.new count.new × (begin.new ≡ q)) }
-    ensures absent { result ≡ ABSENT → HasData message.now offset length (record_type_of type_number) (λ v. names_in (fields_of v).kinds ≤ index) }
-    ensures cause { REFUSED ≤ result → IsRejected message.now offset length (record_type_of type_number) result }
+    ensures absent { result ≡ ABSENT → Filled rdata.now (λ v. names_in (fields_of v).kinds ≤ index) }
+    ensures cause { REFUSED ≤ result → Rejected rdata.now result }
     ensures status { (result ≡ OK) ⊎ (result ≡ BUFFER) ⊎ (result ≡ ABSENT) ⊎ (REFUSED ≤ result) }
     ensures kept { result ≢ OK → out.new ≡ out.old }
     ensures untold { result ≢ OK → result ≢ BUFFER → (count.new ≡ count.old) }
     ensures unplaced { result ≢ OK → result ≢ BUFFER → (begin.new ≡ begin.old) }
 {
-    let data = match view_at(alloc, message, offset, length, type_number) {
+    let data = match view_at(alloc, rdata) {
         Ok(data) => data,
         Err(status) => return status,
     };

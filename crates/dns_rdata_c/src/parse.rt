@@ -1,18 +1,15 @@
-//! RDATA from texts: that of zone files, and that which hickory-proto reads.
+//! RDATA from zone file texts.
 
 ghost use Rattle.std.specs.Prelude.{◌≡◌, ◌≢◌, ◌<◌, ◌≤◌, ◌⊎◌, [], length as size, IfOk, IfErr, OnOk};
-ghost use Rattle.std.specs.{Option.option_copied, Str.IsUtf8};
+ghost use Rattle.std.specs.Option.{option_copied};
 ghost use Rattle.dns_types.specs.RecordTypes.{record_type_of};
-ghost use Rattle.dns_rdata.specs.{Data.NoValue, Data.IsEmittable, DataTokens.IsDataTextAt, WholeOctets.whole_data};
+ghost use Rattle.dns_rdata.specs.{Data.IsEmittable, WholeOctets.whole_data};
 ghost use Rattle.dns_rdata_zone.specs.ZoneGives.{AreDataOf, GivesValue};
-ghost use Rattle.dns_rdata_c.specs.{Reading.HasData, Buffers.IsPut, Calls.IsOrigin, Calls.IsNoOrigin, Calls.IsNoText, Calls.IsNoZoneText, Calls.OfZoneText};
-ghost use Rattle.dns_rdata_c.specs.Calls.{HasTextData, HasZoneData, IsRefusedText, IsRefusedZoneText, IsUnwritten, IsWire, IsUnmade, IsUnread, PutsData, PutsWire, LacksRoomForWire};
+ghost use Rattle.dns_rdata_c.specs.{Buffers.IsPut, Calls.IsOrigin, Calls.IsNoOrigin, Calls.IsNoZoneText, Calls.OfZoneText};
+ghost use Rattle.dns_rdata_c.specs.Calls.{HasZoneData, IsRefusedZoneText, IsUnwritten, IsWire, IsUnmade, PutsWire, LacksRoomForWire};
 
 use crate::putting::{MAX_OCTETS, put_octets};
-use crate::reading::view_at;
-use crate::status::{
-    BUFFER, MEMORY, NO_DATA_TEXT, NOT_UTF8, OK, ORIGIN, TOO_LONG, UNFIT, UNREAD, status_of_text,
-};
+use crate::status::{BUFFER, MEMORY, NO_DATA_TEXT, OK, ORIGIN, TOO_LONG, status_of_text};
 use dns_rdata::{
     BinDecodable, BinDecoder, BinEncoder, DecodeError, Name, ProtoError, RData, RecordType,
 };
@@ -60,6 +57,7 @@ fn emit_to(alloc: Global, octets: &mut Vec<u8>, value: &RData) -> Result<(), Pro
 // and SOA, by pointers into the encoder's own message.
 #[tactic(auto, using(dns_rdata_zone::proofs::Again::same_length))]
 fn whole_octets(alloc: Global, value: &RData) -> Result<Vec<u8>, u32>
+    requires { IsEmittable value.now }
     ensures made { IfOk result (λ octets. IsWire value.now octets.items) }
     ensures refused { IfErr result (IsUnmade value.now) }
 {
@@ -75,17 +73,18 @@ fn whole_octets(alloc: Global, value: &RData) -> Result<Vec<u8>, u32>
         }
         Err(ProtoError::Memory) => Err(MEMORY),
         Err(ProtoError::MaxBufferSizeExceeded) => Err(TOO_LONG),
-        Err(_) => Err(UNFIT),
+        // Unreachable: the value can be emitted.
+        Err(_) => Err(MEMORY),
     }
 }
 
 // Writes the uncompressed octets of a value to a buffer, and sets the count of octets.
 fn put_wire(alloc: Global, value: &RData, out: &mut [u8], count: &mut usize) -> u32
+    requires { IsEmittable value.now }
     ensures ok { result ≡ OK → PutsWire value.now out.old out.new count.new }
     ensures buffer { result ≡ BUFFER → LacksRoomForWire value.now out.old out.new count.new }
     ensures too_long { result ≡ TOO_LONG → 65535 < size (whole_data value.now) }
-    ensures unfit { result ≡ UNFIT → ¬ (IsEmittable value.now) }
-    ensures status { (result ≡ OK) ⊎ (result ≡ MEMORY) ⊎ (result ≡ BUFFER) ⊎ (result ≡ TOO_LONG) ⊎ (result ≡ UNFIT) }
+    ensures status { (result ≡ OK) ⊎ (result ≡ MEMORY) ⊎ (result ≡ BUFFER) ⊎ (result ≡ TOO_LONG) }
     ensures kept { result ≢ OK → out.new ≡ out.old }
     ensures untold { result ≢ OK → result ≢ BUFFER → count.new ≡ count.old }
 {
@@ -145,104 +144,5 @@ pub extern "C" fn dns_rdata_parse(
     match read_zone_text(alloc, RecordType::from(type_number), text, origin.as_ref()) {
         Err(status) => status,
         Ok(value) => put_wire(alloc, &value, out, count),
-    }
-}
-
-// Whether octets are RDATA of the type of this number.
-fn reads_again(alloc: Global, octets: &[u8], type_number: u16) -> u32
-    requires { size octets.now < 65536 }
-    ensures ok { result ≡ OK → HasData octets.now 0 (size octets.now) (record_type_of type_number) (λ _. Unit {0}) }
-    ensures unread { result ≡ UNREAD → NoValue octets.now 0 (size octets.now) (record_type_of type_number) }
-    ensures status { (result ≡ OK) ⊎ (result ≡ UNREAD) }
-{
-    match view_at(alloc, octets, 0, octets.len() as u16, type_number) {
-        Ok(_) => OK,
-        Err(_) => UNREAD,
-    }
-}
-
-// Writes the uncompressed octets of a value to a buffer if they are RDATA of the type of this number, and sets the number of
-// octets.
-fn put_data(
-    alloc: Global,
-    value: &RData,
-    type_number: u16,
-    out: &mut [u8],
-    count: &mut usize,
-) -> u32
-    ensures ok { result ≡ OK → PutsData (record_type_of type_number) value.now out.old out.new count.new }
-    ensures buffer { result ≡ BUFFER → LacksRoomForWire value.now out.old out.new count.new }
-    ensures too_long { result ≡ TOO_LONG → 65535 < size (whole_data value.now) }
-    ensures unfit { result ≡ UNFIT → ¬ (IsEmittable value.now) }
-    ensures unread { result ≡ UNREAD → IsUnread (record_type_of type_number) value.now }
-    ensures status { (result ≡ OK) ⊎ (result ≡ MEMORY) ⊎ (result ≡ BUFFER) ⊎ (result ≡ TOO_LONG) ⊎ (result ≡ UNFIT) ⊎ (result ≡ UNREAD) }
-    ensures kept { result ≢ OK → out.new ≡ out.old }
-    ensures untold { result ≢ OK → result ≢ BUFFER → count.new ≡ count.old }
-{
-    let octets = match whole_octets(alloc, value) {
-        Ok(octets) => octets,
-        Err(status) => return status,
-    };
-    let read = reads_again(alloc, octets.as_slice(), type_number);
-    if read != OK {
-        return read;
-    }
-    put_octets(octets.as_slice(), out, count)
-}
-
-// The value of a text, relative names in it completed by the origin, or the status of the error.
-#[tactic(auto, using(crate::proofs::ZoneReads::refused_tokens))]
-fn read_text(
-    alloc: Global,
-    record_type: RecordType,
-    text: &str,
-    origin: Option<&Name>,
-) -> Result<RData, u32>
-    ensures found { IfOk result (IsDataTextAt (option_copied origin.entry) record_type text.now) }
-    ensures refused { IfErr result (λ s. (s ≡ 1) ⊎ ((48 ≤ s) × IsNoText (option_copied origin.entry) record_type text.now s)) }
-{
-    match RData::try_from_str_with_origin(alloc, record_type, text, origin) {
-        Ok(value) => Ok(value),
-        Err(error) => Err(status_of_text(error)),
-    }
-}
-
-/// Reads RDATA from a text as hickory-proto does, and writes its octets to a buffer, names uncompressed and case preserved.
-/// Tokens, quotes, parentheses and comments are those of a zone file (RFC 1035, section 5.1); the form `\#` of RFC 3597 is not
-/// read. A relative name is completed by the origin, whose octets are given. With no octets of an origin it is taken as fully
-/// qualified.
-#[unsafe(no_mangle)]
-pub extern "C" fn dns_rdata_parse_display_text(
-    alloc: Global,
-    text: &[u8],
-    type_number: u16,
-    origin: &[u8],
-    out: &mut [u8],
-    count: &mut usize,
-) -> u32
-    ensures ok { result ≡ OK → HasTextData origin.now (record_type_of type_number) text.now (λ v. PutsData (record_type_of type_number) v out.old out.new count.new) }
-    ensures buffer { result ≡ BUFFER → HasTextData origin.now (record_type_of type_number) text.now (λ v. LacksRoomForWire v out.old out.new count.new) }
-    ensures too_long { result ≡ TOO_LONG → HasTextData origin.now (record_type_of type_number) text.now (λ v. 65535 < size (whole_data v)) }
-    ensures unfit { result ≡ UNFIT → HasTextData origin.now (record_type_of type_number) text.now (λ v. ¬ (IsEmittable v)) }
-    ensures unread { result ≡ UNREAD → HasTextData origin.now (record_type_of type_number) text.now (IsUnread (record_type_of type_number)) }
-    ensures origin { result ≡ ORIGIN → IsNoOrigin origin.now }
-    ensures not_utf8 { result ≡ NOT_UTF8 → ¬ (IsUtf8 text.now) }
-    ensures utf8 { result ≢ NOT_UTF8 → IsUtf8 text.now }
-    ensures refused { NO_DATA_TEXT ≤ result → IsRefusedText origin.now (record_type_of type_number) text.now result }
-    ensures status { (result ≡ OK) ⊎ (result ≡ MEMORY) ⊎ (result ≡ BUFFER) ⊎ (result ≡ TOO_LONG) ⊎ (result ≡ UNFIT) ⊎ (result ≡ ORIGIN)
-        ⊎ (result ≡ NOT_UTF8) ⊎ (result ≡ UNREAD) ⊎ (NO_DATA_TEXT ≤ result) }
-    ensures kept { result ≢ OK → out.new ≡ out.old }
-    ensures untold { result ≢ OK → result ≢ BUFFER → count.new ≡ count.old }
-{
-    let Ok(text) = str::from_utf8(text) else {
-        return NOT_UTF8;
-    };
-    let origin = match origin_of(alloc, origin) {
-        Ok(origin) => origin,
-        Err(status) => return status,
-    };
-    match read_text(alloc, RecordType::from(type_number), text, origin.as_ref()) {
-        Err(status) => status,
-        Ok(value) => put_data(alloc, &value, type_number, out, count),
     }
 }

@@ -1,14 +1,16 @@
 //! The options of OPT and the parameters of SVCB and HTTPS: one by its index, or all one after the other.
 
-ghost use Rattle.std.specs.Prelude.{◌≡◌, ◌≢◌, ◌↔◌, ◌+◌, ◌<◌, ◌≤◌, ◌⊎◌, ℕ, Some, None, length as size, take, drop, IfOk, IfErr, MatchOption, IsTrue};
+ghost use Rattle.std.specs.Prelude.{◌≡◌, ◌≢◌, ◌↔◌, ◌+◌, ◌<◌, ◌≤◌, ◌⊎◌, ℕ, Some, None, length as size, take, drop, IfOk, IfErr, MatchOption, IsTrue, true};
 ghost use Rattle.dns_types.specs.{RecordTypes.record_type_of, declared.record_type.RecordType.RecordType as RecordTypeValue};
 ghost use Rattle.dns_types.specs.declared.record_type.RecordType.TheVariants as types;
 ghost use Rattle.dns_fields.specs.Tlvs.{IsTruncated};
 ghost use Rattle.dns_view.specs.TlvList.{NoTlv};
-ghost use Rattle.dns_rdata.specs.Data.{Fills, NoValue};
+ghost use Rattle.dns_rdata.specs.{Data.Fills, Data.NoValue, declared.record_data.RData.RData};
+ghost use Rattle.dns_rdata_c.specs.Reading.{Of};
 ghost use Rattle.dns_rdata_c.specs.Parts.{is_partless as partless_type, after_name, after_front, IsPartAt, AreBetween, AreLeft, IsPartOf};
-ghost use Rattle.dns_rdata_c.specs.Parts.{AreFewParts, AreCutOptions, AreNoParts, HasNoFront, HasPart, LacksPart, IsBefore, parts_in, IsPartIn};
+ghost use Rattle.dns_rdata_c.specs.Parts.{AreFewParts, AreCutOptions, AreNoParts, HasNoFront, HasPart, HasFirstPart, LacksPart, IsBefore, parts_in, IsPartIn};
 
+use crate::rdata::Rdata;
 use crate::status::{ABSENT, LENGTH, MISSING_OCTETS, NAME, OK, REFUSED};
 use dns_rdata::RecordType;
 
@@ -210,36 +212,33 @@ fn data_end(message: &[u8], offset: usize, length: u16) -> Option<&[u8]>
 /// are not RDATA of the type. Allocates nothing.
 #[unsafe(no_mangle)]
 pub extern "C" fn dns_rdata_part(
-    message: &[u8],
-    offset: usize,
-    length: u16,
-    type_number: u16,
+    rdata: &Rdata<'_>,
     index: usize,
     number: &mut u16,
     begin: &mut usize,
     count: &mut usize,
 ) -> u32
-    ensures ok { result ≡ OK → HasPart message.now offset length (record_type_of type_number) index number.new begin.new count.new }
-    ensures absent { result ≡ ABSENT → LacksPart message.now offset length (record_type_of type_number) index }
-    ensures short { result ≡ MISSING_OCTETS → size message.now < offset + length }
-    ensures name { result ≡ NAME → HasNoFront (record_type_of type_number) (drop offset (take (offset + length) message.now)) }
-    ensures damaged { result ≡ LENGTH → AreNoParts (record_type_of type_number) (drop offset (take (offset + length) message.now)) }
+    ensures ok { result ≡ OK → Of rdata.now (λ m p n t. HasPart m p n t index number.new begin.new count.new) }
+    ensures absent { result ≡ ABSENT → Of rdata.now (λ m p n t. LacksPart m p n t index) }
+    ensures partless { partless_type (record_type_of rdata.now.type_number) ≡ true → result ≡ ABSENT }
+    ensures short { result ≡ MISSING_OCTETS → size rdata.now.message.now < rdata.now.offset + rdata.now.length }
+    ensures name { result ≡ NAME → Of rdata.now (λ m p n t. HasNoFront t (drop p (take (p + n) m))) }
+    ensures damaged { result ≡ LENGTH → Of rdata.now (λ m p n t. AreNoParts t (drop p (take (p + n) m))) }
     ensures status { (result ≡ OK) ⊎ (result ≡ ABSENT) ⊎ (result ≡ MISSING_OCTETS) ⊎ (result ≡ NAME) ⊎ (result ≡ LENGTH) }
     // For the proof: if the octets are the RDATA of a value, the parts are those of the value.
-    ensures same { result ≡ OK → (v : _) → Fills message.now offset length (record_type_of type_number) v
-        → IsPartIn message.now offset length (record_type_of type_number) v index number.new begin.new count.new }
-    ensures none { result ≡ ABSENT → (v : _) → Fills message.now offset length (record_type_of type_number) v → parts_in (record_type_of type_number) v ≤ index }
-    ensures refused { REFUSED ≤ result → NoValue message.now offset length (record_type_of type_number) }
+    ensures same { result ≡ OK → Of rdata.now (λ m p n t. (v : RData) → Fills m p n t v → IsPartIn m p n t v index number.new begin.new count.new) }
+    ensures none { result ≡ ABSENT → Of rdata.now (λ m p n t. (v : RData) → Fills m p n t v → parts_in t v ≤ index) }
+    ensures refused { REFUSED ≤ result → Of rdata.now NoValue }
     ensures untold { result ≢ OK → (number.new ≡ number.old) × (begin.new ≡ begin.old) × (count.new ≡ count.old) }
 {
-    let record_type = RecordType::from(type_number);
+    let record_type = RecordType::from(rdata.type_number);
     if is_partless(record_type) {
         return ABSENT;
     }
-    let Some(octets) = data_end(message, offset, length) else {
+    let Some(octets) = data_end(rdata.message, rdata.offset, rdata.length) else {
         return MISSING_OCTETS;
     };
-    match find_part(record_type, octets, offset, length, index) {
+    match find_part(record_type, octets, rdata.offset, rdata.length, index) {
         Err(status) => status,
         Ok(part) => {
             *number = part.number;
@@ -253,67 +252,53 @@ pub extern "C" fn dns_rdata_part(
 /// Sets a cursor to the first option or parameter. It looks at each length once, as `dns_rdata_part` does, and returns what that
 /// call returns for index 0. With a status other than `OK` the cursor has no parts. Does not allocate.
 #[unsafe(no_mangle)]
-pub extern "C" fn dns_rdata_parts_begin(
-    message: &[u8],
-    offset: usize,
-    length: u16,
-    type_number: u16,
-    parts: &mut PartsCursor,
-) -> u32
-    ensures ok { result ≡ OK → IsBefore message.now offset length (record_type_of type_number) 0 parts.new }
-    ensures absent { result ≡ ABSENT → LacksPart message.now offset length (record_type_of type_number) 0 }
-    ensures short { result ≡ MISSING_OCTETS → size message.now < offset + length }
-    ensures name { result ≡ NAME → HasNoFront (record_type_of type_number) (drop offset (take (offset + length) message.now)) }
-    ensures damaged { result ≡ LENGTH → AreNoParts (record_type_of type_number) (drop offset (take (offset + length) message.now)) }
+pub extern "C" fn dns_rdata_parts_begin(rdata: &Rdata<'_>, parts: &mut PartsCursor) -> u32
+    ensures ok { result ≡ OK → Of rdata.now (λ m p n t. IsBefore m p n t 0 parts.new) }
+    ensures first { result ≡ OK → Of rdata.now HasFirstPart }
+    ensures absent { result ≡ ABSENT → Of rdata.now (λ m p n t. LacksPart m p n t 0) }
+    ensures short { result ≡ MISSING_OCTETS → size rdata.now.message.now < rdata.now.offset + rdata.now.length }
+    ensures name { result ≡ NAME → Of rdata.now (λ m p n t. HasNoFront t (drop p (take (p + n) m))) }
+    ensures damaged { result ≡ LENGTH → Of rdata.now (λ m p n t. AreNoParts t (drop p (take (p + n) m))) }
     ensures status { (result ≡ OK) ⊎ (result ≡ ABSENT) ⊎ (result ≡ MISSING_OCTETS) ⊎ (result ≡ NAME) ⊎ (result ≡ LENGTH) }
-    ensures none { result ≡ ABSENT → (v : _) → Fills message.now offset length (record_type_of type_number) v → parts_in (record_type_of type_number) v ≤ 0 }
-    ensures refused { REFUSED ≤ result → NoValue message.now offset length (record_type_of type_number) }
+    ensures none { result ≡ ABSENT → Of rdata.now (λ m p n t. (v : RData) → Fills m p n t v → parts_in t v ≤ 0) }
+    ensures refused { REFUSED ≤ result → Of rdata.now NoValue }
     ensures emptied { result ≢ OK → (parts.new.next ≡ 0) × (parts.new.end ≡ 0) }
 {
     *parts = PartsCursor { next: 0, end: 0 };
     let (mut number, mut begin, mut count) = (0, 0, 0);
-    let status = dns_rdata_part(
-        message,
-        offset,
-        length,
-        type_number,
-        0,
-        &mut number,
-        &mut begin,
-        &mut count,
-    );
+    let status = dns_rdata_part(rdata, 0, &mut number, &mut begin, &mut count);
     if status == OK {
         parts.next = begin - 4;
-        parts.end = offset + length as usize;
+        parts.end = rdata.offset + rdata.length as usize;
     }
     status
 }
 
 /// Returns the part at the cursor, as `dns_rdata_part` returns it, and moves the cursor to the next one. After the last part it
-/// returns `ABSENT`. The message is the one with which the cursor began. Each call takes the same time. Does not allocate.
+/// returns `ABSENT`. The data is that with which the cursor began. Each call takes the same time. Does not allocate.
 #[unsafe(no_mangle)]
 pub extern "C" fn dns_rdata_parts_next(
-    message: &[u8],
+    rdata: &Rdata<'_>,
     parts: &mut PartsCursor,
     number: &mut u16,
     begin: &mut usize,
     count: &mut usize,
 ) -> u32
     // Of a cursor before part number i: that part, and the cursor is before the next one.
-    ensures ok { result ≡ OK → (p : ℕ) → (n : ℕ) → (t : RecordTypeValue) → (i : ℕ) → IsBefore message.now p n t i parts.old
-        → HasPart message.now p n t i number.new begin.new count.new × IsBefore message.now p n t (i + 1) parts.new }
-    ensures absent { result ≡ ABSENT → (p : ℕ) → (n : ℕ) → (t : RecordTypeValue) → (i : ℕ) → IsBefore message.now p n t i parts.old
-        → LacksPart message.now p n t i }
+    ensures ok { result ≡ OK → (p : ℕ) → (n : ℕ) → (t : RecordTypeValue) → (i : ℕ) → IsBefore rdata.now.message.now p n t i parts.old
+        → HasPart rdata.now.message.now p n t i number.new begin.new count.new × IsBefore rdata.now.message.now p n t (i + 1) parts.new }
+    ensures absent { result ≡ ABSENT → (p : ℕ) → (n : ℕ) → (t : RecordTypeValue) → (i : ℕ) → IsBefore rdata.now.message.now p n t i parts.old
+        → LacksPart rdata.now.message.now p n t i }
     ensures status { (result ≡ OK) ⊎ (result ≡ ABSENT) }
     // Whatever the cursor was, the part is in the message.
-    ensures within { result ≡ OK → begin.new + count.new ≤ size message.now }
+    ensures within { result ≡ OK → begin.new + count.new ≤ size rdata.now.message.now }
     ensures unmoved { result ≡ ABSENT → parts.new ≡ parts.old }
     ensures untold { result ≡ ABSENT → (number.new ≡ number.old) × (begin.new ≡ begin.old) × (count.new ≡ count.old) }
 {
-    if parts.end > message.len() {
+    if parts.end > rdata.message.len() {
         return ABSENT;
     }
-    let Some(part) = part_at(&message[..parts.end], parts.next) else {
+    let Some(part) = part_at(&rdata.message[..parts.end], parts.next) else {
         return ABSENT;
     };
     *number = part.number;

@@ -13,18 +13,14 @@ pub const MEMORY: u32 = 1;
 pub const BUFFER: u32 = 2;
 /// The octets are more than 65535.
 pub const TOO_LONG: u32 = 3;
-/// The data has no text.
-pub const NO_TEXT: u32 = 4;
-/// The value of a text has no octets: a string in it is too long, or the like.
-pub const UNFIT: u32 = 5;
 /// The octets of the origin are no name.
 pub const ORIGIN: u32 = 6;
 /// The text is not UTF-8.
 pub const NOT_UTF8: u32 = 7;
-/// The text gives a value whose octets are not read as data of the type.
-pub const UNREAD: u32 = 8;
-/// There is no name, option or parameter of this number.
+/// There is no name, option or parameter of this number, or no further record.
 pub const ABSENT: u32 = 9;
+/// Two records have different types.
+pub const OTHER_TYPE: u32 = 10;
 /// From this number on, octets are no data of the type.
 pub const REFUSED: u32 = 16;
 /// Octets are missing at the end of the message.
@@ -53,6 +49,16 @@ pub const MISSING_VALUE: u32 = 26;
 pub const PARAMETER_ORDER: u32 = 27;
 /// Octets that must be UTF-8, and are not.
 pub const UTF8: u32 = 28;
+/// From this number on, a message is damaged.
+pub const DAMAGED: u32 = 32;
+/// The message has not the twelve octets of a header.
+pub const HEADER: u32 = 32;
+/// A question is damaged.
+pub const QUESTION: u32 = 33;
+/// A record is damaged before its RDATA: its owner, its fixed fields, or RDLENGTH, which passes the end of the message.
+pub const RECORD: u32 = 34;
+/// More compression pointers were followed than the limit.
+pub const POINTERS: u32 = 35;
 /// From this number on, a text is of no data of the type.
 pub const NO_DATA_TEXT: u32 = 48;
 /// A token is missing.
@@ -61,8 +67,6 @@ pub const MISSING_WORD: u32 = 48;
 pub const WRONG_WORD: u32 = 49;
 /// No text is read of this type.
 pub const UNSUPPORTED_TYPE: u32 = 50;
-/// A token is no address.
-pub const WRONG_ADDRESS: u32 = 51;
 /// A name or a value in the text is wrong.
 pub const WRONG_VALUE: u32 = 52;
 
@@ -97,18 +101,16 @@ pub fn status_of_text(error: ParseError) -> u32
         ParseError::MissingToken(_) => MISSING_WORD,
         ParseError::Message(_) => WRONG_WORD,
         ParseError::UnsupportedRecordType(_) => UNSUPPORTED_TYPE,
-        ParseError::AddrParse => WRONG_ADDRESS,
-        ParseError::Proto(_) => WRONG_VALUE,
+        ParseError::AddrParse | ParseError::Proto(_) => WRONG_VALUE,
     }
 }
 
 /// The numbers of all statuses are those of `c/include/dns_rdata.h`, with which C programs are compiled.
 pub fn statuses_hold()
-    ensures calls { (OK ≡ 0) × (MEMORY ≡ 1) × (BUFFER ≡ 2) × (TOO_LONG ≡ 3) × (NO_TEXT ≡ 4) × (UNFIT ≡ 5) × (ORIGIN ≡ 6) × (NOT_UTF8 ≡ 7)
-        × (UNREAD ≡ 8) × (ABSENT ≡ 9) }
+    ensures calls { (OK ≡ 0) × (MEMORY ≡ 1) × (BUFFER ≡ 2) × (TOO_LONG ≡ 3) × (ORIGIN ≡ 6) × (NOT_UTF8 ≡ 7) × (ABSENT ≡ 9) × (OTHER_TYPE ≡ 10) }
     ensures octets { (REFUSED ≡ 16) × (MISSING_OCTETS ≡ 16) × (LENGTH ≡ 17) × (NEVER ≡ 18) × (NO_TYPE ≡ 19) × (NAME ≡ 20) × (BITMAP ≡ 21)
         × (CAA_TAG ≡ 22) × (NAPTR_FLAGS ≡ 23) × (CSYNC_FLAGS ≡ 24) × (ADDRESS_FAMILY ≡ 25) × (MISSING_VALUE ≡ 26)
         × (PARAMETER_ORDER ≡ 27) × (UTF8 ≡ 28) }
-    ensures texts { (NO_DATA_TEXT ≡ 48) × (MISSING_WORD ≡ 48) × (WRONG_WORD ≡ 49) × (UNSUPPORTED_TYPE ≡ 50) × (WRONG_ADDRESS ≡ 51)
-        × (WRONG_VALUE ≡ 52) }
+    ensures messages { (DAMAGED ≡ 32) × (HEADER ≡ 32) × (QUESTION ≡ 33) × (RECORD ≡ 34) × (POINTERS ≡ 35) }
+    ensures texts { (NO_DATA_TEXT ≡ 48) × (MISSING_WORD ≡ 48) × (WRONG_WORD ≡ 49) × (UNSUPPORTED_TYPE ≡ 50) × (WRONG_VALUE ≡ 52) }
 {}

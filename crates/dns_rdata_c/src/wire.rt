@@ -3,9 +3,10 @@
 ghost use Rattle.std.specs.Prelude.{◌≡◌, ◌≢◌, ◌<◌, ◌≤◌, ◌⊎◌, ℕ, List, length as size};
 ghost use Rattle.dns_types.specs.{RecordTypes.record_type_of, declared.record_type.RecordType.RecordType};
 ghost use Rattle.dns_rdata.specs.{Data.Fills, Data.data_octets, Laws.ReadsCanonical, WholeOctets.whole_data, Views.IsViewOf};
-ghost use Rattle.dns_rdata_c.specs.{Reading.HasData, Reading.IsRejected, Buffers.IsPut, Calls.PutsWire, Calls.LacksRoomForWire};
+ghost use Rattle.dns_rdata_c.specs.{Reading.Filled, Reading.Rejected, Buffers.IsPut, Calls.PutsWire, Calls.LacksRoomForWire};
 
 use crate::putting::told;
+use crate::rdata::Rdata;
 use crate::reading::view_at;
 use crate::status::{BUFFER, OK, REFUSED, TOO_LONG};
 use dns_rdata::{RData, RDataRef};
@@ -23,22 +24,19 @@ pub fn whole_len(view: &RDataRef<'_>) -> usize
 #[unsafe(no_mangle)]
 pub extern "C" fn dns_rdata_wire(
     alloc: Global,
-    message: &[u8],
-    offset: usize,
-    length: u16,
-    type_number: u16,
+    rdata: &Rdata<'_>,
     out: &mut [u8],
     count: &mut usize,
 ) -> u32
-    ensures ok { result ≡ OK → HasData message.now offset length (record_type_of type_number) (λ v. PutsWire v out.old out.new count.new) }
-    ensures buffer { result ≡ BUFFER → HasData message.now offset length (record_type_of type_number) (λ v. LacksRoomForWire v out.old out.new count.new) }
-    ensures too_long { result ≡ TOO_LONG → HasData message.now offset length (record_type_of type_number) (λ v. 65535 < size (whole_data v)) }
-    ensures cause { REFUSED ≤ result → IsRejected message.now offset length (record_type_of type_number) result }
+    ensures ok { result ≡ OK → Filled rdata.now (λ v. PutsWire v out.old out.new count.new) }
+    ensures buffer { result ≡ BUFFER → Filled rdata.now (λ v. LacksRoomForWire v out.old out.new count.new) }
+    ensures too_long { result ≡ TOO_LONG → Filled rdata.now (λ v. 65535 < size (whole_data v)) }
+    ensures cause { REFUSED ≤ result → Rejected rdata.now result }
     ensures status { (result ≡ OK) ⊎ (result ≡ BUFFER) ⊎ (result ≡ TOO_LONG) ⊎ (REFUSED ≤ result) }
     ensures kept { result ≢ OK → out.new ≡ out.old }
     ensures untold { result ≢ OK → result ≢ BUFFER → count.new ≡ count.old }
 {
-    let data = match view_at(alloc, message, offset, length, type_number) {
+    let data = match view_at(alloc, rdata) {
         Ok(data) => data,
         Err(status) => return status,
     };
@@ -58,24 +56,21 @@ pub extern "C" fn dns_rdata_wire(
 #[unsafe(no_mangle)]
 pub extern "C" fn dns_rdata_canonical(
     alloc: Global,
-    message: &[u8],
-    offset: usize,
-    length: u16,
-    type_number: u16,
+    rdata: &Rdata<'_>,
     out: &mut [u8],
     count: &mut usize,
 ) -> u32
-    ensures ok { result ≡ OK → HasData message.now offset length (record_type_of type_number)
-        (λ v. IsPut (data_octets v) out.old out.new count.new × ReadsCanonical (record_type_of type_number) v) }
-    ensures buffer { result ≡ BUFFER → HasData message.now offset length (record_type_of type_number)
+    ensures ok { result ≡ OK → Filled rdata.now
+        (λ v. IsPut (data_octets v) out.old out.new count.new × ReadsCanonical (record_type_of rdata.now.type_number) v) }
+    ensures buffer { result ≡ BUFFER → Filled rdata.now
         (λ v. (size out.old < size (data_octets v)) × (count.new ≡ size (data_octets v))) }
-    ensures too_long { result ≡ TOO_LONG → HasData message.now offset length (record_type_of type_number) (λ v. 65535 < size (data_octets v)) }
-    ensures cause { REFUSED ≤ result → IsRejected message.now offset length (record_type_of type_number) result }
+    ensures too_long { result ≡ TOO_LONG → Filled rdata.now (λ v. 65535 < size (data_octets v)) }
+    ensures cause { REFUSED ≤ result → Rejected rdata.now result }
     ensures status { (result ≡ OK) ⊎ (result ≡ BUFFER) ⊎ (result ≡ TOO_LONG) ⊎ (REFUSED ≤ result) }
     ensures kept { result ≢ OK → result ≢ BUFFER → result ≢ TOO_LONG → out.new ≡ out.old }
     ensures untold { result ≢ OK → result ≢ BUFFER → count.new ≡ count.old }
 {
-    match view_at(alloc, message, offset, length, type_number) {
+    match view_at(alloc, rdata) {
         Err(status) => status,
         Ok(data) => told(data.put_canonical(out), out.len(), count),
     }

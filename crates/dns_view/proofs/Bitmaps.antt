@@ -8,6 +8,7 @@ use Rattle.std.specs.List.{flat_map, list_any, AllByRecursion}
 use Rattle.dns_fields.specs.Bitmaps.{Block, block, IsBlock, has_type, contains, AllAbove, Rises, IsTypeSet}
 use Rattle.dns_fields.proofs.Bitmaps.{none_great}
 use Rattle.dns_view.specs.Blocks.{FitsBlock, NoBlock, AreBlocks, NoBlocks}
+use Rattle.dns_view.specs.TypeList.{with_type, types_from}
 
 block_length : (b : Block) (rest octets : List ℕ) → octets ≡ block b ++ rest → (length octets ≡ 2 + length b.1 + length rest)
     × (get_or octets 1 0 ≡ length b.1)
@@ -105,15 +106,6 @@ no_blocks {rest = rest} some f none = record { none = λ blocks fit e. no_more f
 
 -- ---- the set of the types of blocks
 
-abbrev with_type : Bool → ℕ → List ℕ → List ℕ
-with_type true k l = k ∷ l
-with_type false k l = l
-
--- the numbers from k on, n of them, that the test passes
-abbrev types_from : (ℕ → Bool) → ℕ → ℕ → List ℕ
-types_from f k zero = []
-types_from f k (suc n) = with_type (f k) k (types_from f (suc k) n)
-
 with_above : (b : Bool) (j k : ℕ) (l : List ℕ) → j < k → AllAbove j l → AllAbove j (with_type b k l)
 with_above true j k l h a = (h, a)
 with_above false j k l h a = a
@@ -134,7 +126,7 @@ with_small : (m : ℕ) (b : Bool) (k : ℕ) (l : List ℕ) → k < m → AllByRe
 with_small m true k l h a = (h, a)
 with_small m false k l h a = a
 
-from_small : (m : ℕ) (f : ℕ → Bool) (k n : ℕ) → k + n ≤ m → AllByRecursion (λ t. t < m) (types_from f k n)
+pub from_small : (m : ℕ) (f : ℕ → Bool) (k n : ℕ) → k + n ≤ m → AllByRecursion (λ t. t < m) (types_from f k n)
 from_small m f k zero h = tt
 from_small m f k (suc n) h = with_small m (f k) k (types_from f (suc k) n) (omega arith) (from_small m f (suc k) n (omega arith))
 
@@ -146,11 +138,11 @@ with_same : (b : Bool) (k : ℕ) (l : List ℕ) → contains k l ≡ false → c
 with_same true k l h = rw (eq-eqb k k refl) refl
 with_same false k l h = h
 
-from_below : (f : ℕ → Bool) (k n t : ℕ) → t < k → contains t (types_from f k n) ≡ false
+pub from_below : (f : ℕ → Bool) (k n t : ℕ) → t < k → contains t (types_from f k n) ≡ false
 from_below f k zero t h = refl
 from_below f k (suc n) t h = with_other (f k) k (types_from f (suc k) n) t (λ e. omega (arith, e)) ∙ from_below f (suc k) n t (omega arith)
 
-from_has : (f : ℕ → Bool) (k n t : ℕ) → k ≤ t → t < k + n → contains t (types_from f k n) ≡ f t
+pub from_has : (f : ℕ → Bool) (k n t : ℕ) → k ≤ t → t < k + n → contains t (types_from f k n) ≡ f t
 from_has f k zero t a b = absurd (omega arith)
 from_has f k (suc n) t a b = elim (cases_eq k t) [
   | inl e ↦ subst (λ (u : ℕ). contains u (types_from f k (suc n)) ≡ f u) e

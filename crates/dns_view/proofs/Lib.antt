@@ -1,9 +1,11 @@
 pub mod NameSteps
+pub mod PointerSteps
 pub mod Numbers
 pub mod Asked
 pub mod Skips
 pub mod Strings
 pub mod RowLoop
+pub mod PointerRows
 pub mod Puts
 pub mod PutLoop
 pub mod Forms
@@ -35,3 +37,4 @@ pub mod TlvSteps
 pub mod LabelSteps
 pub mod NamesShown
 pub mod NameFields
+pub mod TypeLists

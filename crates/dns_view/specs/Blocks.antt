@@ -11,6 +11,10 @@ pub record FitsBlock (octets : List ℕ) (n : ℕ) : Type 0 where
   pub most : n ≤ 32
   pub whole : n ≤ length octets - 2
 
+-- they are not, for any n
+pub record NoFit (octets : List ℕ) : Type 0 where
+  pub none : (n : ℕ) → FitsBlock octets n → ⊥
+
 -- there is no first block
 pub record NoBlock (octets : List ℕ) : Type 0 where
   pub none : (b : Block) (rest : List ℕ) → IsBlock b → octets ≡ block b ++ rest → ⊥

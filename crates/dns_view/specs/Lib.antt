@@ -1,4 +1,5 @@
 pub mod NameEnds
+pub mod Pointers
 pub mod Tags
 pub mod Blocks
 pub mod Values
@@ -7,6 +8,7 @@ pub mod OptionOctets
 pub mod Parameters
 pub mod Parts
 pub mod Rows
+pub mod RowPointers
 pub mod Checks
 pub mod Putting
 pub mod Shown
@@ -18,3 +20,4 @@ pub mod TlvList
 pub mod LabelList
 pub mod NamesShown
 pub mod NameFields
+pub mod TypeList

@@ -1,7 +1,7 @@
 //! The blocks of a bitmap of type numbers (RFC 4034, 4.1.2).
 
 ghost use Rattle.std.specs.Prelude.{◌≡◌, IfSome, IfNone, OnOk, IfErr};
-ghost use Rattle.dns_view.specs.Blocks.{FitsBlock, NoBlock, AreBlocks, NoBlocks};
+ghost use Rattle.dns_view.specs.Blocks.{FitsBlock, NoFit, NoBlock, AreBlocks, NoBlocks};
 
 use dns_types::DecodeError;
 
@@ -13,6 +13,7 @@ const MOST: usize = 32;
 #[tactic(auto, using(crate::proofs::Bitmaps::no_head, crate::proofs::Bitmaps::no_octets, crate::proofs::Bitmaps::many_octets, crate::proofs::Bitmaps::few_octets))]
 pub(crate) fn block_len(octets: &[u8]) -> Option<usize>
     ensures fits { IfSome result (λ n. FitsBlock octets.now n) }
+    ensures unfit { IfNone result (NoFit octets.now) }
     ensures none { IfNone result (NoBlock octets.now) }
 {
     if octets.len() < 2 {

@@ -4,6 +4,7 @@ ghost use Rattle.std.specs.Prelude.{◌≡◌, ◌+◌, ◌<◌, IfErr, OnOk};
 ghost use Rattle.dns_names_wire.specs.Terms.{StaysBehind};
 ghost use Rattle.dns_view.specs.Checks.{FillsRow, NoFill, IsRowError};
 ghost use Rattle.dns_view.specs.Rows.{IsRowChecked};
+ghost use Rattle.dns_view.specs.{Pointers.Leaves, RowPointers.RowPointers};
 
 use crate::skip::skip_row;
 use crate::walk::Walk;
@@ -20,8 +21,16 @@ use dns_types::DecodeError;
 /// - [`IncorrectRDataLengthRead`](DecodeError::IncorrectRDataLengthRead): the fields take another number of octets than
 ///   `len`, with both numbers.
 /// - Otherwise the error of the first field that is not there or not as its row asks.
+///
+/// Takes off `left` how many compression pointers are followed, down to 0: those of the names up to and with a field that
+/// is rejected.
 #[inline]
-pub fn check_data(walk: &mut Walk<'_>, row: &[Part], len: usize) -> Result<(), DecodeError>
+pub fn check_data(
+    walk: &mut Walk<'_>,
+    row: &[Part],
+    len: usize,
+    left: &mut usize,
+) -> Result<(), DecodeError>
     requires row { IsRowChecked row.now }
     requires short { len < 65536 }
     ensures found { OnOk result (FillsRow walk.old.message walk.old.index len row.now) }
@@ -29,9 +38,10 @@ pub fn check_data(walk: &mut Walk<'_>, row: &[Part], len: usize) -> Result<(), D
     ensures refused { IfErr result (λ e. NoFill walk.old.message walk.old.index len row.now) }
     ensures why { IfErr result (λ e. IsRowError row.now len walk.old e walk.new) }
     ensures behind { StaysBehind walk.old walk.new }
+    ensures pointers { Leaves (RowPointers row.now len walk.old) left.old left.new }
 {
     let start = walk.index();
-    let own = skip_row(walk, row, len);
+    let own = skip_row(walk, row, len, left);
     let read = walk.index() - start;
     if read == len {
         own

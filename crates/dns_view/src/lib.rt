@@ -4,7 +4,8 @@
 //!   type's.
 //! - [`RowView`] is RDATA that was checked: its fields, its canonical and uncompressed octets, its order.
 //! - [`FieldRef`] and [`NameRef`] are a field and a name, lent from the message. [`Labels`] iterates over the labels of a
-//!   name, [`StringsRef`] over character strings, [`Tlvs`] over options or parameters.
+//!   name, [`StringsRef`] over character strings, [`Tlvs`] over options or parameters, [`TypesRef`] over the types of a
+//!   bitmap.
 #![tactic(auto)]
 
 pub mod blocks;
@@ -29,6 +30,7 @@ pub mod skip;
 pub mod string_list;
 mod tlv;
 pub mod tlv_list;
+pub mod type_list;
 pub mod values;
 pub mod view;
 pub mod walk;
@@ -39,5 +41,6 @@ pub use name_ref::NameRef;
 pub use row::row_of;
 pub use string_list::StringsRef;
 pub use tlv_list::{Tlv, Tlvs};
+pub use type_list::TypesRef;
 pub use view::RowView;
 pub use walk::Walk;

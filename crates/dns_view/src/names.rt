@@ -4,6 +4,7 @@ ghost use Rattle.std.specs.Prelude.{ℕ, ◌+◌, ◌≤◌, List, length, IfSom
 ghost use Rattle.dns_fields.specs.{Labels.DomainName, Labels.wire, Names.IsNameIn};
 ghost use Rattle.dns_labels.specs.Reading.{IsRun};
 ghost use Rattle.dns_view.specs.NameEnds.{NameEnds, SkipsRun};
+ghost use Rattle.dns_view.specs.Pointers.{NamePointers, Leaves, OneCount, PointerExamples};
 
 // The most octets that a name has before the 0 at its end (RFC 1035, 3.1).
 const MAX_OCTETS: usize = 254;
@@ -62,29 +63,93 @@ pub(crate) fn skip_run(message: &[u8], offset: usize, before: usize) -> Option<R
     }
 }
 
-/// Returns where the encoding of a name ends, or `None` if no name is encoded there.
+// Where the encoding of a name ends, if one is there, and how many compression pointers were followed.
+#[derive(Clone, Copy)]
+struct Followed {
+    end: Option<usize>,
+    pointers: usize,
+}
+
+// Goes over a name: its labels, and the compression pointers up to its end or to the damage.
+#[inline]
 #[tactic(auto, using(crate::proofs::NameSteps::going_first, crate::proofs::NameSteps::going_next))]
+fn follow_name(message: &[u8], start: usize) -> Followed
+    requires { start ≤ length message.now }
+    ensures some { IfSome result.end (λ end. NameEnds message.now start end) }
+    ensures end { IfSome result.end (λ end. end ≤ length message.now) }
+    ensures none { IfNone result.end ((name : DomainName) (end : ℕ) → IsNameIn message.now start name end → ⊥) }
+    ensures pointers { NamePointers message.now start result.pointers }
+{
+    let first = match skip_run(message, start, 0) {
+        Some(first) => first,
+        None => {
+            return Followed {
+                end: None,
+                pointers: 0,
+            };
+        }
+    };
+    let end = first.end;
+    let mut region = message;
+    let mut offset = start;
+    let mut octets = first.octets;
+    let mut next = first.next;
+    let mut pointers = 0;
+    'runs: while let Some(target) = next {
+        if target >= offset {
+            return Followed {
+                end: None,
+                pointers,
+            };
+        }
+        pointers += 1;
+        region = &region[..offset];
+        let run = match skip_run(region, target, octets) {
+            Some(run) => run,
+            None => {
+                return Followed {
+                    end: None,
+                    pointers,
+                };
+            }
+        };
+        offset = target;
+        octets = run.octets;
+        next = run.next;
+    }
+    Followed {
+        end: Some(end),
+        pointers,
+    }
+}
+
+/// Returns where the encoding of a name ends, or `None` if no name is encoded there.
 pub fn skip_name(message: &[u8], start: usize) -> Option<usize>
     requires { start ≤ length message.now }
     ensures some { IfSome result (λ end. NameEnds message.now start end) }
     ensures end { IfSome result (λ end. end ≤ length message.now) }
     ensures none { IfNone result ((name : DomainName) (end : ℕ) → IsNameIn message.now start name end → ⊥) }
 {
-    let first = skip_run(message, start, 0)?;
-    let end = first.end;
-    let mut region = message;
-    let mut offset = start;
-    let mut octets = first.octets;
-    let mut next = first.next;
-    'runs: while let Some(target) = next {
-        if target >= offset {
-            return None;
-        }
-        region = &region[..offset];
-        let run = skip_run(region, target, octets)?;
-        offset = target;
-        octets = run.octets;
-        next = run.next;
-    }
-    Some(end)
+    follow_name(message, start).end
 }
+
+/// The same, and takes off `left` how many compression pointers are followed, down to 0. If no name is encoded there,
+/// these are the pointers up to the damage.
+pub fn pass_name(message: &[u8], start: usize, left: &mut usize) -> Option<usize>
+    requires { start ≤ length message.now }
+    ensures some { IfSome result (λ end. NameEnds message.now start end) }
+    ensures end { IfSome result (λ end. end ≤ length message.now) }
+    ensures none { IfNone result ((name : DomainName) (end : ℕ) → IsNameIn message.now start name end → ⊥) }
+    ensures pointers { Leaves (NamePointers message.now start) left.old left.new }
+{
+    let followed = follow_name(message, start);
+    *left = left.saturating_sub(followed.pointers);
+    followed.end
+}
+
+/// The compression pointers of a name are one number; and examples: none, one and two pointers, one to damage, and one
+/// to itself.
+pub fn pointers_hold()
+    ensures one { OneCount }
+    ensures examples { PointerExamples }
+{}

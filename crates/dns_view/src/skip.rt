@@ -6,6 +6,7 @@ ghost use Rattle.dns_fields.specs.declared.Kind.TheVariants.{Number, Octets, Nam
 ghost use Rattle.dns_rows.specs.Rules.{AreLetters};
 ghost use Rattle.dns_view.specs.{Parts.Skips, Parts.IsCovered, Parts.IsUnasked, Parts.step_of as octet_step};
 ghost use Rattle.dns_view.specs.Rows.{IsRowChecked, SkipsRow, asked_length as row_asks};
+ghost use Rattle.dns_view.specs.{Pointers.Leaves, RowPointers.FieldPointers, RowPointers.RowPointers};
 
 use crate::blocks::check_blocks;
 use crate::options::skip_options;
@@ -49,6 +50,29 @@ pub fn skip_field(
         Kind::Options => skip_options(walk, rule, start, len),
         Kind::Parameters => skip_parameters(walk, start, len),
         Kind::Bitmap => skip_bitmap(walk, rule, start, len),
+    }
+}
+
+/// The same, and takes off `left` how many compression pointers are followed, down to 0: those of a name, whether it is
+/// there or not.
+#[inline]
+pub fn pass_field(
+    walk: &mut Walk<'_>,
+    kind: Kind,
+    rule: Rule,
+    start: usize,
+    len: usize,
+    left: &mut usize,
+) -> Result<(), DecodeError>
+    requires covered { IsCovered kind rule }
+    requires short { len < 65536 }
+    requires before { start ≤ walk.old.index }
+    ensures skips { Skips rule kind start len result walk.old walk.new }
+    ensures pointers { Leaves (FieldPointers kind walk.old) left.old left.new }
+{
+    match kind {
+        Kind::Name => pass_one_name(walk, rule, start, len, left),
+        _ => skip_field(walk, kind, rule, start, len),
     }
 }
 
@@ -127,6 +151,24 @@ fn skip_one_name(
     ensures { Skips rule Name start len result walk.old walk.new }
 {
     match walk.skip_name() {
+        Ok(()) => Ok(()),
+        Err(e) => Err(e),
+    }
+}
+
+#[inline]
+#[tactic(auto, using(crate::proofs::Skips::name_skips, crate::proofs::Skips::name_refused))]
+fn pass_one_name(
+    walk: &mut Walk<'_>,
+    rule: Rule,
+    start: usize,
+    len: usize,
+    left: &mut usize,
+) -> Result<(), DecodeError>
+    ensures skips { Skips rule Name start len result walk.old walk.new }
+    ensures pointers { Leaves (FieldPointers Name walk.old) left.old left.new }
+{
+    match walk.pass_name(left) {
         Ok(()) => Ok(()),
         Err(e) => Err(e),
     }
@@ -304,11 +346,18 @@ fn asked_length(row: &[Part]) -> usize
 
 /// Takes the fields of a row, of `len` octets of RDATA from the index of the decoder.
 ///
-/// On error the decoder may be anywhere after the offset where the call began.
-pub fn skip_row(walk: &mut Walk<'_>, row: &[Part], len: usize) -> Result<(), DecodeError>
+/// On error the decoder may be anywhere after the offset where the call began. Takes off `left` how many compression
+/// pointers are followed, down to 0: those of the names up to and with a field that is rejected.
+pub fn skip_row(
+    walk: &mut Walk<'_>,
+    row: &[Part],
+    len: usize,
+    left: &mut usize,
+) -> Result<(), DecodeError>
     requires row { IsRowChecked row.now }
     requires short { len < 65536 }
-    ensures { SkipsRow row.now len result walk.old walk.new }
+    ensures skips { SkipsRow row.now len result walk.old walk.new }
+    ensures pointers { Leaves (RowPointers row.now len walk.old) left.old left.new }
 {
     let asked = asked_length(row);
     if len < asked {
@@ -319,7 +368,7 @@ pub fn skip_row(walk: &mut Walk<'_>, row: &[Part], len: usize) -> Result<(), Dec
     }
     let start = walk.index();
     'fields: for part in row {
-        if let Err(e) = skip_field(walk, part.kind, part.rule, start, len) {
+        if let Err(e) = pass_field(walk, part.kind, part.rule, start, len, left) {
             return Err(e);
         }
     }

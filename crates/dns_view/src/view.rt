@@ -7,6 +7,7 @@ ghost use Rattle.dns_rows.specs.Table.{kinds_of};
 ghost use Rattle.dns_view.specs.Rows.{HasRow, is_row};
 ghost use Rattle.dns_view.specs.{Putting.Put, Putting.all_form, Putting.key_of};
 ghost use Rattle.dns_view.specs.Checks.{FillsRow, NoFill, IsRowError};
+ghost use Rattle.dns_view.specs.{Pointers.Leaves, RowPointers.RowPointers};
 
 use crate::canonical::put_row;
 use crate::check::check_data;
@@ -37,7 +38,9 @@ impl<'a> RowView<'a> {
     ghost use Rattle.std.specs.{Cmp.Lexicographic.slice_cmp, Ordering.nat_cmp};
     ghost use Rattle.dns_view.specs.{ViewOf.IsViewOf, Shown.ShowsAt, NameFields.names_in, NameFields.ShowsNameAt};
 
-    /// Checks that the next `length` octets are RDATA of this row, and takes them. Allocates nothing.
+    /// Checks that the next `length` octets are RDATA of this row, and takes them. Takes off `left` how many
+    /// compression pointers are followed, down to 0: those of the names up to and with a field that is rejected.
+    /// Allocates nothing.
     ///
     /// # Errors
     ///
@@ -47,6 +50,7 @@ impl<'a> RowView<'a> {
         walk: &mut Walk<'a>,
         row: &'static [Part],
         length: Restrict<u16>,
+        left: &mut usize,
     ) -> Result<RowView<'a>, DecodeError>
         requires row { is_row row.now ≡ true }
         ensures found { IfOk result (λ r. IsViewOf walk.old length row.now r) }
@@ -54,11 +58,12 @@ impl<'a> RowView<'a> {
         ensures refused { IfErr result (λ e. NoFill walk.old.message walk.old.index length row.now) }
         ensures why { IfErr result (λ e. IsRowError row.now length walk.old e walk.new) }
         ensures behind { StaysBehind walk.old walk.new }
+        ensures pointers { Leaves (RowPointers row.now length walk.old) left.old left.new }
     {
         let message = walk.message();
         let offset = walk.index();
         let len = length.unverified() as usize;
-        match check_data(walk, row, len) {
+        match check_data(walk, row, len, left) {
             Ok(()) => Ok(RowView {
                 message,
                 offset,

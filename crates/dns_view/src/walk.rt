@@ -3,9 +3,9 @@
 ghost use Rattle.std.specs.Prelude.{◌≡◌, ◌+◌, ◌*◌, ◌-◌, ◌/◌, ◌^◌, ◌<◌, ◌≤◌, length, drop, IfOk, IfErr, OnErr, OnOk};
 ghost use Rattle.dns_fields.specs.{declared.Kind.TheVariants.Number, declared.Kind.TheVariants.Octets, declared.Kind.TheVariants.CharacterString, declared.Kind.TheVariants.Name, Octets.AreOctets};
 ghost use Rattle.dns_names_wire.specs.Terms.{TookField, LacksField, ReadsField, LacksOctets, LacksText};
-ghost use Rattle.dns_view.specs.Parts.{TookSome};
+ghost use Rattle.dns_view.specs.{Parts.TookSome, Pointers.NamePointers, Pointers.Leaves};
 
-use crate::names::skip_name;
+use crate::names::{pass_name, skip_name};
 use dns_types::DecodeError;
 use std::marker::Model;
 
@@ -181,6 +181,24 @@ impl<'a> Walk<'a> {
         ensures unchanged { OnErr result (self.new ≡ self.old) }
     {
         match skip_name(self.message, self.index) {
+            Some(end) => {
+                self.index = end;
+                Ok(())
+            }
+            None => Err(DecodeError::NameInvalid),
+        }
+    }
+
+    /// The same, and takes off `left` how many compression pointers are followed, down to 0, whether a name is encoded
+    /// there or not.
+    #[inline]
+    pub fn pass_name(&mut self, left: &mut usize) -> Result<(), DecodeError>
+        ensures taken { OnOk result (TookSome self.old Name self.new) }
+        ensures lacking { IfErr result (λ e. (e ≡ DecodeError.NameInvalid) × LacksField self.old Name) }
+        ensures unchanged { OnErr result (self.new ≡ self.old) }
+        ensures pointers { Leaves (NamePointers self.old.message self.old.index) left.old left.new }
+    {
+        match pass_name(self.message, self.index, left) {
             Some(end) => {
                 self.index = end;
                 Ok(())

@@ -13,7 +13,8 @@
 //! `TYPE TEXT` are read, and the nanoseconds of reading each text as record data printed: as hickory-proto reads it, and as a
 //! zone file's; nothing where it is not read so (`data/texts.txt`, `data/zone_texts.txt`). The word `sort` measures a million
 //! records that are sorted. After the word `names` and a number of rounds 2,000 names of one zone are measured, written into
-//! one message and read back.
+//! one message and read back. After the word `views` and a number of rounds the calls of views of the RDATA are measured, for the
+//! same lines as values.
 #![tactic(auto)]
 
 // What a call gives, and the time that it takes.
@@ -31,6 +32,7 @@ mod names;
 mod options;
 mod parsing;
 mod sorting;
+mod views;
 
 use anyhow::{Context, Result};
 use columns::{Sample, column, least};
@@ -94,6 +96,7 @@ fn main(rt: HostRuntime) -> Result<()> {
         ("options", None) => options::measure_options(&rt, 16383),
         ("options", Some(count)) => options::measure_options(&rt, count.parse::<u16>()?),
         ("parse", Some(rounds)) => measure_texts(&rt, rounds.parse::<u64>()?),
+        ("views", Some(rounds)) => views::measure_views(&rt, rounds.parse::<u64>()?),
         ("names", Some(rounds)) => names::measure_names(&rt, rounds.parse::<u32>()?),
         (rounds, None) => measure_samples(&rt, rounds.parse::<u64>()?),
         (rounds, Some(name)) => {

@@ -2,7 +2,7 @@
 
 use crate::calls::reading::end;
 use anyhow::Result;
-use dns_rdata::{BinDecoder, BinEncoder, ProtoError, RDataRef, Restrict};
+use dns_rdata::{BinDecoder, BinEncoder, ProtoError, RData, RDataRef, Restrict};
 use held_data::{Held, record_type};
 use replay::octets;
 use std::alloc::Global;
@@ -54,13 +54,26 @@ fn has_whole(alloc: Global, view: &RDataRef<'_>, held: &Held) -> Result<bool> {
     Ok(view.put_whole(out.as_mut_slice()) == wanted.len() && out.as_slice() == wanted.as_slice())
 }
 
-// Whether the value of a view has these canonical octets, their key, and the view's name and uncompressed octets.
+// Whether a view has the types of the value, and no others.
+fn has_types(view: &RDataRef<'_>, held: &Held) -> bool {
+    match &held.0 {
+        RData::CSYNC(csync) => {
+            let types = &csync.type_bit_maps;
+            let all = view.types().all(|it| types.contains(it));
+            all && types.iter().all(|it| view.types().any(|other| other == it))
+        }
+        _ => view.types().next().is_none(),
+    }
+}
+
+// Whether the value of a view has these canonical octets, their key, and the view's types, name and uncompressed octets.
 fn has_value(alloc: Global, view: &RDataRef<'_>, wanted: &[u8]) -> Result<bool> {
     let held = Held::of_view(alloc, view)?;
     let mut out = Vec::new(alloc);
     out.resize(wanted.len().saturating_add(1), 0u8)?;
     let count = held.0.canonical_octets().copy_to(out.as_mut_slice());
     let same = &out.as_slice()[..count] == wanted && held.0.order_key() == first_eight(wanted);
+    let same = same && has_types(view, &held);
     Ok(same && has_target(alloc, view, &held)? && has_whole(alloc, view, &held)?)
 }
 

@@ -1,8 +1,0 @@
-use Rattle.dns_message.proofs.Fields.{no_name_found}
-use Rattle.dns_message.proofs.reading.read_record.Goals as goal
-
-pub returns-in-None-clause-none : goal.returns-in-None-clause-none
-returns-in-None-clause-none c = no_name_found c.in-None.ensures.none
-
-pub returns-in-None-clause-fault : goal.returns-in-None-clause-fault
-returns-in-None-clause-fault c = record { none = c.in-None.ensures.none }

@@ -7,8 +7,8 @@ at-owner-requires-clause-named c =
     let has = c.requires.found.is.fields in
     record { name = c.requires.found.owner; end = has.fields.0; is = has.fields.1.is }
 
-pub returns-in-Ok : goal.returns-in-Ok
-returns-in-Ok c = record {
+pub returns-in-Ok-clause-gives : goal.returns-in-Ok-clause-gives
+returns-in-Ok-clause-gives c = record {
   entry = record_of c.args.offset c.requires.found.owner c.args.fixed;
   is = c.requires.found.is;
   item = record {
@@ -24,8 +24,8 @@ returns-in-Ok c = record {
   };
 }
 
-pub returns-in-Err : goal.returns-in-Err
-returns-in-Err c = record {
+pub returns-in-Err-clause-gives : goal.returns-in-Err-clause-gives
+returns-in-Err-clause-gives c = record {
   entry = record_of c.args.offset c.requires.found.owner c.args.fixed;
   is = c.requires.found.is;
   item = record { section = refl; index = refl; offset = refl; reason = c.in-Err.reason; fault = refl; rejected = c.in-Err.ensures.refused };

@@ -10,4 +10,4 @@ pub returns-clause-ok : goal.returns-clause-ok
 returns-clause-ok c = λ is p n t i before. next_part c.args.parts.now _ before c.in-Some.ensures refl refl
 
 pub returns-clause-within : goal.returns-clause-within
-returns-clause-within c = λ is. omega (arith, (part_room c.in-Some.ensures).0, length-take c.args.parts.now.end c.args.message.now)
+returns-clause-within c = λ is. omega (arith, (part_room c.in-Some.ensures).0, length-take c.args.parts.now.end c.args.rdata.now.message.now)

@@ -1,4 +1,5 @@
 use Rattle.std.proofs.Common.{refl, arith, inl, inr}
+use Rattle.dns_message.proofs.Asks.{left_as}
 use Rattle.dns_message.proofs.question.QuestionsIterator.next.Goals as goal
 
 pub returns-then-passed-self-clause-steps : goal.returns-then-passed-self-clause-steps
@@ -7,7 +8,16 @@ returns-then-passed-self-clause-steps c = rw (← c.self.view_is) (record { is =
 pub returns-in-Ok-clause-steps : goal.returns-in-Ok-clause-steps
 returns-in-Ok-clause-steps c =
     rw (← c.self.view_is) (record {
-      is = inl (record { question = c.question_at.result; given = refl; left = omega arith; is = c.question_at.ensures; after = refl });
+      is = inl (record {
+        question = c.question_at.result;
+        given = refl;
+        left = omega arith;
+        is = c.question_at.ensures;
+        pointers = c.in-Ok.ensures.within.0;
+        followed = c.in-Ok.ensures.within.1;
+        within = c.in-Ok.ensures.within.2;
+        after = left_as c.in-Ok.ensures.within.3;
+      });
     })
 
 pub returns-in-Ok-clause-goes : goal.returns-in-Ok-clause-goes
@@ -20,7 +30,7 @@ returns-in-Err-clause-steps c =
         error = _;
         given = refl;
         left = omega arith;
-        damaged = record { section = refl; index = refl; offset = refl; none = c.in-Err.ensures.none; fault = c.in-Err.ensures.fault };
+        why = record { section = refl; index = refl; offset = refl; why = c.in-Err.ensures.stopped };
         after = refl;
       });
     })

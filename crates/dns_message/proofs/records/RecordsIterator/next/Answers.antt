@@ -1,4 +1,5 @@
 use Rattle.std.proofs.Common.{refl, arith, inl, inr}
+use Rattle.dns_message.proofs.Walks.{left_as}
 use Rattle.dns_message.proofs.records.RecordsIterator.next.Goals as goal
 
 pub returns-then-passed-self-clause-steps : goal.returns-then-passed-self-clause-steps
@@ -12,8 +13,11 @@ returns-in-Ok-clause-steps c =
         index = c.position_of-position.result.index;
         place = c.position_of-position.ensures;
         left = omega arith;
-        is = c.record_at-item.ensures;
-        after = refl;
+        is = c.in-Ok.ensures.gives;
+        pointers = c.in-Ok.ensures.within.0;
+        followed = c.in-Ok.ensures.within.1;
+        within = c.in-Ok.ensures.within.2;
+        after = left_as c.in-Ok.ensures.within.3;
       });
     })
 
@@ -30,7 +34,7 @@ returns-in-Err-clause-steps c =
         error = _;
         given = refl;
         left = omega arith;
-        damaged = record { section = refl; index = refl; offset = refl; none = c.in-Err.ensures.none; fault = c.in-Err.ensures.fault };
+        why = record { section = refl; index = refl; offset = refl; why = c.in-Err.ensures.stopped };
         after = refl;
       });
     })

@@ -3,6 +3,7 @@ use Rattle.dns_types.specs.declared.error.DecodeError.TheVariants as decode
 use Rattle.dns_view.specs.Rows.{is_row}
 use Rattle.dns_rdata.specs.ReadErrors.{IsReadError}
 use Rattle.dns_rdata.proofs.Views.{rows_checked, view_found, view_none, view_why}
+use Rattle.dns_rdata.proofs.Pointers.{never_followed, row_followed}
 use Rattle.dns_rdata.proofs.view.RDataRef.read_in.Goals as goal
 
 pub read-requires : goal.read-requires
@@ -26,3 +27,14 @@ returns-in-Err-clause-why c = (why c).0
 
 pub returns-in-Err-clause-allocates_nothing : goal.returns-in-Err-clause-allocates_nothing
 returns-in-Err-clause-allocates_nothing c = (why c).1
+
+pub returns-in_default-clause-pointers : goal.returns-in_default-clause-pointers
+returns-in_default-clause-pointers c = never_followed c.args.record_type c.args.length c.args.walk.now c.args.left.now c.in_default.ensures.none
+
+pub returns-in-Ok-clause-pointers : goal.returns-in-Ok-clause-pointers
+returns-in-Ok-clause-pointers c =
+    row_followed c.args.record_type c.in-Some.parts.now c.args.length c.args.walk.now _ _ c.in-Some.ensures.some c.read.ensures.pointers
+
+pub returns-in-Err-clause-pointers : goal.returns-in-Err-clause-pointers
+returns-in-Err-clause-pointers c =
+    row_followed c.args.record_type c.in-Some.parts.now c.args.length c.args.walk.now _ _ c.in-Some.ensures.some c.read.ensures.pointers

@@ -1,0 +1,16 @@
+//! Where a walk over records is.
+
+/// Where a walk over the records of a message is: what a caller keeps that cannot keep a [`Records`](crate::Records),
+/// such as one in C. [`Records::progress`](crate::Records::progress) returns it, and
+/// [`MessageRef::resume`](crate::MessageRef::resume) goes on with the walk. A copy is cheap.
+#[derive(Clone, Copy, Debug, PartialEq, Eq)]
+pub struct Progress {
+    /// The offset in the message where the next record starts.
+    pub offset: usize,
+    /// How many records of the message precede the next one.
+    pub passed: usize,
+    /// The walk ends when so many records are passed.
+    pub until: usize,
+    /// One more than the compression pointers that may still be followed. The walk ends when it is 0.
+    pub left: usize,
+}

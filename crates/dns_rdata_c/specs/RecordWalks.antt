@@ -1,0 +1,126 @@
+-- What the calls that go over the records of a message tell.
+use Rattle.std.specs.Prelude.{◌≡◌, ℕ, ◌+◌, ◌-◌, ◌<◌, ◌≤◌, ◌⊎◌, List, Option, Some, None}
+use Rattle.dns_types.specs.{declared.error.DecodeError.DecodeError, declared.record_type.RecordType.RecordType, RecordTypes.record_type_of, RecordTypes.number_of}
+use Rattle.dns_rdata.specs.{Data.HasValue, Views.IsViewOf, declared.view.RDataRef.RDataRef}
+use Rattle.dns_message.specs.declared.{header.Header.Header, error.Section.Section, error.RecordError.RecordError, progress.Progress.Progress}
+use Rattle.dns_message.specs.declared.{record_ref.RecordRef.RecordRef, reading.FixedFields.FixedFields}
+use Rattle.dns_message.specs.declared.error.Section.TheVariants as sections
+use Rattle.dns_message.specs.{State.Walking, State.Message, Headers.IsHeader, Headers.HasHeader, Headers.IsPlace, Headers.record_count}
+use Rattle.dns_message.specs.{Records.Record, Records.IsRecord, Records.NoRecord, Records.HasNoData, Items.IsRefusedAt}
+use Rattle.dns_message.specs.{Starts.Begins, Starts.BreaksIn, Starts.NoResume}
+use Rattle.dns_message.specs.{Pointers.RecordPointers, Pointers.Takes, Pointers.Exceeds, declared.error.Fault.Fault}
+use Rattle.dns_view.specs.Pointers.{NamePointers}
+use Rattle.dns_rdata_c.specs.declared.records.{RecordsCursor.RecordsCursor, Record.Record as Told}
+use Rattle.dns_rdata_c.specs.Status.{decode_status}
+
+abbrev pub section_number : Section → ℕ
+section_number sections.Question = 0
+section_number sections.Answer = 1
+section_number sections.Authority = 2
+section_number sections.Additional = 3
+
+-- where the walk is
+abbrev pub progress : RecordsCursor → Progress
+progress c = record { offset = c.next; passed = c.passed; until = c.until; left = c.left }
+
+-- the walk over a message with this header that is where the cursor says
+abbrev pub walk_at : List ℕ → Header → RecordsCursor → Walking
+walk_at m h c = record { message = m; header = h; offset = c.next; passed = c.passed; until = c.until; left = c.left }
+
+-- the cursor is before the first record of the message, and the walk may follow 65,536 compression pointers
+pub record BeginsWalk (m : List ℕ) (c : RecordsCursor) : Type 0 where
+  pub header : Header
+  pub is : IsHeader m header
+  pub begins : Begins (record { octets = m; limit = 65536 }) (λ h. 0) record_count (walk_at m header c)
+
+-- the numbers are those of the record of this index in this section
+pub record Tells (s : Section) (i : ℕ) (r : Record) (x : Told) : Type 0 where
+  pub section : x.section ≡ section_number s
+  pub index : x.index ≡ i
+  pub owner : x.owner ≡ r.offset
+  pub type : x.type_number ≡ r.type
+  pub class : x.class ≡ r.class
+  pub ttl : x.ttl ≡ r.ttl
+  pub length : x.length ≡ r.rdlength
+  pub rdata : x.rdata ≡ r.rdata
+
+-- the record has RDATA that is right for its type, or is one of UPDATE that has no data
+abbrev pub HasContent : List ℕ → Record → ℕ → Type 0
+HasContent m r has_data = ((has_data ≡ 0) × HasNoData r.type r.class r.rdlength)
+    ⊎ ((has_data ≡ 1) × (HasNoData r.type r.class r.rdlength → ⊥) × HasValue m r.rdata r.rdlength (record_type_of r.type))
+
+-- the record has RDATA that is rejected, and the status is the number of the error that says why
+pub record HasRejected (m : List ℕ) (r : Record) (status has_data : ℕ) : Type 0 where
+  pub some : has_data ≡ 1
+  pub other : HasNoData r.type r.class r.rdlength → ⊥
+  pub error : DecodeError
+  pub told : status ≡ decode_status error
+  pub why : IsRefusedAt m r.rdata r.rdlength (record_type_of r.type) error
+
+-- the next record is there, P holds of it, its numbers are told, and the cursor is before the one after it
+pub record Passes (m : List ℕ) (old new : RecordsCursor) (x : Told) (P : Record → Type 0) : Type 0 where
+  pub header : Header
+  pub is : IsHeader m header
+  pub section : Section
+  pub index : ℕ
+  pub place : IsPlace header old.passed section index
+  pub left : old.passed < old.until
+  pub entry : Record
+  pub there : IsRecord m old.next entry new.next
+  pub tells : Tells section index entry x
+  pub holds : P entry
+  pub passed : new.passed ≡ old.passed + 1
+  pub until : new.until ≡ old.until
+  pub left_is : Takes (RecordPointers m old.next) old.left new.left
+
+-- no record is where the next one would be, and none is left
+pub record EndsAtDamage (m : List ℕ) (old new : RecordsCursor) : Type 0 where
+  pub left : old.passed < old.until
+  pub none : NoRecord m old.next
+  pub ended : new.until ≡ new.passed
+
+-- the next record follows as many compression pointers as are left or more, those of its owner alone or those of its
+-- RDATA with them, and the walk has ended
+pub record EndsAtPointers (m : List ℕ) (old new : RecordsCursor) : Type 0 where
+  pub left : old.passed < old.until
+  pub many : Exceeds (NamePointers m old.next) old.left ⊎ Exceeds (RecordPointers m old.next) old.left
+  pub ended : new.until ≡ new.passed
+
+-- no record is left, or no walk over the message can be where the cursor says
+abbrev pub IsAtEnd : List ℕ → RecordsCursor → Type 0
+IsAtEnd m c = (c.until ≤ c.passed) ⊎ ((HasHeader m → ⊥) ⊎ NoResume m (progress c))
+
+-- the walk cannot begin, since a question is damaged or the questions follow too many compression pointers; P holds of
+-- the fault
+pub record NeverBegins (m : List ℕ) (P : Fault → Type 0) : Type 0 where
+  pub error : RecordError
+  pub breaks : BreaksIn (record { octets = m; limit = 65536 }) (λ h. 0) error
+  pub fault : P error.fault
+
+-- what is told of the RDATA of a record that ends at an offset
+abbrev pub TellsData : Option RDataRef → ℕ → Told → Type 0
+TellsData None end x = (x.has_data ≡ 0) × (x.length ≡ 0) × (x.rdata ≡ end)
+TellsData (Some v) end x = (x.has_data ≡ 1)
+    × ((m : List ℕ) (p n : ℕ) (t : RecordType) → IsViewOf m p n t v → (x.length ≡ n) × (x.rdata ≡ end - n))
+
+-- what is told of a record that ends at an offset
+pub record TellsRef (r : RecordRef) (end : ℕ) (x : Told) : Type 0 where
+  pub section : x.section ≡ section_number r.section
+  pub index : x.index ≡ r.index
+  pub owner : x.owner ≡ r.offset
+  pub type : x.type_number ≡ number_of r.record_type
+  pub class : x.class ≡ r.class
+  pub ttl : x.ttl ≡ r.ttl
+  pub content : TellsData r.rdata end x
+
+-- what is told of a record whose RDATA is rejected
+pub record TellsFixed (e : RecordError) (f : FixedFields) (x : Told) : Type 0 where
+  pub section : x.section ≡ section_number e.section
+  pub index : x.index ≡ e.index
+  pub owner : x.owner ≡ e.offset
+  pub type : x.type_number ≡ f.record_type
+  pub class : x.class ≡ f.class
+  pub ttl : x.ttl ≡ f.ttl
+  pub length : x.length ≡ f.rdlength
+  pub rdata : x.rdata ≡ f.rdata
+  pub has_data : x.has_data ≡ 1

@@ -1,0 +1,204 @@
+//! The records of a message, one after the other.
+
+ghost use Rattle.std.specs.Prelude.{◌≡◌, ◌≢◌, ◌≤◌, ◌<◌, ◌⊎◌, length as size};
+ghost use Rattle.dns_message.specs.{Headers.HasHeader};
+ghost use Rattle.dns_rdata_c.specs.RecordWalks.{BeginsWalk, NeverBegins, Passes, HasContent, HasRejected, EndsAtDamage, EndsAtPointers, IsAtEnd};
+ghost use Rattle.dns_rdata_c.specs.RecordWalks.{TellsRef, TellsFixed, section_number};
+
+use crate::status::{ABSENT, DAMAGED, HEADER, OK, POINTERS, QUESTION, RECORD, REFUSED, status_of};
+use dns_message::{Fault, FixedFields, MessageRef, Progress, RecordError, RecordRef, Section};
+use std::iter::Iterator;
+
+/// Where a walk over the records of a message is. The caller holds it; any numbers in it are safe.
+#[repr(C)]
+#[derive(Clone, Copy)]
+pub struct RecordsCursor {
+    /// The offset of the next record.
+    pub next: usize,
+    /// How many records precede it.
+    pub passed: usize,
+    /// How many there are.
+    pub until: usize,
+    /// One more than the compression pointers that may still be followed.
+    pub left: usize,
+}
+
+/// A record, but for its RDATA.
+#[repr(C)]
+#[derive(Clone, Copy)]
+pub struct Record {
+    /// The offset of the record, where its owner is encoded.
+    pub owner: usize,
+    /// The offset of its RDATA.
+    pub rdata: usize,
+    /// The index in its section, counted from 0.
+    pub index: usize,
+    /// The section: 1 for answers, 2 for authorities, 3 for additional records.
+    pub section: u32,
+    /// The TTL, as it is encoded.
+    pub ttl: u32,
+    /// The number of the type.
+    pub type_number: u16,
+    /// The class.
+    pub class: u16,
+    /// RDLENGTH.
+    pub length: u16,
+    /// 0 for a record of UPDATE that has no data (RFC 2136, sections 2.4 and 2.5), and otherwise 1.
+    pub has_data: u16,
+}
+
+// The number of a section.
+fn number_of(section: Section) -> u32
+    ensures { result ≡ section_number section }
+{
+    match section {
+        Section::Question => 0,
+        Section::Answer => 1,
+        Section::Authority => 2,
+        Section::Additional => 3,
+    }
+}
+
+fn progress_of(records: &RecordsCursor) -> Progress
+    ensures { result ≡ record { offset = records.now.next; passed = records.now.passed; until = records.now.until; left = records.now.left } }
+{
+    Progress {
+        offset: records.next,
+        passed: records.passed,
+        until: records.until,
+        left: records.left,
+    }
+}
+
+fn cursor_of(progress: Progress) -> RecordsCursor
+    ensures { result ≡ record { next = progress.offset; passed = progress.passed; until = progress.until; left = progress.left } }
+{
+    RecordsCursor {
+        next: progress.offset,
+        passed: progress.passed,
+        until: progress.until,
+        left: progress.left,
+    }
+}
+
+// The numbers of a record that was read, which ends at an offset.
+fn record_of(found: &RecordRef<'_>, end: usize) -> Record
+    ensures { TellsRef found.now end result }
+{
+    let (length, has_data) = match &found.rdata {
+        Some(rdata) => (rdata.octets().len().min(65535), 1),
+        None => (0, 0),
+    };
+    Record {
+        owner: found.offset,
+        rdata: end.saturating_sub(length),
+        index: found.index,
+        section: number_of(found.section),
+        ttl: found.ttl,
+        type_number: u16::from(found.record_type),
+        class: found.class,
+        length: length as u16,
+        has_data,
+    }
+}
+
+// The numbers of a record whose RDATA is rejected.
+fn record_with(error: &RecordError, fields: &FixedFields) -> Record
+    ensures { TellsFixed error.now fields.now result }
+{
+    Record {
+        owner: error.offset,
+        rdata: fields.rdata,
+        index: error.index,
+        section: number_of(error.section),
+        ttl: fields.ttl,
+        type_number: fields.record_type,
+        class: fields.class,
+        length: fields.rdlength,
+        has_data: 1,
+    }
+}
+
+/// Sets a cursor before the first record of a message, after its questions. The walk may follow 65,536 compression pointers. Allocates
+/// nothing.
+#[unsafe(no_mangle)]
+pub extern "C" fn dns_rdata_records_begin(message: &[u8], records: &mut RecordsCursor) -> u32
+    ensures ok { result ≡ OK → BeginsWalk message.now records.new }
+    ensures header { result ≡ HEADER → HasHeader message.now → ⊥ }
+    ensures question { result ≡ QUESTION → NeverBegins message.now (λ fault. fault ≢ Fault.Pointers) }
+    ensures pointers { result ≡ POINTERS → NeverBegins message.now (λ fault. fault ≡ Fault.Pointers) }
+    ensures status { (result ≡ OK) ⊎ (result ≡ HEADER) ⊎ (result ≡ QUESTION) ⊎ (result ≡ POINTERS) }
+    ensures emptied { result ≢ OK → records.new ≡ record { next = 0; passed = 0; until = 0; left = 0 } }
+{
+    *records = RecordsCursor {
+        next: 0,
+        passed: 0,
+        until: 0,
+        left: 0,
+    };
+    let Ok(message) = MessageRef::read(message) else {
+        return HEADER;
+    };
+    match message.records() {
+        Ok(walk) => {
+            *records = cursor_of(walk.progress());
+            OK
+        }
+        Err(error) => match error.fault {
+            Fault::Pointers => POINTERS,
+            _ => QUESTION,
+        },
+    }
+}
+
+/// Returns the record at the cursor, and moves the cursor to the next one. After the last record it returns `ABSENT`. The message is
+/// the one with which the cursor began. Allocates nothing.
+///
+/// If the RDATA is rejected, the status is its error, as `dns_rdata_check` returns it; the record is told, and the walk goes on.
+/// With `RECORD` no record is encoded there, and with `POINTERS` the record follows more compression pointers than the walk may; the
+/// walk has ended.
+#[unsafe(no_mangle)]
+pub extern "C" fn dns_rdata_records_next(
+    message: &[u8],
+    records: &mut RecordsCursor,
+    told: &mut Record,
+) -> u32
+    ensures ok { result ≡ OK → Passes message.now records.old records.new told.new (λ r. HasContent message.now r told.new.has_data) }
+    ensures rejected { REFUSED ≤ result → result < DAMAGED
+        → Passes message.now records.old records.new told.new (λ r. HasRejected message.now r result told.new.has_data) }
+    ensures damaged { result ≡ RECORD → EndsAtDamage message.now records.old records.new }
+    ensures pointers { result ≡ POINTERS → EndsAtPointers message.now records.old records.new }
+    ensures absent { result ≡ ABSENT → IsAtEnd message.now records.old }
+    ensures status { (result ≡ OK) ⊎ (result ≡ ABSENT) ⊎ (result ≡ RECORD) ⊎ (result ≡ POINTERS) ⊎ ((REFUSED ≤ result) × (result < DAMAGED)) }
+    ensures unmoved { result ≡ ABSENT → records.new ≡ records.old }
+    ensures untold { (result ≡ ABSENT) ⊎ (result ≡ RECORD) ⊎ (result ≡ POINTERS) → told.new ≡ told.old }
+{
+    let Ok(message) = MessageRef::read(message) else {
+        return ABSENT;
+    };
+    let Some(mut walk) = message.resume(progress_of(records)) else {
+        return ABSENT;
+    };
+    let Some(item) = walk.next() else {
+        return ABSENT;
+    };
+    *records = cursor_of(walk.progress());
+    match item {
+        Ok(found) => {
+            *told = record_of(&found, records.next);
+            OK
+        }
+        Err(error) => match error.fault {
+            Fault::RData(reason) => match message.fields_at(error.offset) {
+                Some(fields) => {
+                    *told = record_with(&error, &fields);
+                    status_of(reason)
+                }
+                // Unreachable: a record is there.
+                None => RECORD,
+            },
+            Fault::Pointers => POINTERS,
+            _ => RECORD,
+        },
+    }
+}

@@ -1,9 +1,0 @@
-use Rattle.std.proofs.Common.{length, ◌≤◌}
-use Rattle.dns_view.proofs.NameSteps.{Going}
-use Rattle.dns_view.proofs.names.skip_name.Given as goal
-
-abbrev pub invariant-runs : goal.invariant-runs
-invariant-runs l = Going l.message l.start l.end l.region l.offset l.next l.octets × (l.end ≤ length l.message)
-
-abbrev pub decreases-runs : goal.decreases-runs
-decreases-runs l = l.offset

@@ -1,0 +1,26 @@
+-- How many compression pointers are followed by going over the fields of a row.
+use Rattle.std.specs.Prelude.{◌≡◌, ℕ, ◌+◌, ◌<◌, ◌≤◌, ◌⊎◌, List, [], ◌∷◌}
+use Rattle.dns_types.specs.declared.error.DecodeError.{DecodeError}
+use Rattle.dns_fields.specs.declared.Kind.{Kind, TheVariants.Name}
+use Rattle.dns_names_wire.specs.State.{Reading}
+use Rattle.dns_rows.specs.declared.row.Part.{Part}
+use Rattle.dns_view.specs.{Pointers.NamePointers, Parts.Skipped, Parts.Refused, Rows.asked_length}
+
+-- those of a name; none in a field of another kind
+abbrev pub FieldPointers : Kind → Reading → ℕ → Type 0
+FieldPointers Name old count = NamePointers old.message old.index count
+FieldPointers k old count = count ≡ 0
+
+-- Those of the first field; and if the field is taken, those of the fields after it too. The fields have n octets of
+-- RDATA from start.
+abbrev pub FieldsPointers : List Part → ℕ → ℕ → Reading → ℕ → Type 0
+FieldsPointers [] start n old count = count ≡ 0
+FieldsPointers (p ∷ row) start n old count = (one : ℕ) × FieldPointers p.kind old one
+    × (((new : Reading) × (rest : ℕ) × Skipped p.rule p.kind (start + n) old new × FieldsPointers row start n new rest
+    × (count ≡ one + rest))
+    ⊎ ((e : DecodeError) × (new : Reading) × Refused p.rule p.kind start n old e new × (count ≡ one)))
+
+-- Those of a row's fields, of n octets of RDATA. If the row asks for more octets, no field is looked at.
+abbrev pub RowPointers : List Part → ℕ → Reading → ℕ → Type 0
+RowPointers row n old count = ((n < asked_length row) × (count ≡ 0))
+    ⊎ ((asked_length row ≤ n) × FieldsPointers row old.index n old count)

@@ -1,0 +1,97 @@
+"""Domain names."""
+
+from __future__ import annotations
+
+import functools
+import re
+from typing import List, Optional, Tuple
+
+from . import _calls
+from ._errors import Status, TextError, WireError
+
+# A token without an octet that ends or quotes one (RFC 1035, section 5.1), unless a backslash is before it.
+_TOKEN = re.compile(r'(?:[^\\\t\n\r "();]|\\.)*\\?', re.DOTALL)
+_NS = 2
+
+
+@functools.total_ordering
+class Name:
+    """A domain name: its uncompressed octets, case preserved (RFC 1035, section 3.1).
+
+    Names are equal, and hashed, without regard to the case of ASCII letters. They are ordered label by label from the right (RFC
+    4034, section 6.1), as dnspython orders them. RDATA with names is ordered otherwise: by its canonical octets.
+
+    >>> origin = Name.from_text("example.com.")
+    >>> name = Name.from_text("www", origin)
+    >>> str(name), name.octets
+    ('www.example.com.', b'\\x03www\\x07example\\x03com\\x00')
+    >>> name == Name.from_text("WWW.Example.COM")
+    True
+    """
+
+    __slots__ = ("_octets",)
+    _octets: bytes
+
+    def __init__(self, octets: _calls.Octets) -> None:
+        """The name whose uncompressed octets are exactly these. Raises WireError if they are not one name."""
+        self._octets = bytes(octets)
+        try:
+            # The RDATA of NS is a name, and what begins at offset 0 has no compression pointer.
+            _calls.check(self._octets, 0, len(self._octets), _NS)
+        except (WireError, OverflowError):
+            raise WireError(Status.NAME) from None
+
+    @classmethod
+    def from_text(cls, text: str, origin: Optional[Name] = None) -> Name:
+        """The name of a text in a zone file (RFC 1035, section 5.1). A relative name is completed by the origin, and `@` is the
+        origin; without one, it is read as if it had a dot at its end. Raises TextError if the text is not one name."""
+        if not _TOKEN.fullmatch(text):
+            raise TextError(Status.WRONG_WORD)
+        # The token `\#` alone would begin the unknown-data form of RFC 3597.
+        token = "\\035" if text == "\\#" else text
+        return cls(_calls.parse(token, _NS, origin.octets if origin else b""))
+
+    @property
+    def octets(self) -> bytes:
+        """The uncompressed octets, case preserved, with the zero octet at the end."""
+        return self._octets
+
+    def labels(self) -> List[bytes]:
+        """The labels from the left to the right, without the empty label of the root.
+
+        >>> Name.from_text(r"a\\.b.c").labels()
+        [b'a.b', b'c']
+        """
+        found, offset = [], 0
+        while self._octets[offset]:
+            end = offset + 1 + self._octets[offset]
+            found.append(self._octets[offset + 1 : end])
+            offset = end
+        return found
+
+    def to_text(self) -> str:
+        """The text in a zone file, with a dot at its end."""
+        return _calls.text(self._octets, 0, len(self._octets), _NS)
+
+    def __str__(self) -> str:
+        return self.to_text()
+
+    def __repr__(self) -> str:
+        return f"<Name {self.to_text()}>"
+
+    def __eq__(self, other: object) -> bool:
+        if not isinstance(other, Name):
+            return NotImplemented
+        # Octets of length are at most 63, so they are no letters.
+        return self._octets.lower() == other._octets.lower()
+
+    def __lt__(self, other: object) -> bool:
+        if not isinstance(other, Name):
+            return NotImplemented
+        return self._key() < other._key()
+
+    def __hash__(self) -> int:
+        return hash(self._octets.lower())
+
+    def _key(self) -> Tuple[bytes, ...]:
+        return tuple(label.lower() for label in reversed(self.labels()))

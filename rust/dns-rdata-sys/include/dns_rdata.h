@@ -1,0 +1,1 @@
+../../../c/include/dns_rdata.h
