@@ -388,7 +388,7 @@ def built(folder):
     """The program and the counter of requests. The program was proved and built by `rt ci`, where nothing has changed since."""
     program, counter = TOP / "crates/rdata_replay/out/rdata_replay", pathlib.Path(folder, "requests.so")
     subprocess.run(["cc", "-shared", "-fPIC", "-O1", "-o", counter, TOP / "tests/requests.c", "-ldl"], check=True)
-    test = 'top=$1; . "$top/tests/build.sh"; is_built "$2" rdata_replay || (cd "$top/crates/rdata_replay" && rt run </dev/null >/dev/null)'
+    test = 'top=$1; . "$top/tests/build.sh"; is_built "$2" rdata_replay || (cd "$top/crates/rdata_replay" && rt run -- answers </dev/null >/dev/null)'
     subprocess.run(["bash", "-c", test, "bash", TOP, program], check=True)
     return program, counter
 
