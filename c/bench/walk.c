@@ -1,6 +1,7 @@
 /*
  * Nanoseconds to go over a response of 20 records: dns_rdata_records_next, and a plain C loop that checks the same of the same types.
- * Each figure is the least of PARTS parts, by turns. Prints both, and how many times as long the library takes.
+ * Each figure is the least of PARTS parts, by turns. Prints both, and how many times as long the library takes. Then the nanoseconds a
+ * record of messages of more and more records, up to 64 KiB: the time is linear in the message if these are the same.
  */
 #include "dns_rdata.h"
 
@@ -11,7 +12,7 @@
 
 enum { PARTS = 9, ROUNDS = 20000, RECORDS = 20 };
 
-static uint8_t message[2048];
+static uint8_t message[65536];
 static size_t size;
 static volatile unsigned long sink;
 
@@ -53,6 +54,19 @@ static void make_response(void) {
     }
     PUT(33, "\x00\x01\x00\x02\x01\xbb\x03www\x07" "example\x03net\x00");
     PUT(6, "\x02ns\xc0\x10\x05" "admin\xc0\x10\x78\xc3\x4b\x98\x00\x00\x1c\x20\x00\x00\x03\x84\x00\x12\x75\x00\x00\x01\x51\x80");
+}
+
+/* So many records of MX, each owner a name of its own that ends with a pointer, each exchange a pointer to its owner. */
+static void make_long(unsigned records) {
+    size = 0;
+    put("\x12\x34\x84\x00\x00\x01", 6);
+    put_number(records);
+    put("\0\0\0\0\x03www\x07" "example\x03" "com\x00\x00\xff\x00\x01", 25);
+    for (unsigned i = 0; i < records; i++) {
+        char name[3] = {2, (char)('a' + i % 26), (char)('a' + i / 26 % 26)};
+        put(name, 3);
+        put_record(15, "\x00\x0a\xc0\x0c", 4);
+    }
 }
 
 /* ---- a plain loop */
@@ -136,10 +150,24 @@ static double now(void) {
     return (double)t.tv_sec * 1e9 + (double)t.tv_nsec;
 }
 
-static double part(unsigned long (*walk)(void)) {
+static double part(unsigned long (*walk)(void), int rounds) {
     double start = now();
-    for (int i = 0; i < ROUNDS; i++) sink += walk();
-    return (now() - start) / ROUNDS;
+    for (int i = 0; i < rounds; i++) sink += walk();
+    return (now() - start) / rounds;
+}
+
+static int show_growth(void) {
+    for (unsigned records = 16; records <= 3000; records = records < 1024 ? 4 * records : records + 1976) {
+        make_long(records);
+        if (library() == 0 || library() != plain()) return 0;
+        double least = 1e18;
+        for (int i = 0; i < PARTS; i++) {
+            double a = part(library, (int)(ROUNDS * RECORDS / 4 / records));
+            if (a < least) least = a;
+        }
+        printf("%u records in %zu octets: %.1f ns a record\n", records, size, least / records);
+    }
+    return 1;
 }
 
 int main(void) {
@@ -147,11 +175,11 @@ int main(void) {
     if (library() == 0 || library() != plain()) return printf("the two do not agree\n"), 1;
     double least[2] = {1e18, 1e18};
     for (int i = 0; i < PARTS; i++) {
-        double a = part(library), b = part(plain);
+        double a = part(library, ROUNDS), b = part(plain, ROUNDS);
         if (a < least[0]) least[0] = a;
         if (b < least[1]) least[1] = b;
     }
     printf("%d records in %zu octets: the library %.0f ns, a plain loop %.0f ns, %.2f times\n", RECORDS, size, least[0], least[1],
            least[0] / least[1]);
-    return 0;
+    return show_growth() ? 0 : (printf("the two do not agree\n"), 1);
 }
