@@ -284,37 +284,36 @@ static int use_messages(const char *name, int (*use)(struct octets)) {
 /* ---- speed */
 
 /* The messages that are measured. */
-static struct octets *kept;
-static size_t kept_count, kept_room, kept_octets;
+struct kept {
+    struct kept *next;
+    size_t length;
+    uint8_t octets[];
+};
+
+static struct kept *first, **last = &first;
+static size_t kept_count, kept_octets;
 
 static int keep(struct octets message) {
-    uint8_t *copy = malloc(message.length + 1);
-    if (kept_count == kept_room) {
-        size_t more = kept_room * 2 + 1024;
-        struct octets *grown = realloc(kept, more * sizeof *kept);
-        if (grown != NULL) {
-            kept = grown;
-            kept_room = more;
-        }
-    }
-    if (copy == NULL || kept_count == kept_room) {
-        free(copy);
+    struct kept *kept = malloc(sizeof *kept + message.length);
+    if (kept == NULL)
         return fail("-b", "out of memory");
-    }
-    memcpy(copy, message.at, message.length);
-    kept[kept_count].at = copy;
-    kept[kept_count++].length = message.length;
+    kept->next = NULL;
+    kept->length = message.length;
+    memcpy(kept->octets, message.at, message.length);
+    *last = kept;
+    last = &kept->next;
+    kept_count++;
     kept_octets += message.length;
     return 0;
 }
 
-/* The records of a message, each of which was checked. */
-static unsigned long walk(struct octets message) {
+/* Walks a message, whose records are checked: how many there are. */
+static unsigned long walk(const struct kept *message) {
     struct dns_rdata_records records;
     struct dns_rdata_record record;
     unsigned long found = 0;
-    if (dns_rdata_records_begin(message.at, message.length, &records) == DNS_RDATA_OK)
-        while (is_record(dns_rdata_records_next(message.at, message.length, &records, &record)))
+    if (dns_rdata_records_begin(message->octets, message->length, &records) == DNS_RDATA_OK)
+        while (is_record(dns_rdata_records_next(message->octets, message->length, &records, &record)))
             found++;
     return found;
 }
@@ -331,8 +330,8 @@ static void measure(void) {
     double start = seconds(), spent;
     do {
         found = 0;
-        for (size_t i = 0; i < kept_count; i++)
-            found += walk(kept[i]);
+        for (const struct kept *message = first; message != NULL; message = message->next)
+            found += walk(message);
         rounds++;
         spent = seconds() - start;
     } while (spent < 2);
@@ -347,9 +346,11 @@ static int print_speed(const char *name) {
         status = fail(name, "has no messages");
     if (status == 0)
         measure();
-    for (size_t i = 0; i < kept_count; i++)
-        free((void *)kept[i].at);
-    free(kept);
+    while (first != NULL) {
+        struct kept *next = first->next;
+        free(first);
+        first = next;
+    }
     return status;
 }
 
