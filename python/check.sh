@@ -49,8 +49,10 @@ python=python3
 if ! python3 -c 'import dns' 2>/dev/null && /usr/bin/python3 -c 'import dns' 2>/dev/null; then python=/usr/bin/python3; fi
 if ! "$python" -c 'import dns' 2>/dev/null; then skip 'Python beside dnspython, which is missing'; fi
 want 'Python' env DNS_RDATA_LIBRARY="$library" PYTHONPATH="$top/python/src" "$python" -m unittest discover -s "$top/python/tests"
+want 'dnsdump in Python' env DNS_RDATA_LIBRARY="$library" PYTHONPATH="$top/python/src" bash "$top/tests/captures/check.sh" "$python" "$top/python/examples/dnsdump.py"
 if command -v mypy >/dev/null; then
   want 'the types of the Python package' env -C "$top/python" mypy --strict --cache-dir "$dir/mypy" src
+  want 'the types of the Python example' env -C "$top/python" MYPYPATH=src mypy --strict --cache-dir "$dir/mypy" examples
 else
   skip 'the types of the Python package: no mypy'
 fi

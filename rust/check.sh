@@ -13,6 +13,11 @@ example() {
   cargo run --offline --locked --quiet --example records >"$dir/printed" && diff -u dns-rdata/examples/records.out "$dir/printed"
 }
 
+# Whether the example dnsdump prints what it must of captures and of a folder of messages.
+dumped() {
+  cargo build --offline --locked --quiet --example dnsdump && bash "$top/tests/captures/check.sh" "$dir/target/debug/examples/dnsdump"
+}
+
 # Whether rustdoc has nothing to complain about where no archive is there, as on docs.rs.
 documented() {
   (unset DNS_RDATA_LIB && DOCS_RS=1 RUSTDOCFLAGS='-D warnings' cargo doc --offline --locked --quiet --no-deps --target-dir "$dir/doc")
@@ -54,6 +59,7 @@ want 'the documentation of the Rust crates' documented
 want 'the Rust crates' cargo test --offline --locked --quiet --workspace
 want 'the Rust crates without std' cargo test --offline --locked --quiet --no-default-features --lib --bins
 want 'the Rust example' example
+want 'dnsdump in Rust' dumped
 want 'the Rust packages' packaged
 want 'no archive for the Rust crates' missing
 echo "$good as wanted, $bad not"

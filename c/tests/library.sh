@@ -37,6 +37,21 @@ example() {
   [ $? = 1 ] && diff -u "$top/c/examples/response.out" "$dir/printed"
 }
 
+# Whether dnsdump measures the messages of the folder, which have 46 records.
+measured() {
+  "${run[@]}" "$dir/dnsdump" -b "$top/tests/captures/messages" | grep -E '^16 messages of [0-9]+ octets, 46 records, [1-9][0-9]* rounds: [1-9]'
+}
+
+# Whether dnsdump has status 2 for other words.
+dump_words() {
+  local words
+  for words in '' '-b' '-x .' 'a b' '-b -b' '-b a b' '-b /dev/null'; do
+    # shellcheck disable=SC2086 # each is a word
+    "${run[@]}" "$dir/dnsdump" $words 2>"$dir/errors"
+    if [ $? != 2 ] || [ ! -s "$dir/errors" ]; then echo "dnsdump $words"; return 1; fi
+  done
+}
+
 # The calls that the header declares.
 header_calls() { sed -nE 's/^DNS_RDATA_NONNULL .* (dns_rdata_[a-z_]*)\(.*/\1/p' "$top/c/include/dns_rdata.h" | sort; }
 
@@ -93,6 +108,13 @@ hostile() {
   sed -n 's/^stack: /stack of the calls: /p' "$dir/log"
 }
 
+dumps() {
+  want 'dnsdump compiles' "${c11[@]}" -o "$dir/dnsdump" "$top/c/examples/dnsdump.c" "$dir/out/libdns_rdata.a"
+  want 'dnsdump' bash "$top/tests/captures/check.sh" --truncated "${run[@]}" "$dir/dnsdump"
+  want 'the speed that dnsdump measures' measured
+  want 'the words of dnsdump' dump_words
+}
+
 by_pkg_config() {
   if ! command -v pkg-config >/dev/null; then skip 'the installed library by pkg-config: it is missing'; return; fi
   local found
@@ -124,6 +146,8 @@ sanitized() {
   want 'the hostile loop under the sanitizers' "$dir/hostile_checked" $((rounds / 5)) 7
   want 'failing allocations compile for the sanitizers' "${checked[@]}" -o "$dir/memory_checked" "$tests/memory.c" "$library"
   want 'failing allocations under the sanitizers' "$dir/memory_checked"
+  want 'dnsdump compiles for the sanitizers' "${checked[@]}" -o "$dir/dnsdump_checked" "$top/c/examples/dnsdump.c" "$dir/out/libdns_rdata.a"
+  want 'dnsdump under the sanitizers' bash "$top/tests/captures/check.sh" "$dir/dnsdump_checked"
 }
 
 # Whether make uninstall leaves no file.
@@ -139,6 +163,7 @@ want 'the man page' manual
 want 'the example of the man page' manual_example
 calls
 hostile
+dumps
 by_pkg_config
 by_cmake
 sanitized
