@@ -1,7 +1,7 @@
 -- The fields of a value, by the view of its RDATA.
-use Rattle.std.proofs.Common.{◌≡◌, ℕ, suc, ◌+◌, ◌-◌, ◌≤◌, inl, inr, List, [], ◌∷◌, ◌++◌, length, take, drop, Option, Some, None, refl, sym, ap, ◌∙◌, arith, subst, Bor}
-use Rattle.std.proofs.lemmas.List.{take_all, append-nil}
-use Rattle.std.specs.List.{flat_map, AllByRecursion}
+use Rattle.std.proofs.Common.{◌≡◌, ℕ, suc, ◌+◌, ◌-◌, ◌≤◌, ◌<◌, ◌⊎◌, inl, inr, List, [], ◌∷◌, ◌++◌, length, length-drop, take, drop, Option, Some, None, refl, sym, ap, ◌∙◌, arith, subst, Bor}
+use Rattle.std.proofs.lemmas.List.{take_all, append-nil, drop-take, drop-drop, length-take-le}
+use Rattle.std.specs.List.{flat_map, slice_range}
 use Rattle.std.specs.{declared.net.ip_addr.IpAddr.IpAddr, declared.net.ipv4_addr.Ipv4Addr.Ipv4Addr, declared.net.ipv6_addr.Ipv6Addr.Ipv6Addr}
 use Rattle.std.specs.Net.Addr.{ipv4_octets, ipv6_octets, segments_of, octets_of}
 use Rattle.std.specs.declared.net.ip_addr.IpAddr.TheVariants.{V4, V6}
@@ -11,9 +11,9 @@ use Rattle.dns_fields.specs.declared.Kind.{Kind}
 use Rattle.dns_fields.specs.declared.Kind.TheVariants.{CharacterStrings, Options, Parameters, Bitmap}
 use Rattle.dns_fields.specs.{Octets.At, Fields.Value, Fields.Values, Fields.IsField}
 use Rattle.dns_fields.specs.Tlvs.{string, Numbered, tlvs, AreTlvs, AllHeld, OptionValue, OptionHeld, ParameterValue, ParameterHeld}
-use Rattle.dns_fields.specs.Bitmaps.{Block, block, IsBlock}
+use Rattle.dns_fields.specs.Bitmaps.{Block, block}
 use Rattle.dns_rows.specs.{declared.row.Part.Part, Table.table, Table.kinds_of}
-use Rattle.dns_fields.proofs.{Tlvs.complete_or_truncated, OctetLaws.AreOctets-at}
+use Rattle.dns_fields.proofs.{Tlvs.complete_or_truncated, OctetLaws.AreOctets-at, Numbers.length-bytes}
 use Rattle.dns_view.specs.{Rows.HasRow, Shown.ShowsAt, Shown.IsShown, Tlvs.AreComplete, TlvList.NoTlv, TypeList.block_types, TypeList.ListsTypes}
 use Rattle.dns_view.specs.declared.field.FieldRef.{FieldRef}
 use Rattle.dns_view.specs.declared.field.FieldRef.TheVariants as shown
@@ -22,7 +22,7 @@ use Rattle.dns_rdata_base.proofs.Addresses.{octets_of-segments}
 use Rattle.dns_rdata.specs.{Data.FieldsOf, Data.fields_of, Data.type_of, Data.Fills, Laws.address_of}
 use Rattle.dns_rdata.specs.{declared.record_data.RData.RData, declared.view.RDataRef.RDataRef, Views.IsViewOf}
 use Rattle.dns_rdata.specs.declared.record_data.RData.TheVariants as rdata
-use Rattle.dns_rdata.specs.ViewLists.{strings_in, options_in, parameters_in, types_in}
+use Rattle.dns_rdata.specs.ViewLists.{strings_in, options_in, parameters_in, types_in, HasWindows}
 use Rattle.dns_rdata.proofs.{Views.meets_row, Values.value_is, Values.value_for-a, Values.value_for-aaaa}
 
 -- ---- what is said of the fields of the row is said of the value
@@ -221,49 +221,52 @@ types_third : (v : RData) → types_in v ≡ third_types (fields_of v).kinds (fi
 types_third (rdata.CSYNC x) = refl
 types_third v = refl
 
--- what blocks yield
-abbrev pub YieldsTypes : List ℕ → List ℕ → Type 0
-YieldsTypes o r = (blocks : List Block) → AllByRecursion IsBlock blocks → o ≡ flat_map block blocks → r ≡ flat_map block_types blocks
+-- the windows of a CSYNC that was read
+windows_of : {m : List ℕ} {p n : ℕ} {v : RData} (g : Fills m p n types.CSYNC v) → HasWindows m p n g.region.stands.2.2.1.is.blocks
+windows_of {m} {p} {n} g =
+    let s = g.region.stands in
+    let b = s.2.2.1.is in
+    let at : s.2.0 ≡ p + 6 = omega (arith, s.1.is.1.ends, length-bytes 4 g.values.0, s.2.1.is.1.ends, length-bytes 2 g.values.1.0) in
+    record {
+      fit = b.fit;
+      at = subst (λ (i : ℕ). At m i (flat_map block b.blocks) (p + n)) at
+          (subst (λ (q : ℕ). At m s.2.0 (flat_map block b.blocks) q) s.2.2.2 b.at);
+    }
 
-shown_types : (kinds : List Kind) (vs : Values kinds) (s : Bor (List ℕ)) (r : List ℕ) → ShowsAt 2 kinds vs (shown.Bitmap s) → YieldsTypes s.now r
-    → ListsTypes r (third_types kinds vs)
-shown_types [] vs s r h y = absurd h
-shown_types (a ∷ []) vs s r h y = absurd h
-shown_types (a ∷ (b ∷ [])) vs s r h y = absurd h
-shown_types (a ∷ (b ∷ (Bitmap ∷ kinds))) vs s r h y =
-    let f = h.is.is in
-    subst (λ (x : List ℕ). ListsTypes x vs.1.1.0) (sym (y f.blocks f.fit (whole_octets f.at))) (lists_types f)
-shown_types (a ∷ (b ∷ (k ∷ kinds))) vs s r h y = absurd h.is
+module _ {m o : List ℕ} {p n : ℕ} {windows : List Block} (is : o ≡ take n (drop p m)) (h : HasWindows m p n windows) where
+  size : n ≡ 6 + length (flat_map block windows)
+  size = omega (arith, h.at.ends)
 
-pub types_told : (v : RData) (s : Bor (List ℕ)) (r : List ℕ) → ShowsAt 2 (fields_of v).kinds (fields_of v).values (shown.Bitmap s) → YieldsTypes s.now r
-    → ListsTypes r (types_in v)
-types_told v s r h y = subst (ListsTypes r) (sym (types_third v)) (shown_types (fields_of v).kinds (fields_of v).values s r h y)
+  -- the octets after the first six of the RDATA are the windows'
+  pub windows_octets : slice_range o 6 (length o) ≡ flat_map block windows
+  windows_octets =
+      let x = flat_map block windows in
+      let cut : drop 6 o ≡ x =
+      ap (drop 6) (is ∙ ap (λ (k : ℕ). take k (drop p m)) size) ∙ drop-take 6 (length x) (drop p m)
+      ∙ ap (take (length x)) (drop-drop 6 p m) ∙ h.at.same in
+      take_all (length o - 6) (drop 6 o) (omega (arith, length-drop 6 o)) ∙ cut
 
-lists_nothing : (r v : List ℕ) → r ≡ [] → v ≡ [] → ListsTypes r v
-lists_nothing r v e f = subst (λ (x : List ℕ). ListsTypes x v) (sym e)
-    (subst (ListsTypes []) (sym f) (record { members = λ t. refl; rising = λ rises. refl }))
+  -- so many octets are there
+  pub windows_fit : (length o < 6) ⊎ (length o < length o) → ⊥
+  windows_fit few =
+      let all : length o ≡ n = ap length is ∙ length-take-le n (drop p m) (omega (arith, h.at.within, length-drop p m)) in
+      omega (arith, few, all, size)
 
-shown_bitmap : (f : FieldRef) (v : Value Bitmap) → IsShown f Bitmap v → (s : Bor (List ℕ)) × (f ≡ shown.Bitmap s)
-shown_bitmap (shown.Bitmap s) v h = (s, refl)
-shown_bitmap f v h = absurd h
+-- a result that the windows determine has the types of the value
+pub types_listed : {m : List ℕ} {p n : ℕ} {t : RecordType} {v : RData} {r : RDataRef} (result : List ℕ) → IsViewOf m p n t r → Fills m p n t v
+    → r.record_type ≡ types.CSYNC → ((windows : List Block) → HasWindows m p n windows → result ≡ flat_map block_types windows) → ListsTypes result (types_in v)
+types_listed {m} {p} {n} {t} {v} {r} result is f e h =
+    let g : Fills m p n types.CSYNC v = as_type is f e in
+    let b = g.region.stands.2.2.1.is in
+    let same : types_in v ≡ g.values.1.1.0 = types_third v ∙ ap (λ (x : FieldsOf). third_types x.kinds x.values) g.value.fields in
+    subst (ListsTypes result) (sym same) (subst (λ (x : List ℕ). ListsTypes x g.values.1.1.0) (sym (h b.blocks (windows_of g))) (lists_types b))
 
-no_third : (kinds : List Kind) (vs : Values kinds) (f : FieldRef) → ShowsAt 2 kinds vs f → ((s : Bor (List ℕ)) → f ≡ shown.Bitmap s → ⊥)
-    → third_types kinds vs ≡ []
-no_third [] vs f h ne = refl
-no_third (a ∷ []) vs f h ne = refl
-no_third (a ∷ (b ∷ [])) vs f h ne = refl
-no_third (a ∷ (b ∷ (Bitmap ∷ kinds))) vs f h ne = let w = shown_bitmap f vs.1.1.0 h.is in absurd (ne w.0 w.1)
-no_third (a ∷ (b ∷ (k ∷ kinds))) vs f h ne = refl
+no_types : (v : RData) → (type_of v ≡ types.CSYNC → ⊥) → types_in v ≡ []
+no_types (rdata.CSYNC x) ne = absurd (ne refl)
+no_types v ne = refl
 
-no_types : (kinds : List Kind) (vs : Values kinds) → length kinds ≤ 2 → third_types kinds vs ≡ []
-no_types [] vs h = refl
-no_types (a ∷ []) vs h = refl
-no_types (a ∷ (b ∷ [])) vs h = refl
-no_types (a ∷ (b ∷ (k ∷ kinds))) vs h = absurd (omega (arith, h))
-
-pub types_other : (v : RData) (f : FieldRef) (r : List ℕ) → ShowsAt 2 (fields_of v).kinds (fields_of v).values f
-    → ((s : Bor (List ℕ)) → f ≡ shown.Bitmap s → ⊥) → r ≡ [] → ListsTypes r (types_in v)
-types_other v f r h ne none = lists_nothing r (types_in v) none (types_third v ∙ no_third (fields_of v).kinds (fields_of v).values f h ne)
-
-pub types_missing : (v : RData) (r : List ℕ) → length (fields_of v).kinds ≤ 2 → r ≡ [] → ListsTypes r (types_in v)
-types_missing v r h none = lists_nothing r (types_in v) none (types_third v ∙ no_types (fields_of v).kinds (fields_of v).values h)
+pub types_none : {m : List ℕ} {p n : ℕ} {t : RecordType} {v : RData} {r : RDataRef} (result : List ℕ) → IsViewOf m p n t r → Fills m p n t v
+    → (r.record_type ≡ types.CSYNC → ⊥) → result ≡ [] → ListsTypes result (types_in v)
+types_none {v = v} result is f ne none =
+    subst (ListsTypes result) (sym (no_types v (λ e. ne (is.type ∙ sym f.value.type ∙ e))))
+    (subst (λ (x : List ℕ). ListsTypes x []) (sym none) (record { members = λ t. refl; rising = λ rises. refl }))

@@ -73,7 +73,7 @@ impl<'a> RDataRef<'a> {
     ghost use Rattle.dns_rdata.specs.Views.{ComparesAs};
     ghost use Rattle.std.specs.Prelude.{◌≤◌, MatchOption};
     ghost use Rattle.dns_view.specs.{Shown.ShowsAt, NameFields.names_in, NameFields.ShowsNameAt};
-    ghost use Rattle.dns_rdata.specs.{Data.fields_of, Laws.address_of, ViewLists.strings_in, ViewLists.options_in, ViewLists.parameters_in, ViewLists.types_in};
+    ghost use Rattle.dns_rdata.specs.{Data.fields_of, Laws.address_of, ViewLists.strings_in, ViewLists.options_in, ViewLists.parameters_in, ViewLists.types_in, ViewLists.TypesInOrder};
     ghost use Rattle.dns_fields.specs.Tlvs.{AllHeld, OptionHeld, ParameterHeld};
     ghost use Rattle.dns_view.specs.TypeList.{ListsTypes};
 
@@ -331,21 +331,23 @@ impl<'a> RDataRef<'a> {
         }
     }
 
-    /// The types of CSYNC's bitmap (RFC 7477, 2.1.1; RFC 4034, 4.1.2), window by window. Other types of records have none.
-    /// Allocates nothing.
+    /// The types of CSYNC's bitmap (RFC 7477, 2.1.1; RFC 4034, 4.1.2) in the order in which they are encoded: window by
+    /// window, and in rising order in each. Other types of records have none. Allocates nothing.
     ///
     /// They have the types of the value, and no others; if they rise, they are those of the value. The RFC asks for windows that
     /// rise, and then they do. A bitmap whose windows do not rise is read too: its types come in the order of its windows, and a
-    /// type twice if its window comes twice. The contract does not say in which order they come.
+    /// type twice if its window comes twice.
     pub fn types(&self) -> TypesRef<'a>
-        ensures { (m : List ℕ) (p n : ℕ) (t : RecordType) (v : RData) → IsViewOf m p n t self.now → Fills m p n t v → ListsTypes result (types_in v) }
+        ensures set { (m : List ℕ) (p n : ℕ) (t : RecordType) (v : RData) → IsViewOf m p n t self.now → Fills m p n t v → ListsTypes result (types_in v) }
+        ensures order { (m : List ℕ) (p n : ℕ) (t : RecordType) → IsViewOf m p n t self.now → TypesInOrder m p n t result }
     {
-        match self.field(2) {
-            Some(field) => match field {
-                FieldRef::Bitmap(octets) => TypesRef::of(octets),
-                _ => TypesRef::of(&[]),
+        match self.record_type {
+            RecordType::CSYNC => match self.octets().get(6..) {
+                Some(bitmap) => TypesRef::of(bitmap),
+                // Unreachable: serial and flags are six octets.
+                None => TypesRef::of(&[]),
             },
-            None => TypesRef::of(&[]),
+            _ => TypesRef::of(&[]),
         }
     }
 
