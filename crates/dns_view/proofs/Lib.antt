@@ -3,6 +3,7 @@ pub mod PointerSteps
 pub mod Numbers
 pub mod Asked
 pub mod Skips
+pub mod FieldEnds
 pub mod Strings
 pub mod RowLoop
 pub mod PointerRows

@@ -1,10 +1,10 @@
 //! Fields that are checked, one after the other.
 
-ghost use Rattle.std.specs.Prelude.{◌≡◌, ◌<◌, ◌+◌, ◌≤◌, ℕ, false, take, length, get_or};
+ghost use Rattle.std.specs.Prelude.{◌≡◌, ◌<◌, ◌+◌, ◌≤◌, ℕ, false, take, length, get_or, IfSome, Ok};
 ghost use Rattle.std.specs.{Char.is_ascii_alphanumeric, List.list_all};
 ghost use Rattle.dns_fields.specs.declared.Kind.TheVariants.{Number, Octets, Name, CharacterString, CharacterStrings, Rest, Bitmap};
 ghost use Rattle.dns_rows.specs.Rules.{AreLetters};
-ghost use Rattle.dns_view.specs.{Parts.Skips, Parts.IsCovered, Parts.IsUnasked, Parts.step_of as octet_step};
+ghost use Rattle.dns_view.specs.{Parts.Skips, Parts.IsCovered, Parts.IsUnasked, Parts.moved, Parts.step_of as octet_step};
 ghost use Rattle.dns_view.specs.Rows.{IsRowChecked, SkipsRow, asked_length as row_asks};
 ghost use Rattle.dns_view.specs.{Pointers.Leaves, RowPointers.FieldPointers, RowPointers.RowPointers};
 
@@ -19,7 +19,7 @@ use dns_types::DecodeError;
 /// Takes a field exactly if one is there that is as its rule asks, of `len` octets of RDATA from `start`.
 ///
 /// On error the decoder may be anywhere after the offset where the call began.
-#[inline]
+#[inline(never)]
 #[tactic(auto, using(crate::proofs::Skips::skips_as))]
 pub fn skip_field(
     walk: &mut Walk<'_>,
@@ -53,8 +53,56 @@ pub fn skip_field(
     }
 }
 
-/// The same, and takes off `left` how many compression pointers are followed, down to 0: those of a name, whether it is
-/// there or not.
+// The offset after the next `size` octets, if the message has so many.
+#[inline]
+fn octets_end(walk: &Walk<'_>, size: usize) -> Option<usize>
+    ensures { IfSome result (λ end. (end ≡ walk.now.index + size) × (end ≤ length walk.now.message)) }
+{
+    let at = walk.index();
+    if walk.message().len() - at < size {
+        return None;
+    }
+    Some(at + size)
+}
+
+// The offset after the character string that is next, if the message has all of it.
+#[inline]
+fn string_end(walk: &Walk<'_>) -> Option<usize>
+    ensures { IfSome result (λ end. (end ≡ walk.now.index + (get_or walk.now.message walk.now.index 0 + 1))
+        × (end ≤ length walk.now.message)) }
+{
+    let len = *walk.message().get(walk.index())?;
+    octets_end(walk, len as usize + 1)
+}
+
+// The offset after the next field, if a few comparisons tell that it is there and as its rule asks. `None` says nothing
+// about the field.
+#[inline]
+fn field_end(walk: &Walk<'_>, kind: Kind, rule: Rule, start: usize, len: usize) -> Option<usize>
+    requires short { len < 65536 }
+    requires before { start ≤ walk.now.index }
+    ensures { IfSome result (λ end. Skips rule kind start len (Ok tt) walk.now (moved walk.now end)
+        × FieldPointers kind walk.now 0) }
+{
+    let at = walk.index();
+    match kind {
+        Kind::Number(width) => match rule {
+            Rule::KnownFlags => None,
+            _ => octets_end(walk, width as usize),
+        },
+        Kind::Octets(count) => octets_end(walk, count as usize),
+        Kind::CharacterString => match rule {
+            Rule::Letters => None,
+            Rule::Tag => None,
+            _ => string_end(walk),
+        },
+        Kind::Rest if at < start + len => octets_end(walk, start + len - at),
+        _ => None,
+    }
+}
+
+/// Takes a field as [`skip_field`] does, and takes off `left` how many compression pointers are followed, down to 0: those
+/// of a name, whether it is there or not.
 #[inline]
 pub fn pass_field(
     walk: &mut Walk<'_>,
@@ -70,9 +118,16 @@ pub fn pass_field(
     ensures skips { Skips rule kind start len result walk.old walk.new }
     ensures pointers { Leaves (FieldPointers kind walk.old) left.old left.new }
 {
-    match kind {
-        Kind::Name => pass_one_name(walk, rule, start, len, left),
-        _ => skip_field(walk, kind, rule, start, len),
+    // A `Result` is passed in memory, and most fields need none. The calls below take the other fields and make the errors.
+    match field_end(walk, kind, rule, start, len) {
+        Some(end) => {
+            walk.move_to(end);
+            Ok(())
+        }
+        None => match kind {
+            Kind::Name => pass_one_name(walk, rule, start, len, left),
+            _ => skip_field(walk, kind, rule, start, len),
+        },
     }
 }
 

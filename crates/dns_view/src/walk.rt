@@ -3,7 +3,7 @@
 ghost use Rattle.std.specs.Prelude.{◌≡◌, ◌+◌, ◌*◌, ◌-◌, ◌/◌, ◌^◌, ◌<◌, ◌≤◌, length, drop, IfOk, IfErr, OnErr, OnOk};
 ghost use Rattle.dns_fields.specs.{declared.Kind.TheVariants.Number, declared.Kind.TheVariants.Octets, declared.Kind.TheVariants.CharacterString, declared.Kind.TheVariants.Name, Octets.AreOctets};
 ghost use Rattle.dns_names_wire.specs.Terms.{TookField, LacksField, ReadsField, LacksOctets, LacksText};
-ghost use Rattle.dns_view.specs.{Parts.TookSome, Pointers.NamePointers, Pointers.Leaves};
+ghost use Rattle.dns_view.specs.{Parts.TookSome, Parts.moved, Pointers.NamePointers, Pointers.Leaves};
 
 use crate::names::{pass_name, skip_name};
 use dns_types::DecodeError;
@@ -63,6 +63,15 @@ impl<'a> Walk<'a> {
         ensures { result.now ≡ drop self.now.index self.now.message }
     {
         &self.message[self.index..]
+    }
+
+    // Goes to an offset of the message.
+    #[inline]
+    pub(crate) fn move_to(&mut self, index: usize)
+        requires { index ≤ length self.old.message }
+        ensures { self.new ≡ moved self.old index }
+    {
+        self.index = index;
     }
 
     /// Reads the next `len` octets.
