@@ -1,16 +1,16 @@
 -- The offset after a field, by a few comparisons.
-use Rattle.std.proofs.Common.{◌≡◌, ℕ, suc, ◌+◌, ◌-◌, ◌≤◌, ◌<◌, List, ◌∷◌, length, length-drop, take, drop, drop-cons, get_or, refl, sym, ap, ◌∙◌, arith, subst}
+use Rattle.std.proofs.Common.{◌≡◌, ℕ, suc, ◌+◌, ◌-◌, ◌≤◌, ◌<◌, ◌∷◌, length, length-drop, take, drop, drop-cons, get_or, refl, sym, ap, ◌∙◌, arith, subst}
 use Rattle.std.proofs.Common.{Ok, Option, Some, None, IfSome}
 use Rattle.std.proofs.lemmas.List.{length-take-le}
 use Rattle.dns_fields.specs.declared.Kind.{Kind}
-use Rattle.dns_fields.specs.declared.Kind.TheVariants.{Number, Octets, Name, CharacterString, Rest}
+use Rattle.dns_fields.specs.declared.Kind.TheVariants.{Number, Octets, CharacterString, Rest}
 use Rattle.dns_fields.specs.Octets.{AreOctets}
 use Rattle.dns_fields.proofs.{FieldLaws.field_inside, OctetLaws.AreOctets-same, OctetLaws.AreOctets-head, OctetLaws.AreOctets-drop}
 use Rattle.dns_names_wire.specs.{State.Reading, Terms.TookField}
 use Rattle.dns_rows.specs.declared.row.{Rule.Rule}
 use Rattle.dns_rows.specs.declared.row.Rule.TheVariants as rules
-use Rattle.dns_view.specs.{NameEnds.NameEnds, Parts.IsUnasked, Parts.Skips, Parts.moved}
-use Rattle.dns_view.proofs.Skips.{skips_as, number_skips, octets_skip, name_skips, string_skips, rest_skips}
+use Rattle.dns_view.specs.{Parts.IsUnasked, Parts.Skips, Parts.moved, RowPointers.FieldPointers}
+use Rattle.dns_view.proofs.Skips.{skips_as, number_skips, octets_skip, string_skips, rest_skips}
 
 -- the offset after so many octets, which the message has
 abbrev EndsAfter : Reading → ℕ → ℕ → Type 0
@@ -71,29 +71,28 @@ plain_string rule a b = tt
 
 module _ (rule : Rule) (k : Kind) (start n : ℕ) (d : Reading) (r : Option ℕ) where
   abbrev SkipsTo : Type 0
-  SkipsTo = IfSome r (λ end. Skips rule k start n (Ok tt) d (moved d end))
+  SkipsTo = IfSome r (λ end. Skips rule k start n (Ok tt) d (moved d end) × FieldPointers k d 0)
+
+  told : {l : Kind} {P : ℕ → Type 0} → k ≡ l → FieldPointers l d 0 → ((end : ℕ) → P end → Skips rule l start n (Ok tt) d (moved d end)) → IfSome r P → SkipsTo
+  told {l} {P} is none skips =
+      if_some {P = P} r (λ end e. (skips_as (skips end e) is, subst (λ (x : Kind). FieldPointers x d 0) (sym is) none))
 
   pub number_ends : (w : ℕ) → k ≡ Number w → (rule ≡ rules.KnownFlags → ⊥) → AreOctets d.message → IfSome r (EndsAfter d w) → SkipsTo
-  number_ends w is ne octets = if_some r (λ end e. skips_as (number_skips (octets_there d w end e) octets (no_flags rule w ne)) is)
+  number_ends w is ne octets = told {P = EndsAfter d w} is refl (λ end e. number_skips (octets_there d w end e) octets (no_flags rule w ne))
 
   pub octets_ends : (w : ℕ) → k ≡ Octets w → IfSome r (EndsAfter d w) → SkipsTo
-  octets_ends w is = if_some r (λ end e. skips_as (octets_skip (octets_there d w end e)) is)
-
-  pub name_ends : {m : List ℕ} {p : ℕ} → k ≡ Name → m ≡ d.message → p ≡ d.index → IfSome r (NameEnds m p) → SkipsTo
-  name_ends {m} is same at =
-      if_some r (λ end e.
-      let there : NameEnds d.message d.index end = subst (λ (x : List ℕ). NameEnds x d.index end) same (subst (λ (i : ℕ). NameEnds m i end) at e) in
-      skips_as (name_skips (record { value = there.name; took = record { message = refl; field = record { is = there.is } } })) is)
+  octets_ends w is = told {P = EndsAfter d w} is refl (λ end e. octets_skip (octets_there d w end e))
 
   pub string_ends : k ≡ CharacterString → (rule ≡ rules.Letters → ⊥) → (rule ≡ rules.Tag → ⊥) → AreOctets d.message
       → IfSome r (EndsAfter d (get_or d.message d.index 0 + 1)) → SkipsTo
-  string_ends is a b octets = if_some r (λ end e. skips_as (string_skips (string_there d end octets e) (plain_string rule a b)) is)
+  string_ends is a b octets =
+      told {P = EndsAfter d (get_or d.message d.index 0 + 1)} is refl (λ end e. string_skips (string_there d end octets e) (plain_string rule a b))
 
   pub rest_ends : {p : ℕ} → k ≡ Rest → p ≡ d.index → start ≤ d.index → p < start + n → IfSome r (EndsAfter d (start + n - p)) → SkipsTo
-  rest_ends {p} is at before some = if_some r (λ end e.
+  rest_ends {p} is at before some = told {P = EndsAfter d (start + n - p)} is refl (λ end e.
       let size : start + n - p ≡ n - (d.index - start) = omega (arith, before, some, at) in
-      skips_as (rest_skips (octets_there d (n - (d.index - start)) end (subst (λ (i : ℕ). EndsAfter d i end) size e)) before
-      (omega (arith, before, some, at)) (λ e. omega (arith, before, some, at))) is)
+      rest_skips (octets_there d (n - (d.index - start)) end (subst (λ (i : ℕ). EndsAfter d i end) size e)) before
+      (omega (arith, before, some, at)) (λ e. omega (arith, before, some, at)))
 
 pub skips_inside : {rule : Rule} {k : Kind} {start n end : ℕ} {d : Reading} → Skips rule k start n (Ok tt) d (moved d end) → end ≤ length d.message
 skips_inside s = (field_inside s.is.took.field).1

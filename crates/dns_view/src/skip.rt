@@ -77,20 +77,13 @@ fn string_end(walk: &Walk<'_>) -> Option<usize>
 }
 
 // The offset after the next field, if a few comparisons tell that it is there and as its rule asks. `None` says nothing
-// about the field. Takes off `left` how many compression pointers are followed, whether a name is there or not.
+// about the field.
 #[inline]
-fn field_end(
-    walk: &Walk<'_>,
-    kind: Kind,
-    rule: Rule,
-    start: usize,
-    len: usize,
-    left: &mut usize,
-) -> Option<usize>
+fn field_end(walk: &Walk<'_>, kind: Kind, rule: Rule, start: usize, len: usize) -> Option<usize>
     requires short { len < 65536 }
     requires before { start ≤ walk.now.index }
-    ensures skips { IfSome result (λ end. Skips rule kind start len (Ok tt) walk.now (moved walk.now end)) }
-    ensures pointers { Leaves (FieldPointers kind walk.now) left.old left.new }
+    ensures { IfSome result (λ end. Skips rule kind start len (Ok tt) walk.now (moved walk.now end)
+        × FieldPointers kind walk.now 0) }
 {
     let at = walk.index();
     match kind {
@@ -99,7 +92,6 @@ fn field_end(
             _ => octets_end(walk, width as usize),
         },
         Kind::Octets(count) => octets_end(walk, count as usize),
-        Kind::Name => pass_name(walk.message(), at, left),
         Kind::CharacterString => match rule {
             Rule::Letters => None,
             Rule::Tag => None,
@@ -110,8 +102,8 @@ fn field_end(
     }
 }
 
-/// The same, and takes off `left` how many compression pointers are followed, down to 0: those of a name, whether it is
-/// there or not.
+/// Takes a field as [`skip_field`] does, and takes off `left` how many compression pointers are followed, down to 0: those
+/// of a name, whether it is there or not.
 #[inline]
 pub fn pass_field(
     walk: &mut Walk<'_>,
@@ -127,14 +119,16 @@ pub fn pass_field(
     ensures skips { Skips rule kind start len result walk.old walk.new }
     ensures pointers { Leaves (FieldPointers kind walk.old) left.old left.new }
 {
-    // Most fields need no `Result`, which is passed in memory. `skip_field` takes the others and makes the errors; so a
-    // damaged name is gone over twice.
-    match field_end(walk, kind, rule, start, len, left) {
+    // A `Result` is passed in memory, and most fields need none. The calls below take the other fields and make the errors.
+    match field_end(walk, kind, rule, start, len) {
         Some(end) => {
             walk.move_to(end);
             Ok(())
         }
-        None => skip_field(walk, kind, rule, start, len),
+        None => match kind {
+            Kind::Name => pass_one_name(walk, rule, start, len, left),
+            _ => skip_field(walk, kind, rule, start, len),
+        },
     }
 }
 
