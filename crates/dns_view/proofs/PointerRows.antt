@@ -3,14 +3,16 @@ use Rattle.std.proofs.Common.{◌≡◌, ℕ, suc, ◌+◌, ◌-◌, ◌≤◌, 
 use Rattle.std.proofs.lemmas.List.{drop_all}
 use Rattle.dns_types.specs.declared.error.DecodeError.{DecodeError}
 use Rattle.dns_fields.specs.declared.Kind.{Kind}
+use Rattle.dns_fields.specs.declared.Kind.TheVariants.{Name}
 use Rattle.dns_names_wire.specs.State.{Reading}
 use Rattle.dns_rows.specs.declared.row.Part.{Part}
 use Rattle.dns_view.specs.{Parts.Skips, Rows.asked_length}
 use Rattle.dns_view.specs.{Pointers.Leaves, RowPointers.FieldPointers, RowPointers.FieldsPointers, RowPointers.RowPointers}
 
--- a field of a kind that has none
-pub none_as : {k l : Kind} (old : Reading) {left : ℕ} → k ≡ l → FieldPointers l old 0 → Leaves (FieldPointers k old) left left
-none_as old e none = (0, subst (λ (x : Kind). FieldPointers x old 0) (sym e) none, omega arith)
+-- a field that is no name has none
+pub none_in : (k : Kind) (old : Reading) → (k ≡ Name → ⊥) → FieldPointers k old 0
+none_in Name old other = absurd (other refl)
+none_in k old other = refl
 
 -- those of the fields before one of this index; with those of the fields from there on they are those of the row
 pub record CountedSo (row : List Part) (at start n : ℕ) (old now : Reading) (before after : ℕ) : Type 0 where

@@ -9,7 +9,6 @@ ghost use Rattle.dns_view.specs.Rows.{IsRowChecked, SkipsRow, asked_length as ro
 ghost use Rattle.dns_view.specs.{Pointers.Leaves, RowPointers.FieldPointers, RowPointers.RowPointers};
 
 use crate::blocks::check_blocks;
-use crate::names::pass_name;
 use crate::options::skip_options;
 use crate::parameters::skip_parameters;
 use crate::walk::Walk;
@@ -207,6 +206,24 @@ fn skip_one_name(
     ensures { Skips rule Name start len result walk.old walk.new }
 {
     match walk.skip_name() {
+        Ok(()) => Ok(()),
+        Err(e) => Err(e),
+    }
+}
+
+#[inline]
+#[tactic(auto, using(crate::proofs::Skips::name_skips, crate::proofs::Skips::name_refused))]
+fn pass_one_name(
+    walk: &mut Walk<'_>,
+    rule: Rule,
+    start: usize,
+    len: usize,
+    left: &mut usize,
+) -> Result<(), DecodeError>
+    ensures skips { Skips rule Name start len result walk.old walk.new }
+    ensures pointers { Leaves (FieldPointers Name walk.old) left.old left.new }
+{
+    match walk.pass_name(left) {
         Ok(()) => Ok(()),
         Err(e) => Err(e),
     }
