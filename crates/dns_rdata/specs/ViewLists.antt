@@ -34,14 +34,15 @@ abbrev pub types_in : RData → List ℕ
 types_in (rdata.CSYNC x) = (caa_csync.CSYNC.csync_fields x).1.1.0
 types_in v = []
 
--- In the message, the n octets from p are CSYNC RDATA whose bitmap has these windows: after the serial, four octets, and
--- the flags, two octets, the windows are encoded one after the other up to the end (RFC 7477, 2.1; RFC 4034, 4.1.2).
+-- In the message, the n octets from p are CSYNC RDATA whose bitmap has these windows: after the serial, four octets,
+-- and the flags, two octets, the windows follow one another up to the end (RFC 7477, 2.1; RFC 4034, 4.1.2).
 pub record HasWindows (m : List ℕ) (p n : ℕ) (windows : List Block) : Type 0 where
   pub fit : AllByRecursion IsBlock windows
   pub at : At m (p + 6) (flat_map block windows) (p + n)
 
--- The types that the n octets from p list, as RDATA of a record of type t, in the order in which they are encoded: those
--- of CSYNC's windows, window by window, and in rising order in each. Records of other types list none.
+-- The types that the n octets from p list, as RDATA of a record of type t, in the order in which they are encoded:
+-- those of CSYNC's windows, window by window, and in rising order in each. Records of other types list none.
 pub record TypesInOrder (m : List ℕ) (p n : ℕ) (t : RecordType) (listed : List ℕ) : Type 0 where
-  pub csync : t ≡ types.CSYNC → (windows : List Block) → HasWindows m p n windows → listed ≡ flat_map block_types windows
+  pub csync : t ≡ types.CSYNC → (windows : List Block) → HasWindows m p n windows
+      → listed ≡ flat_map block_types windows
   pub other : t ≢ types.CSYNC → listed ≡ []
