@@ -254,7 +254,8 @@ static void reasons(void) {
     reason(" ten mail", DNS_RDATA_TYPE_MX, "Invalid digit found in MX preference token", 1, 4, "MX preference", 0);
     reason("10", DNS_RDATA_TYPE_MX, "MX exchange", 0, 0, "MX exchange", 0);
     reason("\"a", DNS_RDATA_TYPE_TXT, "quotes without an end", 0, 0, "", 0);
-    reason("\\# 3 0a0000", DNS_RDATA_TYPE_A, "", 0, 0, "", DNS_RDATA_LENGTH);
+    reason("\\# 3 0a0000", DNS_RDATA_TYPE_A, "", 0, 0, "", DNS_RDATA_MISSING_OCTETS);
+    reason("\\# 5 0a00000000", DNS_RDATA_TYPE_A, "", 0, 0, "", DNS_RDATA_LENGTH);
     reason("x", DNS_RDATA_TYPE_OPT, "", 0, 0, "", 0);
     want(dns_rdata_parse_why("10 mail", 7, 15, (const uint8_t *)"", 1, out, sizeof out, &count, &fault) == DNS_RDATA_ABSENT, "a text that is read");
     want(dns_rdata_parse_why("10 mail", 7, 15, (const uint8_t *)"\1", 1, out, sizeof out, &count, &fault) == DNS_RDATA_ORIGIN, "no name as origin");

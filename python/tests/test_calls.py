@@ -78,7 +78,7 @@ class Calls(unittest.TestCase):
         self.rejected(Status.MISSING_WORD, _calls.parse, "10", MX)
         self.rejected(Status.WRONG_WORD, _calls.parse, "1.2.3", A)
         self.rejected(Status.UNSUPPORTED_TYPE, _calls.parse, "x", OPT)
-        self.rejected(Status.WRONG_VALUE, _calls.parse, r"\# 3 0a0000", A)
+        self.rejected(Status.WRONG_VALUE, _calls.parse, r"\# 5 0a00000000", A)
         self.rejected(Status.ORIGIN, _calls.parse, "10 mail", MX, b"\x07")
 
     def test_reasons(self):
@@ -89,7 +89,7 @@ class Calls(unittest.TestCase):
         self.assertEqual((error.reason, error.field, error.token), ("MX exchange", "MX exchange", None))
         error = self.rejected(Status.WRONG_WORD, _calls.parse, '"a', TXT)
         self.assertEqual((error.reason, error.field, error.token), ("quotes without an end", None, None))
-        error = self.rejected(Status.WRONG_VALUE, _calls.parse, r"\# 3 0a0000", A)
+        error = self.rejected(Status.WRONG_VALUE, _calls.parse, r"\# 5 0a00000000", A)
         self.assertEqual((error.reason, error.cause, str(error)), (None, Status.LENGTH, "WRONG_VALUE: a wrong name or value: wrong length of RDATA"))
         error = self.rejected(Status.UNSUPPORTED_TYPE, _calls.parse, "x", OPT)
         self.assertEqual((error.reason, error.field, error.token, error.cause), (None, None, None, None))
