@@ -23,12 +23,12 @@ documented() {
   (unset DNS_RDATA_LIB && DOCS_RS=1 RUSTDOCFLAGS='-D warnings' cargo doc --offline --locked --quiet --no-deps --target-dir "$dir/doc")
 }
 
-# Whether the packages have the archive, heap.c, the header, the licences and the README.
+# Whether the packages have the archive, heap.c, texts.c, the header, the licences and the README.
 packaged() {
   local file
   ./package.sh "$dir/packages" || return 1
   tar -tzf "$dir"/packages/dns-rdata-sys-*.crate >"$dir/files" && tar -tzf "$dir"/packages/dns-rdata-[0-9]*.crate >"$dir/others" || return 1
-  for file in lib/x86_64-linux/libdns_rdata heap.c include/dns_rdata.h LICENSE-MIT LICENSE-APACHE README.md; do
+  for file in lib/x86_64-linux/libdns_rdata heap.c texts.c include/dns_rdata.h LICENSE-MIT LICENSE-APACHE README.md; do
     grep -q "/$file" "$dir/files" || { echo "no $file"; return 1; }
   done
   for file in src/lib.rs LICENSE-MIT LICENSE-APACHE README.md; do

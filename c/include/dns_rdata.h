@@ -15,9 +15,9 @@
  *  - Calls keep no state: threads may call at the same time. Not for signal handlers. A stack of 40 KiB is enough, and of 96 KiB
  *    for OPT of more than 8,195 octets.
  *  - The answer is a status, DNS_RDATA_OK or why not. From DNS_RDATA_REFUSED on, the octets are the data of no record of that
- *    type; from DNS_RDATA_DAMAGED on, the message is damaged; from DNS_RDATA_NO_DATA_TEXT on, the text is of none. None of these is
- *    ever answered for octets, messages or texts that are right. A later version may have more statuses in these ranges and below
- *    them: treat a status that you do not know by its range.
+ *    type; from DNS_RDATA_DAMAGED on, the message is damaged; from DNS_RDATA_NO_DATA_TEXT on, the text is of none, or is no name.
+ *    None of these is ever answered for octets, messages or texts that are right. A later version may have more statuses in these
+ *    ranges and below them: treat a status that you do not know by its range.
  *  - Where octets or a text do not fit into the buffer the answer is DNS_RDATA_BUFFER, and *count tells how many octets they
  *    are (of a text without the 0 behind it, as snprintf does), so the call can be made again; a buffer of length 0 asks
  *    for that number. *count is set with DNS_RDATA_OK and DNS_RDATA_BUFFER, and otherwise left as it was.
@@ -52,9 +52,17 @@ extern "C" {
 
 #if defined(__GNUC__)
 #define DNS_RDATA_NONNULL __attribute__((nonnull, warn_unused_result, nothrow))
+#define DNS_RDATA_TEXT __attribute__((const, returns_nonnull, nothrow))
 #else
 #define DNS_RDATA_NONNULL
+#define DNS_RDATA_TEXT
 #endif
+
+/* The version of this header. dns_rdata_version returns that of the library. */
+#define DNS_RDATA_VERSION "0.1.0"
+#define DNS_RDATA_VERSION_MAJOR 0
+#define DNS_RDATA_VERSION_MINOR 1
+#define DNS_RDATA_VERSION_PATCH 0
 
 /* The status that a call answers. */
 typedef uint32_t dns_rdata_status;
@@ -95,6 +103,20 @@ enum {
     DNS_RDATA_WRONG_WORD = 49,           /* a word, or the whole text, is wrong */
     DNS_RDATA_UNSUPPORTED_TYPE = 50,     /* no text is read of this type, or none but \# and octets */
     DNS_RDATA_WRONG_VALUE = 52           /* a name or a value is wrong, or the octets of the text are no data of the type */
+};
+
+/* The types that have a name. Any other number of 16 bits is a type, too. */
+enum {
+    DNS_RDATA_TYPE_ZERO = 0, DNS_RDATA_TYPE_A = 1, DNS_RDATA_TYPE_NS = 2, DNS_RDATA_TYPE_CNAME = 5,
+    DNS_RDATA_TYPE_SOA = 6, DNS_RDATA_TYPE_NULL = 10, DNS_RDATA_TYPE_PTR = 12, DNS_RDATA_TYPE_HINFO = 13,
+    DNS_RDATA_TYPE_MX = 15, DNS_RDATA_TYPE_TXT = 16, DNS_RDATA_TYPE_SIG = 24, DNS_RDATA_TYPE_KEY = 25,
+    DNS_RDATA_TYPE_AAAA = 28, DNS_RDATA_TYPE_SRV = 33, DNS_RDATA_TYPE_NAPTR = 35, DNS_RDATA_TYPE_CERT = 37,
+    DNS_RDATA_TYPE_DNAME = 39, DNS_RDATA_TYPE_OPT = 41, DNS_RDATA_TYPE_DS = 43, DNS_RDATA_TYPE_SSHFP = 44,
+    DNS_RDATA_TYPE_RRSIG = 46, DNS_RDATA_TYPE_NSEC = 47, DNS_RDATA_TYPE_DNSKEY = 48, DNS_RDATA_TYPE_NSEC3 = 50,
+    DNS_RDATA_TYPE_NSEC3PARAM = 51, DNS_RDATA_TYPE_TLSA = 52, DNS_RDATA_TYPE_SMIMEA = 53, DNS_RDATA_TYPE_CDS = 59,
+    DNS_RDATA_TYPE_CDNSKEY = 60, DNS_RDATA_TYPE_OPENPGPKEY = 61, DNS_RDATA_TYPE_CSYNC = 62, DNS_RDATA_TYPE_SVCB = 64,
+    DNS_RDATA_TYPE_HTTPS = 65, DNS_RDATA_TYPE_TSIG = 250, DNS_RDATA_TYPE_IXFR = 251, DNS_RDATA_TYPE_AXFR = 252,
+    DNS_RDATA_TYPE_ANY = 255, DNS_RDATA_TYPE_CAA = 257, DNS_RDATA_TYPE_ANAME = 65305
 };
 
 /* RDATA in a message. Any octets and any numbers in it are safe. */
@@ -259,6 +281,27 @@ DNS_RDATA_NONNULL dns_rdata_status dns_rdata_text(const struct dns_rdata *data, 
 DNS_RDATA_NONNULL dns_rdata_status dns_rdata_parse(const char *text, size_t text_length, uint16_t type, const uint8_t *origin,
                                                    size_t origin_length, uint8_t *out, size_t out_length, size_t *count);
 
+/* What the rejection of a text is about. Numbers that it does not have are 0. */
+struct dns_rdata_text_fault {
+    size_t begin;        /* the offset in the text where the wrong token starts; `end` is 0 if there is no such token */
+    size_t end;          /* the offset in the text where it ends, with its quotes */
+    size_t field;        /* the offset in the reason where the name of the field starts */
+    size_t field_length; /* how many octets the name has; 0 if the reason is about no field */
+    uint32_t cause;      /* the status with which the octets of the text are rejected, if that is the reason */
+};
+
+/*
+ * Tells why dns_rdata_parse rejects a text: writes the reason to a buffer, followed by a zero octet, and sets *fault; 256 octets hold
+ * any reason. With DNS_RDATA_MISSING_WORD the reason is the name of the field whose token is missing, as "MX exchange", and with
+ * DNS_RDATA_WRONG_WORD what is wrong, as "empty label in a domain name in MX exchange token" or "quotes without an end". With other
+ * statuses it is empty. *fault tells which octets of the text are the token, unless the field is a list at the end, such as the strings
+ * of TXT, and where in the reason the name of the field is. Returns DNS_RDATA_ABSENT if the text is not rejected, and DNS_RDATA_ORIGIN
+ * and DNS_RDATA_MEMORY as dns_rdata_parse does. *fault is set if *count is.
+ */
+DNS_RDATA_NONNULL dns_rdata_status dns_rdata_parse_why(const char *text, size_t text_length, uint16_t type, const uint8_t *origin,
+                                                       size_t origin_length, char *out, size_t out_length, size_t *count,
+                                                       struct dns_rdata_text_fault *fault);
+
 /* Where a walk over the records of a message is. The caller holds it; dns_rdata_records_begin sets it, and _next moves it. */
 struct dns_rdata_records {
     size_t next;   /* the offset of the next record in the message */
@@ -324,11 +367,47 @@ static inline struct dns_rdata dns_rdata_of_record(const uint8_t *message, size_
     return data;
 }
 
+/*
+ * The number of octets that the name at an offset of the message takes there, with the octet 0 or the compression pointer at its
+ * end: *count is set with DNS_RDATA_OK alone. Fails with DNS_RDATA_NAME if no name is encoded there, and with
+ * DNS_RDATA_MISSING_OCTETS if the offset is past the end of the message. Does not allocate.
+ */
+DNS_RDATA_NONNULL dns_rdata_status dns_rdata_name_length(const uint8_t *message, size_t message_length, size_t offset,
+                                                         size_t *count);
+
+/*
+ * Writes the text of the name at an offset of the message, such as the owner of a record, followed by a zero octet: the presentation
+ * format that dns_rdata_text prints too (RFC 1035, section 5.1), fully qualified and with case preserved; "." for the root. 1,005
+ * octets hold any text with its zero octet. The buffer is written with DNS_RDATA_OK alone. Fails as dns_rdata_name_length does, and
+ * with DNS_RDATA_MEMORY.
+ */
+DNS_RDATA_NONNULL dns_rdata_status dns_rdata_name_text(const uint8_t *message, size_t message_length, size_t offset, char *out,
+                                                       size_t out_length, size_t *count);
+
+/*
+ * Reads a name from its text in a zone file (RFC 1035, section 5.1), and writes its octets, uncompressed and with case preserved: 255
+ * hold any name. The text is one token without quotes: labels joined by dots, where \DDD is the octet with that number and \X the
+ * character X; a dot alone is the root, and @ alone the origin. A name without a dot at its end is completed by the origin, as in
+ * dns_rdata_parse. What dns_rdata_name_text wrote is read as the octets of that name. The buffer is written with DNS_RDATA_OK alone.
+ * Any other text is rejected with DNS_RDATA_MISSING_WORD if it has no token, and otherwise with DNS_RDATA_WRONG_WORD.
+ */
+DNS_RDATA_NONNULL dns_rdata_status dns_rdata_name_from_text(const char *text, size_t text_length, const uint8_t *origin,
+                                                            size_t origin_length, uint8_t *out, size_t out_length, size_t *count);
+
 /* The type's name in capitals, or TYPE and its number (RFC 3597, 5), with a 0 behind it. */
 DNS_RDATA_NONNULL dns_rdata_status dns_rdata_type_text(uint16_t type, char *out, size_t out_length, size_t *count);
 
 /* The type of a name in capitals, or of TYPE and a number. DNS_RDATA_NO_TYPE where the text is of none. Takes no memory. */
 DNS_RDATA_NONNULL dns_rdata_status dns_rdata_type_number(const char *text, size_t text_length, uint16_t *type);
+
+/*
+ * A line of English for a status, without a dot at its end, and "unknown status" for a number that is none. The text is static. The
+ * first statuses of ranges have the text of the status with that number.
+ */
+DNS_RDATA_TEXT const char *dns_rdata_strerror(dns_rdata_status status);
+
+/* The version of the library, as DNS_RDATA_VERSION has it. The text is static. */
+DNS_RDATA_TEXT const char *dns_rdata_version(void);
 
 #ifdef __cplusplus
 }

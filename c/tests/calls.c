@@ -160,11 +160,13 @@ static void records_of_message(void) {
     copy[40] = 200; /* RDLENGTH passes the end of the message */
     want(dns_rdata_records_begin(copy, sizeof copy, &records) == DNS_RDATA_OK, "a walk over a damaged record");
     want(dns_rdata_records_next(copy, sizeof copy, &records, &record) == DNS_RDATA_RECORD, "a damaged record");
+    want(records.next == 29 && records.passed == 0 && records.until == 0 && records.left == 65537, "where the walk has ended");
     want(dns_rdata_records_next(copy, sizeof copy, &records, &record) == DNS_RDATA_ABSENT, "the walk has ended");
 
     want(dns_rdata_records_begin(message, sizeof message, &records) == DNS_RDATA_OK, "a walk with a limit");
     records.left = 2; /* one pointer, and the first record has two */
     want(dns_rdata_records_next(message, sizeof message, &records, &record) == DNS_RDATA_POINTERS, "too many pointers");
+    want(records.next == 29 && records.passed == 0 && records.until == 0 && records.left == 2, "where the walk has ended");
     want(dns_rdata_records_next(message, sizeof message, &records, &record) == DNS_RDATA_ABSENT, "the walk has ended there");
 
     /* an UPDATE that deletes all addresses of a name: class ANY, no data (RFC 2136, section 2.5.2) */
@@ -172,6 +174,113 @@ static void records_of_message(void) {
     want(dns_rdata_records_begin(update, sizeof update, &records) == DNS_RDATA_OK, "an UPDATE");
     status = dns_rdata_records_next(update, sizeof update, &records, &record);
     want(status == DNS_RDATA_OK && record.section == 2 && record.has_data == 0 && record.length == 0 && record.rrclass == 255, "no data");
+}
+
+/* Names of a message, and names of text. */
+static void names(void) {
+    /* Example.com at 12, mail.Example.com with a pointer at 43; a label with a dot, a blank and an octet that is no letter */
+    static const uint8_t odd[] = {4, 'a', '.', ' ', 0xff, 0, 0xc0, 0, 0xc0, 8, 1};
+    static const uint8_t origin[] = {3, 'o', 'r', 'g', 0};
+    char text[1005];
+    uint8_t octets[255];
+    size_t count = 7;
+    want(dns_rdata_name_length(message, sizeof message, 12, &count) == DNS_RDATA_OK && count == 13, "the length of a name");
+    want(dns_rdata_name_length(message, sizeof message, 43, &count) == DNS_RDATA_OK && count == 7, "up to its pointer");
+    want(dns_rdata_name_length(odd, sizeof odd, 6, &count) == DNS_RDATA_OK && count == 2, "a pointer alone");
+    want(dns_rdata_name_length(odd, sizeof odd, 5, &count) == DNS_RDATA_OK && count == 1, "the root");
+    count = 7;
+    want(dns_rdata_name_length(odd, sizeof odd, 8, &count) == DNS_RDATA_NAME && count == 7, "a pointer to itself");
+    want(dns_rdata_name_length(odd, sizeof odd, 10, &count) == DNS_RDATA_NAME && count == 7, "a label that is cut off");
+    want(dns_rdata_name_length(odd, sizeof odd, 11, &count) == DNS_RDATA_NAME && count == 7, "no octet");
+    want(dns_rdata_name_length(odd, sizeof odd, 12, &count) == DNS_RDATA_MISSING_OCTETS && count == 7, "past the end");
+    want(dns_rdata_name_text(message, sizeof message, 43, text, sizeof text, &count) == DNS_RDATA_OK, "the text of a name");
+    printf("name %s, of %zu\n", text, count);
+    want(dns_rdata_name_text(message, sizeof message, 43, text, count, &count) == DNS_RDATA_BUFFER && count == 17, "no room for the 0");
+    want(dns_rdata_name_text(message, sizeof message, 43, text, count + 1, &count) == DNS_RDATA_OK && count == 17, "room for it");
+    want(dns_rdata_name_text(odd, sizeof odd, 6, text, sizeof text, &count) == DNS_RDATA_OK, "the text of an odd name");
+    printf("name %s, of %zu\n", text, count);
+    want(dns_rdata_name_from_text(text, count, origin, 0, octets, sizeof octets, &count) == DNS_RDATA_OK, "which is read");
+    want(count == 6 && memcmp(octets, odd, 6) == 0, "as that name");
+    want(dns_rdata_name_text(odd, sizeof odd, 5, text, sizeof text, &count) == DNS_RDATA_OK && strcmp(text, ".") == 0, "the text of the root");
+    count = 7;
+    want(dns_rdata_name_text(odd, sizeof odd, 8, text, sizeof text, &count) == DNS_RDATA_NAME && count == 7, "no name");
+    want(dns_rdata_name_text(odd, sizeof odd, 12, text, sizeof text, &count) == DNS_RDATA_MISSING_OCTETS && count == 7, "past the end");
+
+    static const char *const texts[] = {"Mail", "mail.", "@", ".", "a\\.b\\066 ; a comment"};
+    for (int i = 0; i < 5; i++) {
+        want(dns_rdata_name_from_text(texts[i], strlen(texts[i]), origin, sizeof origin, octets, sizeof octets, &count) == DNS_RDATA_OK, texts[i]);
+        print_octets("name ", octets, count);
+    }
+    want(dns_rdata_name_from_text("Mail", 4, origin, 0, octets, 6, &count) == DNS_RDATA_OK && count == 6, "no origin");
+    want(dns_rdata_name_from_text("Mail", 4, origin, 0, octets, 5, &count) == DNS_RDATA_BUFFER && count == 6, "one octet short");
+    want(dns_rdata_name_from_text("Mail", 4, origin, 4, octets, sizeof octets, &count) == DNS_RDATA_ORIGIN, "no name as origin");
+    want(dns_rdata_name_from_text("@", 1, origin, 0, octets, sizeof octets, &count) == DNS_RDATA_WRONG_WORD, "no origin to name");
+    want(dns_rdata_name_from_text(" ; x", 4, origin, 0, octets, sizeof octets, &count) == DNS_RDATA_MISSING_WORD, "no token");
+    static const char *const wrong[] = {"a b", "\"a\"", "a..b", "a\\", "(a"};
+    for (int i = 0; i < 5; i++)
+        want(dns_rdata_name_from_text(wrong[i], strlen(wrong[i]), origin, 0, octets, sizeof octets, &count) == DNS_RDATA_WRONG_WORD, wrong[i]);
+
+    /* the longest name, and the longest text */
+    uint8_t longest[255];
+    for (int i = 0; i < 4; i++) {
+        memset(longest + 64 * i, 1, 64 - (i == 3));
+        longest[64 * i] = (uint8_t)(i == 3 ? 61 : 63);
+    }
+    longest[254] = 0;
+    want(dns_rdata_name_text(longest, sizeof longest, 0, text, sizeof text, &count) == DNS_RDATA_OK && count == 1004, "the longest text");
+    want(dns_rdata_name_from_text(text, count, origin, 0, octets, sizeof octets, &count) == DNS_RDATA_OK && count == 255, "the longest name");
+    want(memcmp(octets, longest, 255) == 0, "as it was");
+}
+
+/* Why texts are rejected: the reason, the token, the field in the reason, and the status of the octets. */
+static void reason(const char *text, uint16_t type, const char *wanted, size_t begin, size_t end, const char *field, dns_rdata_status cause) {
+    struct dns_rdata_text_fault fault = {9, 9, 9, 9, 9};
+    char out[256];
+    size_t count = 7;
+    want(dns_rdata_parse_why(text, strlen(text), type, (const uint8_t *)"", 1, out, sizeof out, &count, &fault) == DNS_RDATA_OK, text);
+    want(strcmp(out, wanted) == 0 && count == strlen(wanted), wanted);
+    want(fault.begin == begin && fault.end == end && fault.cause == cause, text);
+    want(fault.field_length == strlen(field) && strncmp(out + fault.field, field, fault.field_length) == 0, field);
+    fault.begin = 9;
+    want(dns_rdata_parse_why(text, strlen(text), type, (const uint8_t *)"", 1, out, count, &count, &fault) == DNS_RDATA_BUFFER, "no room for the 0");
+    want(fault.begin == begin && count == strlen(wanted), "what is set without room");
+}
+
+static void reasons(void) {
+    struct dns_rdata_text_fault fault = {9, 9, 9, 9, 9};
+    char out[256];
+    size_t count = 7;
+    reason("10 a..b", DNS_RDATA_TYPE_MX, "empty label in a domain name in MX exchange token", 3, 7, "MX exchange", 0);
+    reason(" ten mail", DNS_RDATA_TYPE_MX, "Invalid digit found in MX preference token", 1, 4, "MX preference", 0);
+    reason("10", DNS_RDATA_TYPE_MX, "MX exchange", 0, 0, "MX exchange", 0);
+    reason("\"a", DNS_RDATA_TYPE_TXT, "quotes without an end", 0, 0, "", 0);
+    reason("\\# 3 0a0000", DNS_RDATA_TYPE_A, "", 0, 0, "", DNS_RDATA_MISSING_OCTETS);
+    reason("\\# 5 0a00000000", DNS_RDATA_TYPE_A, "", 0, 0, "", DNS_RDATA_LENGTH);
+    reason("x", DNS_RDATA_TYPE_OPT, "", 0, 0, "", 0);
+    want(dns_rdata_parse_why("10 mail", 7, 15, (const uint8_t *)"", 1, out, sizeof out, &count, &fault) == DNS_RDATA_ABSENT, "a text that is read");
+    want(dns_rdata_parse_why("10 mail", 7, 15, (const uint8_t *)"\1", 1, out, sizeof out, &count, &fault) == DNS_RDATA_ORIGIN, "no name as origin");
+    want(count == 7 && fault.begin == 9 && fault.cause == 9, "nothing is set");
+}
+
+/* Each status has a text of its own, and a number that is none another one. */
+static void texts_of_statuses(void) {
+    static const dns_rdata_status all[] = {0, 1, 2, 3, 6, 7, 9, 10, 16, 17, 18, 19, 20, 21, 22, 23, 24, 25, 26, 27, 28, 32, 33, 34, 35, 48, 49, 50, 52};
+    enum { MANY = sizeof all / sizeof *all };
+    const char *unknown = dns_rdata_strerror(4711);
+    int known = 0;
+    for (dns_rdata_status n = 0; n < 100; n++)
+        known += strcmp(dns_rdata_strerror(n), unknown) != 0;
+    want(known == MANY, "as many texts as statuses");
+    for (int i = 0; i < MANY; i++) {
+        want(strcmp(dns_rdata_strerror(all[i]), unknown) != 0, "a status with a text");
+        for (int j = 0; j < i; j++)
+            want(strcmp(dns_rdata_strerror(all[i]), dns_rdata_strerror(all[j])) != 0, "two statuses with two texts");
+    }
+    printf("%s: %s\n", dns_rdata_strerror(DNS_RDATA_NAME), unknown);
+    char version[32];
+    snprintf(version, sizeof version, "%d.%d.%d", DNS_RDATA_VERSION_MAJOR, DNS_RDATA_VERSION_MINOR, DNS_RDATA_VERSION_PATCH);
+    want(strcmp(dns_rdata_version(), DNS_RDATA_VERSION) == 0 && strcmp(version, DNS_RDATA_VERSION) == 0, "the version");
+    want(DNS_RDATA_TYPE_A == 1 && DNS_RDATA_TYPE_HTTPS == 65 && DNS_RDATA_TYPE_CAA == 257, "the types");
 }
 
 int main(void) {
@@ -236,6 +345,9 @@ int main(void) {
     want(dns_rdata_parts_begin(at(options, sizeof options, 0, 8, 41), &parts) == DNS_RDATA_ABSENT, "a truncated OPT has no options");
     want(dns_rdata_parts_begin(at(message, sizeof message, 41, 9, 15), &parts) == DNS_RDATA_ABSENT, "MX has no parts");
     records_of_message();
+    names();
+    reasons();
+    texts_of_statuses();
     rejected();
     many_options();
     long_text();

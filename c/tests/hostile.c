@@ -158,6 +158,31 @@ static void parts_and_names(const uint8_t *message, size_t size, size_t place, u
     WANT(i == (type == 6 ? 2 : type == 2 || type == 5 || type == 12 || type == 15 || type == 33 || type == 35 || type == 64 || type == 65 || type == 65305));
 }
 
+/* The name at an offset: its length and its text, which is read again as its octets; none is RDATA of NS if there is no name. */
+static void name_at(const uint8_t *message, size_t size, size_t place) {
+    size_t length = 77, count = 77, again = 77, begin = 0;
+    char none;
+    dns_rdata_status status = dns_rdata_name_length(message, size, place, &length);
+    if (status != DNS_RDATA_OK) {
+        struct dns_rdata_refusal why;
+        WANT(status == (place > size ? DNS_RDATA_MISSING_OCTETS : DNS_RDATA_NAME) && length == 77);
+        WANT(dns_rdata_name_text(message, size, place, &none, 1, &count) == status && count == 77);
+        WANT(dns_rdata_check(at(message, size, place, (uint16_t)below(256), 2), &why) != DNS_RDATA_OK);
+        return;
+    }
+    uint8_t *name = (uint8_t *)block(255), *read = (uint8_t *)block(255);
+    WANT(dns_rdata_name(at(message, size, place, (uint16_t)length, 2), 0, name, 255, &count, &begin) == DNS_RDATA_OK && begin == place);
+    WANT(dns_rdata_name_text(message, size, place, &none, 0, &again) == DNS_RDATA_BUFFER && again <= 1004);
+    char *text = (char *)block(again + 1);
+    WANT(dns_rdata_name_text(message, size, place, text, again, &again) == DNS_RDATA_BUFFER);
+    WANT(dns_rdata_name_text(message, size, place, text, again + 1, &again) == DNS_RDATA_OK && text[again] == 0 && strlen(text) == again);
+    WANT(dns_rdata_name_from_text(text, again, (const uint8_t *)"\1o", 3, read, 255, &again) == DNS_RDATA_OK);
+    WANT(again == count && memcmp(read, name, count) == 0);
+    release(text);
+    release(read);
+    release(name);
+}
+
 /* Octets that are no data may have parts all the same, and these stand within them. */
 static void part_of_damaged(const uint8_t *message, size_t size, size_t place, uint16_t length, uint16_t type) {
     uint16_t part = 79;
@@ -188,6 +213,7 @@ int main(int argc, char **argv) {
         parts_by_cursor(message, size, place, length, type);
         any_cursor(message, size);
         any_records(message, size);
+        name_at(message, size, place);
         struct dns_rdata_refusal why = {1, 2, 3, 4, 5};
         dns_rdata_status status = dns_rdata_check(at(message, size, place, length, type), &why);
         size_t count = 77, again = 78, need;
@@ -300,6 +326,18 @@ int main(int argc, char **argv) {
             WANT(count <= room);
             WANT(dns_rdata_check(at(out, count, 0, (uint16_t)count, ttype), &why) == DNS_RDATA_OK);
         }
+        struct dns_rdata_text_fault fault = {1, 1, 1, 1, 1};
+        dns_rdata_status said = dns_rdata_parse_why(text, n, ttype, origin, many, line, sizeof line, &again, &fault);
+        WANT(said == (status >= DNS_RDATA_NO_DATA_TEXT ? DNS_RDATA_OK : status == DNS_RDATA_ORIGIN ? status : DNS_RDATA_ABSENT));
+        if (said == DNS_RDATA_OK) {
+            WANT(line[again] == 0 && strlen(line) == again && fault.begin <= fault.end && fault.end <= n && fault.field + fault.field_length <= again);
+            WANT((fault.cause != 0) == (status == DNS_RDATA_WRONG_VALUE) && (again > 0) == (status < DNS_RDATA_UNSUPPORTED_TYPE));
+            WANT(fault.end == 0 || fault.field_length > 0);
+        } else
+            WANT(fault.begin == 1 && fault.cause == 1);
+        status = dns_rdata_name_from_text(text, n, origin, many, out, room, &count);
+        WANT(status == DNS_RDATA_OK || status == DNS_RDATA_BUFFER || status == DNS_RDATA_ORIGIN || status == DNS_RDATA_MISSING_WORD || status == DNS_RDATA_WRONG_WORD);
+        if (status == DNS_RDATA_OK) WANT(dns_rdata_name_length(out, count, 0, &again) == DNS_RDATA_OK && again == count && count <= 255);
         uint16_t number = 9;
         status = dns_rdata_type_number(text, n, &number);
         WANT(status == DNS_RDATA_OK || status == DNS_RDATA_NO_TYPE || status == DNS_RDATA_NOT_UTF8);

@@ -52,16 +52,18 @@ dump_words() {
   done
 }
 
-# The calls that the header declares.
-header_calls() { sed -nE 's/^DNS_RDATA_NONNULL .* (dns_rdata_[a-z_]*)\(.*/\1/p' "$top/c/include/dns_rdata.h" | sort; }
+# The calls that the header declares: the proved ones, and those that return a text.
+proved_calls() { sed -nE 's/^DNS_RDATA_NONNULL .* (dns_rdata_[a-z_]*)\(.*/\1/p' "$top/c/include/dns_rdata.h" | sort; }
+header_calls() { sed -nE 's/^DNS_RDATA_(NONNULL|TEXT) .* \*?(dns_rdata_[a-z_]*)\(.*/\2/p' "$top/c/include/dns_rdata.h" | sort; }
 
-# Whether the archive and the shared library export the calls of the header alone, and need nothing but the C library.
+# Whether the archive exports the proved calls alone, and the shared library all of the header, which needs nothing but the C library.
 symbols() {
+  proved_calls >"$dir/proved"
   header_calls >"$dir/calls"
   "$NM" -g --defined-only "$library" | sed -nE 's/^[0-9a-f]+ . //p' | sort >"$dir/archived"
   "$NM" -D --defined-only "$dir/out/libdns_rdata.so" | sed -nE 's/^[0-9a-f]+ T ([a-z_]*)@?.*/\1/p' | sort >"$dir/exported"
   "$NM" -D --undefined-only "$dir/out/libdns_rdata.so" | grep ' U ' | grep -v '@GLIBC' >"$dir/undefined"
-  diff "$dir/calls" "$dir/archived" && diff "$dir/calls" "$dir/exported" && [ ! -s "$dir/undefined" ]
+  diff "$dir/proved" "$dir/archived" && diff "$dir/calls" "$dir/exported" && [ ! -s "$dir/undefined" ]
 }
 
 # Whether make passes the flags of the user on: each leaves something in the libraries.
@@ -74,7 +76,7 @@ flags() {
 manual() {
   local page="$top/c/dns_rdata.3" name
   for name in $(header_calls); do grep -qE "^\.It Fn $name( |\$)" "$page" || { echo "no $name"; return 1; }; done
-  for name in $(sed -nE 's/^    (DNS_RDATA_[A-Z0-9_]+) = .*/\1/p' "$top/c/include/dns_rdata.h"); do
+  for name in $(sed -nE 's/^    (DNS_RDATA_[A-Z0-9_]+) = .*/\1/p' "$top/c/include/dns_rdata.h" | grep -v ^DNS_RDATA_TYPE_); do
     grep -qE "^\.It Dv .*$name\b" "$page" || { echo "no $name"; return 1; }
   done
   command -v groff >/dev/null || return 0

@@ -45,6 +45,7 @@ static const uint8_t service[] = {0, 1, 1, 'x', 0, 0, 1, 0, 3, 2, 'h', '2', 0, 3
 static size_t count, begin;
 static uint16_t number;
 static struct dns_rdata_refusal why;
+static struct dns_rdata_text_fault fault;
 static struct dns_rdata_parts parts;
 static const uint8_t response[] = {0, 1, 0x80, 0, 0, 0, 0, 1, 0, 0, 0, 0, 1, 'x', 0, 0, 15, 0, 1, 0, 0, 0, 0, 0, 4, 0, 10, 0xc0, 12};
 static struct dns_rdata_records records;
@@ -71,13 +72,17 @@ static dns_rdata_status call(int n) {
         return dns_rdata_records_next(response, sizeof response, &records, &record);
     case 10: case 11: case 12: case 13:
         return dns_rdata_parse(texts[n - 10], strlen(texts[n - 10]), kinds[n - 10], name, 73, out, sizeof out, &count);
+    case 20: return dns_rdata_name_length(name, length, place + 2, &count);
+    case 21: return dns_rdata_name_text(name, length, place + 2, text, sizeof text, &count);
+    case 22: return dns_rdata_name_from_text("mail", 4, name, 73, out, sizeof out, &count);
+    case 23: return dns_rdata_parse_why("10 a..b", 7, 15, name, 73, (char *)out, sizeof out, &count, &fault);
     default: return dns_rdata_type_number("TYPE4711", 8, &number);
     }
 }
 
 int main(void) {
     int failed = 0;
-    for (int n = 0; n < 20; n++) {
+    for (int n = 0; n < 24; n++) {
         requests = refuse = 0;
         memset(out, 0xee, sizeof out);
         dns_rdata_status wanted = call(n);

@@ -1,6 +1,6 @@
 """Compares c/include/dns_rdata.h, rust/dns-rdata-sys/src/lib.rs and python/src/dns_rdata with crates/dns_rdata_c/src: the numbers of
-statuses with their names, the fields of structs, and each call with the types of its arguments and its result. The status is 0 if all
-are the same."""
+statuses with their names, the fields of structs, and each call with the types of its arguments and its result; the types of all with the
+table of crates/dns_types; the texts of statuses, and the versions, with each other. The status is 0 if all are the same."""
 
 import pathlib
 import re
@@ -13,7 +13,7 @@ CRATE = TOP / "crates/dns_rdata_c/src"
 IN_C = {
     "Global": [], "&[u8]": ["octets", "size_t"], "&mut [u8]": ["buffer", "size_t"], "usize": ["size_t"], "u16": ["uint16_t"],
     "&mut usize": ["size_t *"], "&mut u16": ["uint16_t *"], "&mut i32": ["int32_t *"],
-    "&mut Reason": ["struct dns_rdata_refusal *"], "&mut PartsCursor": ["struct dns_rdata_parts *"],
+    "&mut Reason": ["struct dns_rdata_refusal *"], "&mut TextFault": ["struct dns_rdata_text_fault *"], "&mut PartsCursor": ["struct dns_rdata_parts *"],
     "&Rdata<'_>": ["const struct dns_rdata *"], "&mut RecordsCursor": ["struct dns_rdata_records *"], "&mut Record": ["struct dns_rdata_record *"],
 }
 OF_C = {"const uint8_t *": "octets", "const char *": "octets", "uint8_t *": "buffer", "char *": "buffer", "dns_rdata_status": "u32", "int32_t": "i32"}
@@ -21,19 +21,19 @@ OF_RUST = {
     "*const u8": "octets", "*const c_char": "octets", "*mut u8": "buffer", "*mut c_char": "buffer", "usize": "size_t", "u16": "uint16_t",
     "*mut usize": "size_t *", "*mut u16": "uint16_t *", "*mut i32": "int32_t *", "*mut dns_rdata_refusal": "struct dns_rdata_refusal *",
     "*mut dns_rdata_parts": "struct dns_rdata_parts *", "*const dns_rdata": "const struct dns_rdata *",
-    "*mut dns_rdata_records": "struct dns_rdata_records *", "*mut dns_rdata_record": "struct dns_rdata_record *", "dns_rdata_status": "u32",
+    "*mut dns_rdata_text_fault": "struct dns_rdata_text_fault *", "*mut dns_rdata_records": "struct dns_rdata_records *", "*mut dns_rdata_record": "struct dns_rdata_record *", "dns_rdata_status": "u32",
 }
 OF_PYTHON = {
     "DATA": ["const struct dns_rdata *"], "*ROOM": ["buffer", "size_t", "size_t *"], "OCTETS": ["octets"], "SIZE": ["size_t"],
     "SHORT": ["uint16_t"], "TELLS": ["int32_t *"], "NUMBER": ["uint16_t *"], "COUNT": ["size_t *"],
     "ctypes.POINTER(Refusal)": ["struct dns_rdata_refusal *"], "ctypes.POINTER(Parts)": ["struct dns_rdata_parts *"],
-    "ctypes.POINTER(Records)": ["struct dns_rdata_records *"], "ctypes.POINTER(Record)": ["struct dns_rdata_record *"],
+    "ctypes.POINTER(TextFault)": ["struct dns_rdata_text_fault *"], "ctypes.POINTER(Records)": ["struct dns_rdata_records *"], "ctypes.POINTER(Record)": ["struct dns_rdata_record *"],
 }
 # The structs: where the crate has each, its name there and in Python.
 STRUCTS = {
     "dns_rdata": ("rdata.rt", "Rdata", "Data"), "dns_rdata_refusal": ("check.rt", "Reason", "Refusal"),
     "dns_rdata_parts": ("parts.rt", "PartsCursor", "Parts"), "dns_rdata_records": ("records.rt", "RecordsCursor", "Records"),
-    "dns_rdata_record": ("records.rt", "Record", "Record"),
+    "dns_rdata_record": ("records.rt", "Record", "Record"), "dns_rdata_text_fault": ("why.rt", "TextFault", "TextFault"),
 }
 # The types of their fields in the crate and in dns-rdata-sys, and in Python. Octets of the crate are a pointer and a length.
 FIELD = {"usize": "size_t", "u32": "uint32_t", "u16": "uint16_t", "*const u8": "const uint8_t *"}
@@ -117,12 +117,41 @@ def numbers(text, pattern):
     return {name: int(number) for name, number in re.findall(pattern, text, re.M)}
 
 
+def types():
+    table = (TOP / "crates/dns_types/src/record_type.rt").read_text().split("macro_rules! named_types")[1].split("};")[0]
+    of_crate = {name: int(number) for name, number in re.findall(r"\((\w+) (\d+)\)", table)}
+    rust = (TOP / "rust/dns-rdata/src/record_type.rs").read_text()
+    python = (TOP / "python/src/dns_rdata/_rdtype.py").read_text()
+    want_same("type", of_crate, numbers((TOP / "c/include/dns_rdata.h").read_text(), r" DNS_RDATA_TYPE_(\w+) = (\d+)"))
+    want_same("Rust's type", of_crate, numbers(rust, r'^    ([A-Z\d]+) (\d+) "'))
+    want_same("Python's type", of_crate, numbers(python, r"^    ([A-Z\d]+) = (\d+)$"))
+    return len(of_crate)
+
+
+def texts():
+    """The texts of statuses: those of the Rust crate have one for MEMORY, and those of Python none."""
+    in_c = dict(re.findall(r'case DNS_RDATA_(\w+): return "(.*)";', (TOP / "c/texts.c").read_text()))
+    in_rust = dict(re.findall(r'^    \w+ DNS_RDATA_(\w+) "(.*)"$', (TOP / "rust/dns-rdata/src/error.rs").read_text(), re.M))
+    in_python = dict(re.findall(r'Status\.(\w+): "(.*)",', (TOP / "python/src/dns_rdata/_errors.py").read_text()))
+    want_same("Rust's text of", {name: text for name, text in in_c.items() if name != "OK"}, in_rust)
+    want_same("Python's text of", {name: text for name, text in in_c.items() if name not in ("OK", "MEMORY")}, in_python)
+
+
+def versions():
+    header = (TOP / "c/include/dns_rdata.h").read_text()
+    version = re.search(r'DNS_RDATA_VERSION "(.*)"', header).group(1)
+    found = {"numbers": ".".join(re.findall(r"DNS_RDATA_VERSION_[A-Z]+ (\d+)", header))}
+    for file in ("c/Makefile", "rust/Cargo.toml", "python/pyproject.toml", "python/src/dns_rdata/__init__.py"):
+        found[file] = re.search(r'^(?:__)?(?:VERSION|version)(?:__)? = "?([\d.]+)', (TOP / file).read_text(), re.M).group(1)
+    want_same("the version of", dict.fromkeys(found, version), found)
+
+
 def main():
     status = (CRATE / "status.rt").read_text()
     header = (TOP / "c/include/dns_rdata.h").read_text()
     rust = (TOP / "rust/dns-rdata-sys/src/lib.rs").read_text()
     of_crate = numbers(status, r"^pub const (\w+): u32 = (\d+);")
-    want_same("status", of_crate, numbers(header, r"^    DNS_RDATA_(\w+) = (\d+)"))
+    want_same("status", of_crate, numbers(header, r"^    DNS_RDATA_(?!TYPE_)(\w+) = (\d+)"))
     python = (TOP / "python/src/dns_rdata/_calls.py").read_text()
     of_python = numbers((TOP / "python/src/dns_rdata/_errors.py").read_text(), r"^    ([A-Z_\d]+) = (\d+)$")
     firsts = ("REFUSED", "DAMAGED", "NO_DATA_TEXT")
@@ -138,8 +167,11 @@ def main():
     want_same("call", calls, header_calls(header))
     want_same("Rust's call", calls, rust_calls(rust))
     want_same("Python's call", {name: takes for name, (takes, answer) in calls.items()}, python_calls(python))
-    print(f"{len(calls)} calls, {len(STRUCTS)} structs, {wrong} not the same")
-    return 1 if wrong or len(calls) < 10 else 0
+    many = types()
+    texts()
+    versions()
+    print(f"{len(calls)} calls, {len(STRUCTS)} structs, {many} types, {wrong} not the same")
+    return 1 if wrong or len(calls) < 10 or many < 30 else 0
 
 
 sys.exit(main())

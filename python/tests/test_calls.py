@@ -2,6 +2,7 @@
 
 import doctest
 import pathlib
+import pickle
 import time
 import unittest
 
@@ -77,8 +78,22 @@ class Calls(unittest.TestCase):
         self.rejected(Status.MISSING_WORD, _calls.parse, "10", MX)
         self.rejected(Status.WRONG_WORD, _calls.parse, "1.2.3", A)
         self.rejected(Status.UNSUPPORTED_TYPE, _calls.parse, "x", OPT)
-        self.rejected(Status.WRONG_VALUE, _calls.parse, r"\# 3 0a0000", A)
+        self.rejected(Status.WRONG_VALUE, _calls.parse, r"\# 5 0a00000000", A)
         self.rejected(Status.ORIGIN, _calls.parse, "10 mail", MX, b"\x07")
+
+    def test_reasons(self):
+        error = self.rejected(Status.WRONG_WORD, _calls.parse, "10  a..b", MX)
+        self.assertEqual((error.reason, error.field, error.token), ("empty label in a domain name in MX exchange token", "MX exchange", (4, 8)))
+        self.assertEqual(str(error), "WRONG_WORD: a wrong token: empty label in a domain name in MX exchange token at octet 4")
+        error = self.rejected(Status.MISSING_WORD, _calls.parse, "10", MX)
+        self.assertEqual((error.reason, error.field, error.token), ("MX exchange", "MX exchange", None))
+        error = self.rejected(Status.WRONG_WORD, _calls.parse, '"a', TXT)
+        self.assertEqual((error.reason, error.field, error.token), ("quotes without an end", None, None))
+        error = self.rejected(Status.WRONG_VALUE, _calls.parse, r"\# 5 0a00000000", A)
+        self.assertEqual((error.reason, error.cause, str(error)), (None, Status.LENGTH, "WRONG_VALUE: a wrong name or value: wrong length of RDATA"))
+        error = self.rejected(Status.UNSUPPORTED_TYPE, _calls.parse, "x", OPT)
+        self.assertEqual((error.reason, error.field, error.token, error.cause), (None, None, None, None))
+        self.assertEqual(pickle.loads(pickle.dumps(error)).args, error.args)
 
     def test_samples_are_read_again(self):
         for number, octets in samples():
@@ -102,6 +117,18 @@ class Calls(unittest.TestCase):
         start = time.process_time()
         self.assertEqual(_calls.parts(many, 0, len(many), OPT), [(12, 4 * i + 4, 0) for i in range(16000)])
         self.assertLess(time.process_time() - start, 0.5)
+
+    def test_names(self):
+        message = b"\1x\0\1Y\xc0\0"
+        self.assertEqual([_calls.name_length(message, 0), _calls.name_length(message, 3)], [3, 4])
+        self.assertEqual([_calls.name_text(message, 2), _calls.name_text(message, 3)], [".", "Y.x."])
+        self.rejected(Status.NAME, _calls.name_length, message, 7)
+        self.rejected(Status.MISSING_OCTETS, _calls.name_text, message, 8)
+        self.assertEqual(_calls.name_from_text("Y", b"\1x\0"), b"\1Y\1x\0")
+        self.assertEqual(_calls.name_from_text(b" \xff ; a comment"), b"\1\xff\0")
+        self.rejected(Status.ORIGIN, _calls.name_from_text, "Y", b"\1x")
+        self.rejected(Status.WRONG_WORD, _calls.name_from_text, "a b")
+        self.rejected(Status.MISSING_WORD, _calls.name_from_text, "")
 
     def test_types(self):
         self.assertEqual([_calls.type_text(15), _calls.type_text(4711)], ["MX", "TYPE4711"])

@@ -1,10 +1,11 @@
-//! Links the library, an archive that was proved and built before: this script compiles nothing of it.
+//! Links the library, an archive that was proved and built before: this script compiles nothing of it but two files in C.
 //!
 //! - `DNS_RDATA_LIB` names the folder with the archive. Without it the script looks into `lib/` of the package. In the
 //!   repository it then takes the ready-made archive in `dist/`, if `tools/ready.sh` says that it was made from the sources
 //!   that are here, and otherwise the one that `rt lib` made.
 //! - `DNS_RDATA_HEAP` names an archive that defines `rattle_alloc`, `rattle_realloc` and `rattle_dealloc`. Without it, and
 //!   unless the library's archive has them, `heap.c` is compiled, which takes them from malloc.
+//! - `texts.c`, the texts of statuses, is compiled unless the library's archive has it.
 
 use std::env;
 use std::fs;
@@ -25,7 +26,10 @@ fn main() {
     if let Some(heap) = env::var_os("DNS_RDATA_HEAP") {
         link(Path::new(&heap));
     } else if !defines(&archive, "rattle_alloc") {
-        link(&compiled_heap());
+        link(&compiled("heap"));
+    }
+    if !defines(&archive, "dns_rdata_strerror") {
+        link(&compiled("texts"));
     }
 }
 
@@ -128,16 +132,17 @@ fn defined_names(octets: &[u8]) -> Option<&[u8]> {
     member.get(4 + 4 * many..)
 }
 
-/// `heap.c` as an archive.
-fn compiled_heap() -> PathBuf {
-    let (source, out) = (
-        package().join("heap.c"),
-        PathBuf::from(env::var_os("OUT_DIR").expect("cargo sets OUT_DIR")),
-    );
-    let (object, archive) = (out.join("heap.o"), out.join("libdns_rdata_heap.a"));
+/// A file in C of the package as an archive.
+fn compiled(name: &str) -> PathBuf {
+    let source = package().join(name).with_extension("c");
+    let out = PathBuf::from(env::var_os("OUT_DIR").expect("cargo sets OUT_DIR"));
+    let object = out.join(name).with_extension("o");
+    let archive = out.join(format!("libdns_rdata_{name}.a"));
     println!("cargo:rerun-if-changed={}", source.display());
     run(Command::new(compiler())
-        .args(["-O2", "-fPIC", "-c", "-o"])
+        .args(["-O2", "-fPIC", "-c", "-I"])
+        .arg(package().join("include"))
+        .arg("-o")
         .arg(&object)
         .arg(source));
     run(Command::new("ar").arg("crs").arg(&archive).arg(&object));

@@ -10,5 +10,6 @@ pub mod Asks
 pub mod Items
 pub mod Walks
 pub mod Starts
+pub mod Passing
 pub mod OptRecords
 pub mod Examples

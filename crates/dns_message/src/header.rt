@@ -59,6 +59,7 @@ pub struct Header {
 }
 
 // The header that a message begins with.
+#[inline]
 pub(crate) fn header_of(message: &[u8]) -> Header
     requires { 12 ≤ length message.now }
     ensures { IsHeader message.now result }

@@ -21,6 +21,7 @@ pub mod reading;
 pub mod record_ref;
 pub mod records;
 mod sections;
+pub mod step;
 #[cfg(test)]
 mod tests;
 
@@ -33,6 +34,7 @@ pub use question::{QuestionRef, Questions};
 pub use reading::FixedFields;
 pub use record_ref::RecordRef;
 pub use records::Records;
+pub use step::PassedRecord;
 
 /// The definitions at work: the query and the response of RFC 8484, sections 4.1.1 and 4.2.2, and the response of RFC 1034,
 /// section 6.2.1; RDLENGTH that passes the end of the message, sections, records without data, and EDNS.

@@ -4,17 +4,18 @@ ghost use Rattle.std.specs.Prelude.{◌≡◌, ◌+◌, ◌≤◌, ◌<◌, ℕ,
 ghost use Rattle.std.specs.Iterator.{Drains};
 ghost use Rattle.dns_message.specs.Headers.{IsHeader, HasHeader, record_count};
 ghost use Rattle.dns_message.specs.Starts.{Begins, BreaksIn, BeginsAsking, Resumes, NoResume};
-ghost use Rattle.dns_message.specs.{Readings.IsFound, Records.NoRecord};
+ghost use Rattle.dns_message.specs.{Readings.IsFound, Records.NoRecord, Passing.StepsTo};
 ghost use Rattle.dns_message.specs.{Items.Item, Walks.NextRecord, Walks.WalkGives};
 ghost use Rattle.dns_message.specs.Asks.{AskedItem, NextQuestion, AsksGive};
 
-use crate::error::{MessageError, RecordError};
+use crate::error::{Fault, MessageError, RecordError};
 use crate::header::{HEADER_OCTETS, Header, header_of};
 use crate::progress::Progress;
 use crate::question::{Questions, questions_of};
 use crate::reading::{FixedFields, fixed_at};
 use crate::records::{Records, records_between, resume_at};
-use crate::sections::records_in;
+use crate::sections::{position_of, records_in};
+use crate::step::{PassedRecord, pass_record};
 use std::marker::Model;
 
 // How many compression pointers a walk follows at most, if the caller sets no other limit.
@@ -205,6 +206,51 @@ impl<'a> MessageRef<'a> {
     {
         let header = header_of(self.octets);
         resume_at(self.octets, header, progress)
+    }
+
+    /// Passes the record where a walk over the records of this message is, and moves `progress` after it: what
+    /// [`resume`](MessageRef::resume) and a call of `next` do, for callers that keep numbers alone. Allocates nothing.
+    ///
+    /// Returns `None` if no record is left, or if no walk can be there, as for `resume`; `progress` is then unchanged. A
+    /// record whose RDATA is rejected is passed.
+    ///
+    /// # Errors
+    ///
+    /// The owner, the fixed fields or RDLENGTH of the record are damaged, or it follows more compression pointers than
+    /// are left. The walk has ended: `until` is set to `passed`, and all else is unchanged.
+    pub fn step(&self, progress: &mut Progress) -> Option<Result<PassedRecord, Fault>>
+        ensures { StepsTo self.now.octets progress.old result progress.new }
+    {
+        let octets = self.octets;
+        let offset = progress.offset;
+        let passed = progress.passed;
+        let until = progress.until;
+        let header = header_of(octets);
+        if offset > octets.len() || until > records_in(&header) || passed >= until {
+            return None;
+        }
+        let position = position_of(&header, passed);
+        let mut left = progress.left;
+        match pass_record(octets, offset, &mut left) {
+            Ok((fields, content)) => {
+                *progress = Progress {
+                    offset: fields.end,
+                    passed: passed + 1,
+                    until,
+                    left,
+                };
+                Some(Ok(PassedRecord {
+                    section: position.section,
+                    index: position.index,
+                    fields,
+                    content,
+                }))
+            }
+            Err(fault) => {
+                progress.until = passed;
+                Some(Err(fault))
+            }
+        }
     }
 
     /// The fields of the record at an offset, such as that of an error, or `None` if no record is encoded there: its owner, its

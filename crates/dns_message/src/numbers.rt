@@ -7,6 +7,7 @@ ghost use Rattle.dns_fields.specs.{Fields.Field, declared.Kind.TheVariants.Numbe
 use dns_view::Walk;
 
 // The number of two octets at an offset.
+#[inline]
 pub(crate) fn number_at(message: &[u8], offset: usize) -> u16
     requires { offset + 2 ≤ length message.now }
     ensures { Field message.now offset (Number 2) result (offset + 2) }
@@ -20,6 +21,7 @@ pub(crate) fn number_at(message: &[u8], offset: usize) -> u16
 }
 
 // The number of four octets at an offset.
+#[inline]
 pub(crate) fn long_at(message: &[u8], offset: usize) -> u32
     requires { offset + 4 ≤ length message.now }
     ensures { Field message.now offset (Number 4) result (offset + 4) }
@@ -33,6 +35,7 @@ pub(crate) fn long_at(message: &[u8], offset: usize) -> u32
 }
 
 // Whether a bit of a number is set, counted from the lowest.
+#[inline]
 pub(crate) fn is_set(number: u32, bit: u32) -> bool
     requires { bit < 32 }
     ensures { IsTrue result ↔ (bit_at number bit ≡ 1) }

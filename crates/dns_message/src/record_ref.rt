@@ -106,7 +106,7 @@ fn read_rdata<'a>(
 }
 
 // The RDATA of a record, or none if it has no data.
-fn rdata_of<'a>(
+pub(crate) fn rdata_of<'a>(
     message: &'a [u8],
     fixed: &FixedFields,
     left: &mut usize,

@@ -14,6 +14,7 @@ pub(crate) struct Position {
 }
 
 // How many records a message has by its header.
+#[inline]
 pub(crate) fn records_in(header: &Header) -> usize
     ensures { result ≡ record_count header.now }
 {
@@ -23,6 +24,7 @@ pub(crate) fn records_in(header: &Header) -> usize
 }
 
 // The position of the record that so many precede.
+#[inline]
 pub(crate) fn position_of(header: &Header, passed: usize) -> Position
     requires { passed < record_count header.now }
     ensures { IsPlace header.now passed result.section result.index }

@@ -1,4 +1,3 @@
 pub mod ViewCalls
 pub mod PartOctets
 pub mod ZoneReads
-pub mod RecordWalks

@@ -1,9 +1,8 @@
 -- What the calls that go over the records of a message tell.
-use Rattle.std.specs.Prelude.{◌≡◌, ℕ, ◌+◌, ◌-◌, ◌<◌, ◌≤◌, ◌⊎◌, List, Option, Some, None}
-use Rattle.dns_types.specs.{declared.error.DecodeError.DecodeError, declared.record_type.RecordType.RecordType, RecordTypes.record_type_of, RecordTypes.number_of}
-use Rattle.dns_rdata.specs.{Data.HasValue, Views.IsViewOf, declared.view.RDataRef.RDataRef}
-use Rattle.dns_message.specs.declared.{header.Header.Header, error.Section.Section, error.RecordError.RecordError, progress.Progress.Progress}
-use Rattle.dns_message.specs.declared.{record_ref.RecordRef.RecordRef, reading.FixedFields.FixedFields}
+use Rattle.std.specs.Prelude.{◌≡◌, ℕ, ◌+◌, ◌<◌, ◌≤◌, ◌⊎◌, List, Bool, false, Result, Ok}
+use Rattle.dns_types.specs.{declared.error.DecodeError.DecodeError, RecordTypes.record_type_of}
+use Rattle.dns_rdata.specs.Data.{HasValue}
+use Rattle.dns_message.specs.declared.{header.Header.Header, error.Section.Section, error.RecordError.RecordError, progress.Progress.Progress, step.PassedRecord.PassedRecord}
 use Rattle.dns_message.specs.declared.error.Section.TheVariants as sections
 use Rattle.dns_message.specs.{State.Walking, State.Message, Headers.IsHeader, Headers.HasHeader, Headers.IsPlace, Headers.record_count}
 use Rattle.dns_message.specs.{Records.Record, Records.IsRecord, Records.NoRecord, Records.HasNoData, Items.IsRefusedAt}
@@ -23,9 +22,30 @@ section_number sections.Additional = 3
 abbrev pub progress : RecordsCursor → Progress
 progress c = record { offset = c.next; passed = c.passed; until = c.until; left = c.left }
 
+abbrev pub cursor : Progress → RecordsCursor
+cursor p = record { next = p.offset; passed = p.passed; until = p.until; left = p.left }
+
 -- the walk over a message with this header that is where the cursor says
 abbrev pub walk_at : List ℕ → Header → RecordsCursor → Walking
 walk_at m h c = record { message = m; header = h; offset = c.next; passed = c.passed; until = c.until; left = c.left }
+
+abbrev pub data_number : Result Bool DecodeError → ℕ
+data_number (Ok false) = 0
+data_number content = 1
+
+-- the numbers that are told of a record at p
+abbrev pub told_of : ℕ → PassedRecord → Told
+told_of p x = record {
+  owner = p;
+  rdata = x.fields.rdata;
+  index = x.index;
+  section = section_number x.section;
+  ttl = x.fields.ttl;
+  type_number = x.fields.record_type;
+  class = x.fields.class;
+  length = x.fields.rdlength;
+  has_data = data_number x.content;
+}
 
 -- the cursor is before the first record of the message, and the walk may follow 65,536 compression pointers
 pub record BeginsWalk (m : List ℕ) (c : RecordsCursor) : Type 0 where
@@ -73,18 +93,22 @@ pub record Passes (m : List ℕ) (old new : RecordsCursor) (x : Told) (P : Recor
   pub until : new.until ≡ old.until
   pub left_is : Takes (RecordPointers m old.next) old.left new.left
 
--- no record is where the next one would be, and none is left
+-- The walk ends where it is: no record is left, and all else of the cursor is as before.
+abbrev pub ended : RecordsCursor → RecordsCursor
+ended c = record { next = c.next; passed = c.passed; until = c.passed; left = c.left }
+
+-- no record is where the next one would be, and the walk ends
 pub record EndsAtDamage (m : List ℕ) (old new : RecordsCursor) : Type 0 where
   pub left : old.passed < old.until
   pub none : NoRecord m old.next
-  pub ended : new.until ≡ new.passed
+  pub ended : new ≡ ended old
 
 -- the next record follows as many compression pointers as are left or more, those of its owner alone or those of its
--- RDATA with them, and the walk has ended
+-- RDATA with them, and the walk ends
 pub record EndsAtPointers (m : List ℕ) (old new : RecordsCursor) : Type 0 where
   pub left : old.passed < old.until
   pub many : Exceeds (NamePointers m old.next) old.left ⊎ Exceeds (RecordPointers m old.next) old.left
-  pub ended : new.until ≡ new.passed
+  pub ended : new ≡ ended old
 
 -- no record is left, or no walk over the message can be where the cursor says
 abbrev pub IsAtEnd : List ℕ → RecordsCursor → Type 0
@@ -96,31 +120,3 @@ pub record NeverBegins (m : List ℕ) (P : Fault → Type 0) : Type 0 where
   pub error : RecordError
   pub breaks : BreaksIn (record { octets = m; limit = 65536 }) (λ h. 0) error
   pub fault : P error.fault
-
--- what is told of the RDATA of a record that ends at an offset
-abbrev pub TellsData : Option RDataRef → ℕ → Told → Type 0
-TellsData None end x = (x.has_data ≡ 0) × (x.length ≡ 0) × (x.rdata ≡ end)
-TellsData (Some v) end x = (x.has_data ≡ 1)
-    × ((m : List ℕ) (p n : ℕ) (t : RecordType) → IsViewOf m p n t v → (x.length ≡ n) × (x.rdata ≡ end - n))
-
--- what is told of a record that ends at an offset
-pub record TellsRef (r : RecordRef) (end : ℕ) (x : Told) : Type 0 where
-  pub section : x.section ≡ section_number r.section
-  pub index : x.index ≡ r.index
-  pub owner : x.owner ≡ r.offset
-  pub type : x.type_number ≡ number_of r.record_type
-  pub class : x.class ≡ r.class
-  pub ttl : x.ttl ≡ r.ttl
-  pub content : TellsData r.rdata end x
-
--- what is told of a record whose RDATA is rejected
-pub record TellsFixed (e : RecordError) (f : FixedFields) (x : Told) : Type 0 where
-  pub section : x.section ≡ section_number e.section
-  pub index : x.index ≡ e.index
-  pub owner : x.owner ≡ e.offset
-  pub type : x.type_number ≡ f.record_type
-  pub class : x.class ≡ f.class
-  pub ttl : x.ttl ≡ f.ttl
-  pub length : x.length ≡ f.rdlength
-  pub rdata : x.rdata ≡ f.rdata
-  pub has_data : x.has_data ≡ 1

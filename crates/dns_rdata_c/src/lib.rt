@@ -7,6 +7,7 @@
 
 pub mod check;
 pub mod compare;
+pub mod name_calls;
 pub mod names;
 pub mod parse;
 pub mod parts;
@@ -17,4 +18,5 @@ pub mod records;
 pub mod status;
 pub mod text;
 pub mod types;
+pub mod why;
 pub mod wire;

@@ -20,7 +20,7 @@ use std::alloc::Global;
 const FIRST_ROOM: usize = 512;
 
 // The name of these octets, or none where there are none.
-fn origin_of(alloc: Global, octets: &[u8]) -> Result<Option<Name>, u32>
+pub(crate) fn origin_of(alloc: Global, octets: &[u8]) -> Result<Option<Name>, u32>
     ensures found { IfOk result (λ x. IsOrigin octets.now x) }
     ensures refused { IfErr result (λ s. (s ≡ MEMORY) ⊎ ((s ≡ ORIGIN) × IsNoOrigin octets.now)) }
 {

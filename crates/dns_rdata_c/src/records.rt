@@ -3,11 +3,10 @@
 ghost use Rattle.std.specs.Prelude.{◌≡◌, ◌≢◌, ◌≤◌, ◌<◌, ◌⊎◌, length as size};
 ghost use Rattle.dns_message.specs.{Headers.HasHeader};
 ghost use Rattle.dns_rdata_c.specs.RecordWalks.{BeginsWalk, NeverBegins, Passes, HasContent, HasRejected, EndsAtDamage, EndsAtPointers, IsAtEnd};
-ghost use Rattle.dns_rdata_c.specs.RecordWalks.{TellsRef, TellsFixed, section_number};
+ghost use Rattle.dns_rdata_c.specs.RecordWalks.{progress, cursor, section_number, told_of};
 
 use crate::status::{ABSENT, DAMAGED, HEADER, OK, POINTERS, QUESTION, RECORD, REFUSED, status_of};
-use dns_message::{Fault, FixedFields, MessageRef, Progress, RecordError, RecordRef, Section};
-use std::iter::Iterator;
+use dns_message::{Fault, MessageRef, PassedRecord, Progress, Section};
 
 /// Where a walk over the records of a message is. The caller holds it; any numbers in it are safe.
 #[repr(C)]
@@ -60,7 +59,7 @@ fn number_of(section: Section) -> u32
 }
 
 fn progress_of(records: &RecordsCursor) -> Progress
-    ensures { result ≡ record { offset = records.now.next; passed = records.now.passed; until = records.now.until; left = records.now.left } }
+    ensures { result ≡ progress records.now }
 {
     Progress {
         offset: records.next,
@@ -70,52 +69,34 @@ fn progress_of(records: &RecordsCursor) -> Progress
     }
 }
 
-fn cursor_of(progress: Progress) -> RecordsCursor
-    ensures { result ≡ record { next = progress.offset; passed = progress.passed; until = progress.until; left = progress.left } }
+fn cursor_of(place: Progress) -> RecordsCursor
+    ensures { result ≡ cursor place }
 {
     RecordsCursor {
-        next: progress.offset,
-        passed: progress.passed,
-        until: progress.until,
-        left: progress.left,
+        next: place.offset,
+        passed: place.passed,
+        until: place.until,
+        left: place.left,
     }
 }
 
-// The numbers of a record that was read, which ends at an offset.
-fn record_of(found: &RecordRef<'_>, end: usize) -> Record
-    ensures { TellsRef found.now end result }
-{
-    let (length, has_data) = match &found.rdata {
-        Some(rdata) => (rdata.octets().len().min(65535), 1),
-        None => (0, 0),
-    };
-    Record {
-        owner: found.offset,
-        rdata: end.saturating_sub(length),
-        index: found.index,
-        section: number_of(found.section),
-        ttl: found.ttl,
-        type_number: u16::from(found.record_type),
-        class: found.class,
-        length: length as u16,
-        has_data,
-    }
-}
-
-// The numbers of a record whose RDATA is rejected.
-fn record_with(error: &RecordError, fields: &FixedFields) -> Record
-    ensures { TellsFixed error.now fields.now result }
+// The numbers of a record at an offset, which was passed.
+fn record_of(offset: usize, step: &PassedRecord) -> Record
+    ensures { result ≡ told_of offset step.now }
 {
     Record {
-        owner: error.offset,
-        rdata: fields.rdata,
-        index: error.index,
-        section: number_of(error.section),
-        ttl: fields.ttl,
-        type_number: fields.record_type,
-        class: fields.class,
-        length: fields.rdlength,
-        has_data: 1,
+        owner: offset,
+        rdata: step.fields.rdata,
+        index: step.index,
+        section: number_of(step.section),
+        ttl: step.fields.ttl,
+        type_number: step.fields.record_type,
+        class: step.fields.class,
+        length: step.fields.rdlength,
+        has_data: match step.content {
+            Ok(false) => 0,
+            _ => 1,
+        },
     }
 }
 
@@ -176,29 +157,21 @@ pub extern "C" fn dns_rdata_records_next(
     let Ok(message) = MessageRef::read(message) else {
         return ABSENT;
     };
-    let Some(mut walk) = message.resume(progress_of(records)) else {
+    let owner = records.next;
+    let mut progress = progress_of(records);
+    let Some(step) = message.step(&mut progress) else {
         return ABSENT;
     };
-    let Some(item) = walk.next() else {
-        return ABSENT;
-    };
-    *records = cursor_of(walk.progress());
-    match item {
-        Ok(found) => {
-            *told = record_of(&found, records.next);
-            OK
+    *records = cursor_of(progress);
+    match step {
+        Ok(step) => {
+            *told = record_of(owner, &step);
+            match step.content {
+                Ok(_) => OK,
+                Err(reason) => status_of(reason),
+            }
         }
-        Err(error) => match error.fault {
-            Fault::RData(reason) => match message.fields_at(error.offset) {
-                Some(fields) => {
-                    *told = record_with(&error, &fields);
-                    status_of(reason)
-                }
-                // Unreachable: a record is there.
-                None => RECORD,
-            },
-            Fault::Pointers => POINTERS,
-            _ => RECORD,
-        },
+        Err(Fault::Pointers) => POINTERS,
+        Err(_) => RECORD,
     }
 }

@@ -26,7 +26,7 @@ import os
 import pathlib
 from typing import Any, Callable, List, Optional, Tuple, Union
 
-from ._errors import MessageError, Status, error_class
+from ._errors import MessageError, Status, TextError, error_class
 
 Octets = Union[bytes, bytearray, memoryview]
 
@@ -52,6 +52,15 @@ class Data(ctypes.Structure):
     _fields_ = [
         ("message", ctypes.c_char_p), ("message_length", ctypes.c_size_t), ("offset", ctypes.c_size_t), ("length", ctypes.c_uint16),
         ("type", ctypes.c_uint16),
+    ]
+
+
+class TextFault(ctypes.Structure):
+    """What the rejection of a text is about: the token in the text, the field's name in the reason, and the status of its octets."""
+
+    _fields_ = [
+        ("begin", ctypes.c_size_t), ("end", ctypes.c_size_t), ("field", ctypes.c_size_t), ("field_length", ctypes.c_size_t),
+        ("cause", ctypes.c_uint32),
     ]
 
 
@@ -90,8 +99,12 @@ CALLS: dict[str, List[Any]] = {
     "dns_rdata_equal": [DATA, DATA, TELLS],
     "dns_rdata_compare_canonical": [OCTETS, SIZE, OCTETS, SIZE],
     "dns_rdata_parse": [OCTETS, SIZE, SHORT, OCTETS, SIZE, *ROOM],
+    "dns_rdata_parse_why": [OCTETS, SIZE, SHORT, OCTETS, SIZE, *ROOM, ctypes.POINTER(TextFault)],
     "dns_rdata_records_begin": [OCTETS, SIZE, ctypes.POINTER(Records)],
     "dns_rdata_records_next": [OCTETS, SIZE, ctypes.POINTER(Records), ctypes.POINTER(Record)],
+    "dns_rdata_name_length": [OCTETS, SIZE, SIZE, COUNT],
+    "dns_rdata_name_text": [OCTETS, SIZE, SIZE, *ROOM],
+    "dns_rdata_name_from_text": [OCTETS, SIZE, OCTETS, SIZE, *ROOM],
     "dns_rdata_type_text": [SHORT, *ROOM],
     "dns_rdata_type_number": [OCTETS, SIZE, NUMBER],
 }
@@ -122,10 +135,14 @@ _SIZES = 1 << 8 * ctypes.sizeof(ctypes.c_size_t)
 
 def data(message: Octets, offset: int, length: int, type_number: int) -> Data:
     """RDATA in a message. ctypes truncates a number that is too large without a word, so it is rejected here."""
+    octets = bytes(message)
+    return Data(octets, len(octets), _size(offset), _short(length), _short(type_number))
+
+
+def _size(offset: int) -> int:
     if not 0 <= offset < _SIZES:
         raise OverflowError("an offset is a size")
-    octets = bytes(message)
-    return Data(octets, len(octets), offset, _short(length), _short(type_number))
+    return offset
 
 
 def _short(number: int) -> int:
@@ -236,7 +253,43 @@ def parse(text: Union[str, Octets], type_number: int, origin: Octets = b"") -> b
     9460, section 2.1; RFC 3597, section 5). `origin` is the octets of a name, by which relative names are completed. What `text`
     writes is read again as the octets of `wire`, whatever the origin."""
     octets, name = text.encode() if isinstance(text, str) else bytes(text), bytes(origin)
-    return _filled(_library.dns_rdata_parse, octets, len(octets), _short(type_number), name, len(name))
+    given = octets, len(octets), _short(type_number), name, len(name)
+    try:
+        return _filled(_library.dns_rdata_parse, *given)
+    except TextError as error:
+        raise _explained(error.status, *given) from None
+
+
+def _explained(status: Status, *given: Any) -> TextError:
+    """The error of a text, with its reason, field and token. The text is read once more."""
+    out, count, fault = ctypes.create_string_buffer(512), ctypes.c_size_t(), TextFault()
+    if _library.dns_rdata_parse_why(*given, out, len(out), _byref(count), _byref(fault)) != Status.OK:
+        return TextError(status)
+    reason = out.raw[: count.value].decode()
+    field = reason[fault.field : fault.field + fault.field_length]
+    token = (fault.begin, fault.end) if fault.end else None
+    return TextError(status, Status(fault.cause) if fault.cause else None, reason or None, field or None, token)
+
+
+def name_length(message: Octets, offset: int) -> int:
+    """The number of octets that the name at an offset of the message takes there, with the zero octet or the compression pointer at its
+    end. Raises WireError if no name is encoded there."""
+    octets, count = bytes(message), ctypes.c_size_t()
+    _want_ok(_library.dns_rdata_name_length(octets, len(octets), _size(offset), _byref(count)))
+    return count.value
+
+
+def name_text(message: Octets, offset: int) -> str:
+    """The text of the name at an offset of the message, with a dot at its end. Raises WireError if no name is encoded there."""
+    octets = bytes(message)
+    return _filled(_library.dns_rdata_name_text, octets, len(octets), _size(offset)).decode()
+
+
+def name_from_text(text: Union[str, Octets], origin: Octets = b"") -> bytes:
+    """The uncompressed octets of the name that a zone file's text is. `origin` is the octets of a name, by which a relative name is
+    completed. Raises TextError if the text is not one name."""
+    octets, name = text.encode() if isinstance(text, str) else bytes(text), bytes(origin)
+    return _filled(_library.dns_rdata_name_from_text, octets, len(octets), name, len(name))
 
 
 def records_begin(message: bytes, limit: int) -> Records:

@@ -3,7 +3,7 @@
 from __future__ import annotations
 
 import enum
-from typing import Optional
+from typing import Optional, Tuple
 
 __all__ = ["MessageError", "RdataError", "Status", "TextError", "WireError"]
 
@@ -135,7 +135,35 @@ class MessageError(RdataError):
 
 
 class TextError(RdataError):
-    """The text is not that of RDATA of the type, not a name, or not the name of a type."""
+    """The text is not that of RDATA of the type, not a name, or not the name of a type.
+
+    Of a text of RDATA the error has more, each None if it is not known:
+
+    - `reason` is what is wrong, and with the status MISSING_WORD the field whose token is missing.
+    - `field` is the name of the field, as "MX exchange".
+    - `token` is the offsets in the text, in octets, where the token starts and ends.
+    - `cause` is the status with which the octets of the text are rejected.
+    """
+
+    def __init__(
+        self,
+        status: Status,
+        cause: Optional[Status] = None,
+        reason: Optional[str] = None,
+        field: Optional[str] = None,
+        token: Optional[Tuple[int, int]] = None,
+    ) -> None:
+        super().__init__(status, cause)
+        self.args = (status, cause, reason, field, token)
+        self.reason, self.field, self.token = reason, field, token
+
+    def __str__(self) -> str:
+        text = f"{self.status.name}: {_MEANINGS.get(self.status, self.status.name)}"
+        if self.cause:
+            text += f": {_MEANINGS.get(self.cause, self.cause.name)}"
+        if self.reason:
+            text += f": {self.reason}"
+        return text if self.token is None else f"{text} at octet {self.token[0]}"
 
 
 def error_class(status: Status) -> type[RdataError]:

@@ -11,7 +11,6 @@ from ._errors import Status, TextError, WireError
 
 # A token without an octet that ends or quotes one (RFC 1035, section 5.1), unless a backslash is before it.
 _TOKEN = re.compile(r'(?:[^\\\t\n\r "();]|\\.)*\\?', re.DOTALL)
-_NS = 2
 
 
 @functools.total_ordering
@@ -35,11 +34,9 @@ class Name:
     def __init__(self, octets: _calls.Octets) -> None:
         """The name whose uncompressed octets are exactly these. Raises WireError if they are not one name."""
         self._octets = bytes(octets)
-        try:
-            # The RDATA of NS is a name, and what begins at offset 0 has no compression pointer.
-            _calls.check(self._octets, 0, len(self._octets), _NS)
-        except (WireError, OverflowError):
-            raise WireError(Status.NAME) from None
+        # What begins at offset 0 has no compression pointer.
+        if _calls.name_length(self._octets, 0) != len(self._octets):
+            raise WireError(Status.NAME)
 
     @classmethod
     def from_text(cls, text: str, origin: Optional[Name] = None) -> Name:
@@ -47,9 +44,7 @@ class Name:
         origin; without one, it is read as if it had a dot at its end. Raises TextError if the text is not one name."""
         if not _TOKEN.fullmatch(text):
             raise TextError(Status.WRONG_WORD)
-        # The token `\#` alone would begin the unknown-data form of RFC 3597.
-        token = "\\035" if text == "\\#" else text
-        return cls(_calls.parse(token, _NS, origin.octets if origin else b""))
+        return cls(_calls.name_from_text(text, origin.octets if origin else b""))
 
     @property
     def octets(self) -> bytes:
@@ -71,7 +66,7 @@ class Name:
 
     def to_text(self) -> str:
         """The text in a zone file, with a dot at its end."""
-        return _calls.text(self._octets, 0, len(self._octets), _NS)
+        return _calls.name_text(self._octets, 0)
 
     def __str__(self) -> str:
         return self.to_text()

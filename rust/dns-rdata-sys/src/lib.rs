@@ -119,6 +119,22 @@ pub struct dns_rdata_refusal {
     pub offset: usize,
 }
 
+/// What the rejection of a text is about. Numbers that it does not have are 0.
+#[repr(C)]
+#[derive(Clone, Copy, Debug, Default)]
+pub struct dns_rdata_text_fault {
+    /// The offset in the text where the wrong token starts. `end` is 0 if there is no such token.
+    pub begin: usize,
+    /// The offset in the text where it ends, with its quotes.
+    pub end: usize,
+    /// The offset in the reason where the name of the field starts.
+    pub field: usize,
+    /// How many octets the name has: 0 if the reason is about no field.
+    pub field_length: usize,
+    /// The status with which the octets of the text are rejected, if that is the reason.
+    pub cause: u32,
+}
+
 /// Where the next part of RDATA is. [`dns_rdata_parts_begin`] sets it, and [`dns_rdata_parts_next`] moves it.
 #[repr(C)]
 #[derive(Clone, Copy, Debug, Default)]
@@ -264,6 +280,19 @@ extern "C" {
         count: *mut usize,
     ) -> dns_rdata_status;
 
+    /// Writes why a zone file text gives no RDATA, followed by a zero octet.
+    pub fn dns_rdata_parse_why(
+        text: *const c_char,
+        text_length: usize,
+        record_type: u16,
+        origin: *const u8,
+        origin_length: usize,
+        out: *mut c_char,
+        out_length: usize,
+        count: *mut usize,
+        fault: *mut dns_rdata_text_fault,
+    ) -> dns_rdata_status;
+
     /// Begins to go over the records of a message.
     pub fn dns_rdata_records_begin(
         message: *const u8,
@@ -277,6 +306,35 @@ extern "C" {
         message_length: usize,
         records: *mut dns_rdata_records,
         record: *mut dns_rdata_record,
+    ) -> dns_rdata_status;
+
+    /// Tells how many octets the name at an offset of a message takes there.
+    pub fn dns_rdata_name_length(
+        message: *const u8,
+        message_length: usize,
+        offset: usize,
+        count: *mut usize,
+    ) -> dns_rdata_status;
+
+    /// Writes the text of the name at an offset of a message, followed by a zero octet.
+    pub fn dns_rdata_name_text(
+        message: *const u8,
+        message_length: usize,
+        offset: usize,
+        out: *mut c_char,
+        out_length: usize,
+        count: *mut usize,
+    ) -> dns_rdata_status;
+
+    /// Writes the uncompressed octets of the name that a text is.
+    pub fn dns_rdata_name_from_text(
+        text: *const c_char,
+        text_length: usize,
+        origin: *const u8,
+        origin_length: usize,
+        out: *mut u8,
+        out_length: usize,
+        count: *mut usize,
     ) -> dns_rdata_status;
 
     /// Writes the name of a type, followed by a zero octet.
@@ -293,6 +351,12 @@ extern "C" {
         text_length: usize,
         record_type: *mut u16,
     ) -> dns_rdata_status;
+
+    /// Returns the text of a status, which is static.
+    pub fn dns_rdata_strerror(status: dns_rdata_status) -> *const c_char;
+
+    /// Returns the version of the library, which is static.
+    pub fn dns_rdata_version() -> *const c_char;
 }
 
 // The example of the README is run with the other examples.

@@ -1,5 +1,7 @@
 //! The raw calls link and run. What they return is tested in C (`c/tests` of the repository) and through `dns-rdata`.
 
+use std::ffi::CStr;
+
 use dns_rdata_sys::*;
 
 #[test]
@@ -62,4 +64,46 @@ fn walks() {
         (1, 0, 1)
     );
     assert_eq!((record.rrclass, record.ttl, record.has_data), (1, 60, 1));
+}
+
+#[test]
+fn texts() {
+    // SAFETY: the calls return static texts, which a zero octet ends.
+    let (error, version) = unsafe {
+        (
+            CStr::from_ptr(dns_rdata_strerror(DNS_RDATA_NAME)),
+            CStr::from_ptr(dns_rdata_version()),
+        )
+    };
+    assert_eq!(error.to_str(), Ok("damaged domain name"));
+    assert_eq!(version.to_str(), Ok(env!("CARGO_PKG_VERSION")));
+}
+
+#[test]
+fn names() {
+    let message = b"\x01x\0\x01Y\xc0\0";
+    let (octets, size, mut count) = (message.as_ptr(), message.len(), 0);
+    // SAFETY: the pointer and the length are an array's, and `count` is written by this call alone.
+    let status = unsafe { dns_rdata_name_length(octets, size, 3, &mut count) };
+    assert_eq!((status, count), (DNS_RDATA_OK, 4));
+    let mut text = [0; 8];
+    // SAFETY: the pointers and the lengths are arrays', and the call writes `text` and `count` alone.
+    let status =
+        unsafe { dns_rdata_name_text(octets, size, 3, text.as_mut_ptr(), text.len(), &mut count) };
+    assert_eq!((status, count), (DNS_RDATA_OK, 4));
+    let mut name = [0; 8];
+    // SAFETY: the pointers and the lengths are arrays', and the call writes `name` and `count` alone.
+    let status = unsafe {
+        dns_rdata_name_from_text(
+            text.as_ptr(),
+            count,
+            octets,
+            0,
+            name.as_mut_ptr(),
+            name.len(),
+            &mut count,
+        )
+    };
+    assert_eq!((status, count), (DNS_RDATA_OK, 5));
+    assert_eq!(name[..5], *b"\x01Y\x01x\0");
 }

@@ -4,10 +4,12 @@ use core::hash::{Hash, Hasher};
 
 use alloc::vec::Vec;
 
-use dns_rdata_sys::{dns_rdata_parse, DNS_RDATA_UNSUPPORTED_TYPE};
+use dns_rdata_sys::{
+    dns_rdata_parse, dns_rdata_parse_why, dns_rdata_text_fault, DNS_RDATA_NO_DATA_TEXT,
+};
 
-use crate::call::{fill, octets};
-use crate::{Error, Name, Rdata, RecordType};
+use crate::call::{self, fill, octets};
+use crate::{Error, Name, Rdata, RecordType, TextFault};
 
 /// RDATA with uncompressed octets of its own, as from a text.
 ///
@@ -67,7 +69,7 @@ impl RdataBuf {
         origin: Option<&Name>,
     ) -> Result<RdataBuf, Error> {
         let text = text.as_ref();
-        let origin = origin.map_or(&[][..], Name::as_octets);
+        let name = origin.map_or(&[][..], Name::as_octets);
         let parsed = octets(512, |out| {
             fill(
                 out,
@@ -77,20 +79,51 @@ impl RdataBuf {
                         text.as_ptr().cast(),
                         text.len(),
                         record_type.0,
-                        origin.as_ptr(),
-                        origin.len(),
+                        name.as_ptr(),
+                        name.len(),
                         out,
                         room,
                         count,
                     )
                 },
                 |status| match status {
-                    DNS_RDATA_UNSUPPORTED_TYPE => Error::of_type(status, record_type),
+                    DNS_RDATA_NO_DATA_TEXT.. => {
+                        let mut fault = dns_rdata_text_fault::default();
+                        // If an allocation fails, the error has no numbers.
+                        let _ = why(text, record_type, name, &mut [], &mut fault);
+                        Error::of_text(status, record_type, &fault)
+                    }
                     _ => Error::of_status(status),
                 },
             )
         })?;
         Ok(RdataBuf::new(record_type, parsed))
+    }
+
+    /// Why [`RdataBuf::from_text`] rejects a text, in words: what is wrong, and the name of the field. `None` if it does not.
+    ///
+    /// # Errors
+    ///
+    /// [`Status::Memory`](crate::Status::Memory) if an allocation fails.
+    pub fn why(
+        text: impl AsRef<[u8]>,
+        record_type: RecordType,
+        origin: Option<&Name>,
+    ) -> Result<Option<TextFault>, Error> {
+        let text = text.as_ref();
+        let error = match RdataBuf::from_text(text, record_type, origin) {
+            Ok(_) => return Ok(None),
+            Err(error) if error.status().number() < DNS_RDATA_NO_DATA_TEXT => return Err(error),
+            Err(error) => error,
+        };
+        let origin = origin.map_or(&[][..], Name::as_octets);
+        let mut fault = dns_rdata_text_fault::default();
+        let reason = call::text(|out| why(text, record_type, origin, out, &mut fault))?;
+        Ok(Some(TextFault {
+            error,
+            reason,
+            field: fault.field..fault.field + fault.field_length,
+        }))
     }
 
     /// The type.
@@ -116,6 +149,34 @@ impl RdataBuf {
     pub fn as_rdata(&self) -> Rdata<'_> {
         Rdata::of_buf(&self.octets, self.record_type)
     }
+}
+
+// Writes the reason why a text is rejected, and the numbers of its fault. Returns the number of octets.
+fn why(
+    text: &[u8],
+    record_type: RecordType,
+    origin: &[u8],
+    out: &mut [u8],
+    fault: &mut dns_rdata_text_fault,
+) -> Result<usize, Error> {
+    fill(
+        out,
+        // SAFETY: the pointers and lengths are those of slices, and the call writes `out`, `count` and `fault` alone.
+        |out, room, count| unsafe {
+            dns_rdata_parse_why(
+                text.as_ptr().cast(),
+                text.len(),
+                record_type.0,
+                origin.as_ptr(),
+                origin.len(),
+                out.cast(),
+                room,
+                count,
+                fault,
+            )
+        },
+        Error::of_status,
+    )
 }
 
 impl AsRef<[u8]> for RdataBuf {

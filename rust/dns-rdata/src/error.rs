@@ -1,4 +1,7 @@
 use core::fmt;
+use core::ops::Range;
+
+use alloc::string::String;
 
 use dns_rdata_sys as sys;
 
@@ -142,8 +145,13 @@ pub struct Error {
 #[derive(Clone, Copy, Debug, PartialEq, Eq, Hash)]
 enum Numbers {
     None,
-    Type(RecordType),
     Needed(usize),
+    Text {
+        record_type: RecordType,
+        begin: usize,
+        end: usize,
+        cause: u32,
+    },
     Rdata {
         read: usize,
         expected: usize,
@@ -161,9 +169,18 @@ impl Error {
         }
     }
 
-    pub(crate) fn of_type(status: u32, record_type: RecordType) -> Error {
+    pub(crate) fn of_text(
+        status: u32,
+        record_type: RecordType,
+        fault: &sys::dns_rdata_text_fault,
+    ) -> Error {
         Error {
-            numbers: Numbers::Type(record_type),
+            numbers: Numbers::Text {
+                record_type,
+                begin: fault.begin,
+                end: fault.end,
+                cause: fault.cause,
+            },
             ..Error::of_status(status)
         }
     }
@@ -203,20 +220,34 @@ impl Error {
     }
 
     /// The record's own error: the status that there would be if the number of octets were not tested. `None` if the record has
-    /// no error and takes another number of octets than RDLENGTH, and if the error is not about RDATA in a message.
+    /// no error and takes another number of octets than RDLENGTH. Of a text with [`Status::WrongValue`], the status with which its
+    /// octets are rejected.
     #[must_use]
     pub fn cause(&self) -> Option<Status> {
         match self.numbers {
-            Numbers::Rdata { cause, .. } => Status::from_number(cause),
+            Numbers::Rdata { cause, .. } | Numbers::Text { cause, .. } => {
+                Status::from_number(cause)
+            }
             _ => None,
         }
     }
 
-    /// The offset in the message where reading stopped. `None` if the error is not about RDATA in a message.
+    /// The offset in the message where reading stopped, or in the text where the wrong token starts. `None` if the error is about
+    /// neither.
     #[must_use]
     pub fn offset(&self) -> Option<usize> {
         match self.numbers {
             Numbers::Rdata { offset, .. } => Some(offset),
+            _ => self.token().map(|token| token.start),
+        }
+    }
+
+    /// The offsets in the text where the wrong token starts and ends, with its quotes. `None` if the error is not about one token
+    /// of a text. [`RdataBuf::why`](crate::RdataBuf::why) has the reason, too.
+    #[must_use]
+    pub fn token(&self) -> Option<Range<usize>> {
+        match self.numbers {
+            Numbers::Text { begin, end, .. } if end > 0 => Some(begin..end),
             _ => None,
         }
     }
@@ -248,8 +279,8 @@ impl Error {
                 Status::Never | Status::CsyncFlags | Status::AddressFamily => Some(number),
                 _ => None,
             },
-            Numbers::Type(RecordType(number)) if self.status == Status::UnsupportedType => {
-                Some(u32::from(number))
+            Numbers::Text { record_type, .. } if self.status == Status::UnsupportedType => {
+                Some(u32::from(record_type.0))
             }
             _ => None,
         }
@@ -284,12 +315,66 @@ impl fmt::Display for Error {
             Some(offset) if self.cause().is_some_and(|cause| cause != Status::Never) => {
                 write!(f, " at offset {offset}")
             }
+            Some(offset) if self.token().is_some() => write!(f, " at offset {offset}"),
             _ => Ok(()),
         }
     }
 }
 
 impl core::error::Error for Error {}
+
+/// Why a zone file text gives no RDATA, in words: [`RdataBuf::why`](crate::RdataBuf::why) returns it.
+///
+/// # Examples
+///
+/// ```
+/// use dns_rdata::{RdataBuf, RecordType};
+///
+/// let why = RdataBuf::why("10 a..b", RecordType::MX, None)?.unwrap();
+/// assert_eq!(why.reason(), "empty label in a domain name in MX exchange token");
+/// assert_eq!((why.field(), why.error().token()), (Some("MX exchange"), Some(3..7)));
+/// # Ok::<(), dns_rdata::Error>(())
+/// ```
+#[derive(Clone, Debug, PartialEq, Eq, Hash)]
+pub struct TextFault {
+    pub(crate) error: Error,
+    pub(crate) reason: String,
+    pub(crate) field: Range<usize>,
+}
+
+impl TextFault {
+    /// The error that [`RdataBuf::from_text`](crate::RdataBuf::from_text) returns.
+    #[must_use]
+    pub fn error(&self) -> Error {
+        self.error
+    }
+
+    /// What is wrong, and with [`Status::MissingWord`] the field whose token is missing. Empty if the error says all.
+    #[must_use]
+    pub fn reason(&self) -> &str {
+        &self.reason
+    }
+
+    /// The name of the field that the reason is about, as `MX exchange`.
+    #[must_use]
+    pub fn field(&self) -> Option<&str> {
+        self.reason
+            .get(self.field.clone())
+            .filter(|name| !name.is_empty())
+    }
+}
+
+impl fmt::Display for TextFault {
+    fn fmt(&self, f: &mut fmt::Formatter<'_>) -> fmt::Result {
+        write!(f, "{}", self.error)?;
+        match self.reason() {
+            "" => Ok(()),
+            reason => write!(f, ": {reason}"),
+        }
+    }
+}
+
+impl core::error::Error for TextFault {}
 
 #[cfg(feature = "std")]
 impl From<Error> for std::io::Error {

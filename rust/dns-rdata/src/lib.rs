@@ -50,7 +50,7 @@ mod record_type;
 mod records;
 
 pub use buf::RdataBuf;
-pub use error::{Error, Status};
+pub use error::{Error, Status, TextFault};
 pub use iter::{FoundName, Names, Part, Parts, Strings};
 pub use key::CanonicalKey;
 pub use name::{Labels, Name};

@@ -5,8 +5,8 @@ use core::iter::FusedIterator;
 use core::str::FromStr;
 
 use dns_rdata_sys::{
-    dns_rdata_name, dns_rdata_parse, dns_rdata_text, DNS_RDATA_NAME, DNS_RDATA_OK,
-    DNS_RDATA_WRONG_WORD,
+    dns_rdata_name, dns_rdata_name_from_text, dns_rdata_name_length, dns_rdata_name_text,
+    DNS_RDATA_NAME, DNS_RDATA_OK, DNS_RDATA_WRONG_WORD,
 };
 
 use crate::call::fill;
@@ -89,18 +89,15 @@ impl Name {
         if !is_one_token(text.as_bytes()) {
             return Err(Error::of_status(DNS_RDATA_WRONG_WORD));
         }
-        // The token `\#` alone would begin the unknown-data form of RFC 3597.
-        let text = if text == r"\#" { r"\035" } else { text };
         let origin = origin.map_or(&[][..], Name::as_octets);
         let mut name = Name::root();
         let count = fill(
             &mut name.octets,
             // SAFETY: the pointers and lengths are those of slices, and the call writes `out` and `count` alone.
             |out, room, count| unsafe {
-                dns_rdata_parse(
+                dns_rdata_name_from_text(
                     text.as_ptr().cast(),
                     text.len(),
-                    RecordType::NS.0,
                     origin.as_ptr(),
                     origin.len(),
                     out,
@@ -112,6 +109,33 @@ impl Name {
         )?;
         name.length = short(count);
         Ok(name)
+    }
+
+    /// How many octets the name that is encoded at an offset of a message takes there, with the zero octet or the compression pointer
+    /// (RFC 1035, section 4.1.4) at its end.
+    ///
+    /// # Errors
+    ///
+    /// [`Status::Name`](crate::Status::Name) if no name is encoded there, and
+    /// [`Status::MissingOctets`](crate::Status::MissingOctets) if the offset is past the end of the message.
+    ///
+    /// # Examples
+    ///
+    /// ```
+    /// use dns_rdata::Name;
+    ///
+    /// assert_eq!(Name::encoded_len(b"\x01x\x00\x01y\xc0\x00", 3)?, 4);
+    /// # Ok::<(), dns_rdata::Error>(())
+    /// ```
+    pub fn encoded_len(message: &[u8], offset: usize) -> Result<usize, Error> {
+        let mut count = 0;
+        // SAFETY: the pointer and the length are a slice's, and the call writes `count` alone.
+        let status =
+            unsafe { dns_rdata_name_length(message.as_ptr(), message.len(), offset, &mut count) };
+        match status {
+            DNS_RDATA_OK => Ok(count),
+            _ => Err(Error::of_status(status)),
+        }
     }
 
     /// The name with an index in RDATA, and its offset in the message. `None` if there is none.
@@ -194,13 +218,15 @@ impl FromStr for Name {
 impl fmt::Display for Name {
     /// The text in a zone file, with a dot at its end.
     fn fmt(&self, f: &mut fmt::Formatter<'_>) -> fmt::Result {
-        let name = Rdata::of_buf(self.as_octets(), RecordType::NS);
+        let name = self.as_octets();
         // An octet takes at most four characters, as in \000, and after the text the call writes a zero octet.
         let mut text = [0; 4 * Name::MAX_OCTETS + 1];
         let count = fill(
             &mut text,
-            // SAFETY: the RDATA is a slice's, and the call writes `out` and `count` alone.
-            |out, room, count| unsafe { dns_rdata_text(&name.as_raw(), out.cast(), room, count) },
+            // SAFETY: the octets are a slice's, and the call writes `out` and `count` alone.
+            |out, room, count| unsafe {
+                dns_rdata_name_text(name.as_ptr(), name.len(), 0, out.cast(), room, count)
+            },
             Error::of_status,
         );
         match count.map(|count| core::str::from_utf8(&text[..count])) {
