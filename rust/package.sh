@@ -29,10 +29,12 @@ archive_in() { # FOLDER
   return 1
 }
 
-# Symbolic links are followed here, and the packages are made outside the repository, so that lib/ need not be put into it.
+# The packages are made outside the repository, so that what they have of other folders need not be copied into rust/.
 mkdir "$dir/rust"
-cp -rL "$top"/rust/Cargo.toml "$top"/rust/Cargo.lock "$top"/rust/dns-rdata "$top"/rust/dns-rdata-sys "$dir/rust/"
+cp -r "$top"/rust/Cargo.toml "$top"/rust/Cargo.lock "$top"/rust/dns-rdata "$top"/rust/dns-rdata-sys "$dir/rust/"
 rm -rf "$dir"/rust/dns-rdata-sys/lib "$dir"/rust/*/target
+cp -r "$top"/c/include "$top/c/heap.c" "$top/c/texts.c" "$dir/rust/dns-rdata-sys/"
+for crate in dns-rdata dns-rdata-sys; do cp "$top"/LICENSE-APACHE "$top"/LICENSE-MIT "$dir/rust/$crate/"; done
 if [ -n "${DNS_RDATA_LIB:-}" ]; then
   archive=$(archive_in "$DNS_RDATA_LIB")
 else

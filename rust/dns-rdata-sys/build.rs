@@ -16,7 +16,7 @@ fn main() {
     for name in ["DNS_RDATA_LIB", "DNS_RDATA_HEAP", "DOCS_RS", "CC"] {
         println!("cargo:rerun-if-env-changed={name}");
     }
-    println!("cargo:include={}", package().join("include").display());
+    println!("cargo:include={}", in_c("include").display());
     // docs.rs builds no program, so nothing has to be linked there.
     if env::var_os("DOCS_RS").is_some() {
         return;
@@ -35,6 +35,15 @@ fn main() {
 
 fn package() -> PathBuf {
     PathBuf::from(env::var_os("CARGO_MANIFEST_DIR").expect("cargo sets CARGO_MANIFEST_DIR"))
+}
+
+/// A file or folder that a package has, and that is in the folder `c` of the repository.
+fn in_c(name: &str) -> PathBuf {
+    let packaged = package().join(name);
+    if packaged.exists() {
+        return packaged;
+    }
+    package().join("../../c").join(name)
 }
 
 /// The first archive of the library in the folders where it may be.
@@ -134,14 +143,14 @@ fn defined_names(octets: &[u8]) -> Option<&[u8]> {
 
 /// A file in C of the package as an archive.
 fn compiled(name: &str) -> PathBuf {
-    let source = package().join(name).with_extension("c");
+    let source = in_c(&format!("{name}.c"));
     let out = PathBuf::from(env::var_os("OUT_DIR").expect("cargo sets OUT_DIR"));
     let object = out.join(name).with_extension("o");
     let archive = out.join(format!("libdns_rdata_{name}.a"));
     println!("cargo:rerun-if-changed={}", source.display());
     run(Command::new(compiler())
         .args(["-O2", "-fPIC", "-c", "-I"])
-        .arg(package().join("include"))
+        .arg(in_c("include"))
         .arg("-o")
         .arg(&object)
         .arg(source));

@@ -1,1 +1,0 @@
-../../../c/include/dns_rdata.h
