@@ -45,6 +45,11 @@ static unsigned long calls(const uint8_t *message, uint16_t length, uint16_t typ
     uint16_t number = 0;
     good += dns_rdata_name(at(message, SIZE, 0, length, type), 0, out, sizeof out, &count, &begin) != DNS_RDATA_MEMORY;
     good += dns_rdata_part(at(message, SIZE, 0, length, type), 0, &number, &begin, &count) != DNS_RDATA_MEMORY;
+    static const uint8_t name[] = "\3www\7example";
+    good += dns_rdata_name_text(name, sizeof name, 0, text, sizeof text, &count) == DNS_RDATA_OK
+        && dns_rdata_name_from_text(text, count, (const uint8_t *)"", 1, out, sizeof out, &count) == DNS_RDATA_OK && count == sizeof name;
+    struct dns_rdata_text_fault fault;
+    good += dns_rdata_parse_why("10 a..b", 7, 15, (const uint8_t *)"", 1, text, sizeof text, &count, &fault) == DNS_RDATA_OK && fault.begin == 3;
     return good;
 }
 
