@@ -90,7 +90,7 @@ static void print_rejected(struct octets message, const struct dns_rdata_record 
     printf("\n");
 }
 
-/* Prints a record whose RDATA is that of its type. It may have no text: see DNS_RDATA_TOO_LONG. */
+/* Prints a record whose RDATA is that of its type. If malloc fails it has no text, and counts as rejected. */
 static void print_record(struct octets message, const struct dns_rdata_record *record) {
     struct dns_rdata data = dns_rdata_of_record(message.at, message.length, record);
     size_t count;
