@@ -7,15 +7,13 @@ use Rattle.dns_fields.specs.{Labels.DomainName, Names.IsNameIn, Fields.canonical
 use Rattle.dns_names_wire.specs.Terms.{Because}
 use Rattle.dns_types.specs.{declared.error.ProtoError.ProtoError, declared.error.DecodeError.DecodeError, declared.error.ParseError.ParseError}
 use Rattle.dns_types.specs.declared.record_type.RecordType.{RecordType}
-use Rattle.dns_text.specs.TextWords.{NoTextWords}
 use Rattle.dns_types.specs.declared.error.DecodeError.TheVariants as decode
-use Rattle.dns_types.specs.declared.error.ParseError.TheVariants as parse
-use Rattle.dns_rdata.specs.{declared.record_data.RData.RData, DataTokens.IsDataTextAt, DataTokens.GivesNoneAt, DataTokens.HasNoTokens, Texts.data_text, WholeOctets.whole_data}
-use Rattle.dns_rdata.specs.Data.{Fills, NoValue, fields_of, data_octets, IsEmittable}
+use Rattle.dns_rdata.specs.{declared.record_data.RData.RData, WholeOctets.whole_data}
+use Rattle.dns_rdata.specs.Data.{Fills, fields_of, data_octets}
 use Rattle.dns_rdata_zone.specs.{ZoneGives.GivesValue, ZoneGives.GivesNone, ZoneFaults.ZoneFault, ZoneTexts.zone_text}
-use Rattle.dns_rdata_c.specs.{declared.check.Reason.Reason, Reading.IsCauseAt, Reading.HasData}
+use Rattle.dns_rdata_c.specs.{declared.check.Reason.Reason, Reading.IsCauseAt}
 use Rattle.dns_rdata_c.specs.Status.{decode_status, parse_status}
-use Rattle.dns_rdata_c.specs.Buffers.{IsPut, IsTooMany, IsTextPut, IsTextTooLong}
+use Rattle.dns_rdata_c.specs.Buffers.{IsPut, IsTooMany}
 
 -- ---- why octets are rejected
 

@@ -4,7 +4,7 @@ use Rattle.dns_types.specs.{declared.error.DecodeError.DecodeError, RecordTypes.
 use Rattle.dns_rdata.specs.Data.{HasValue}
 use Rattle.dns_message.specs.declared.{header.Header.Header, error.Section.Section, error.RecordError.RecordError, progress.Progress.Progress, step.PassedRecord.PassedRecord}
 use Rattle.dns_message.specs.declared.error.Section.TheVariants as sections
-use Rattle.dns_message.specs.{State.Walking, State.Message, Headers.IsHeader, Headers.HasHeader, Headers.IsPlace, Headers.record_count}
+use Rattle.dns_message.specs.{State.Walking, Headers.IsHeader, Headers.HasHeader, Headers.IsPlace, Headers.record_count}
 use Rattle.dns_message.specs.{Records.Record, Records.IsRecord, Records.NoRecord, Records.HasNoData, Items.IsRefusedAt}
 use Rattle.dns_message.specs.{Starts.Begins, Starts.BreaksIn, Starts.NoResume}
 use Rattle.dns_message.specs.{Pointers.RecordPointers, Pointers.Takes, Pointers.Exceeds, declared.error.Fault.Fault}
