@@ -1,5 +1,5 @@
--- The parts of RDATA: the options of OPT (RFC 6891, 6.1.2) and the parameters of a service binding (RFC 9460, 2.2). What they are
--- of octets, and what they are of a value that fills the octets.
+-- The parts of RDATA: the options of OPT (RFC 6891, 6.1.2) and the parameters of a service binding (RFC 9460, 2.2).
+-- What they are of octets, and what they are of a value that fills the octets.
 use Rattle.std.specs.Prelude.{◌≡◌, ℕ, zero, suc, ◌+◌, ◌≤◌, ◌⊎◌, ◌==◌, nat_lt, if◌then◌else◌, Bool, true, false, Option, Some, None}
 use Rattle.std.specs.Prelude.{List, [], ◌∷◌, ◌++◌, length, take, drop}
 use Rattle.dns_fields.specs.{Tlvs.Numbered, Tlvs.tlv, Tlvs.tlvs, Tlvs.IsTlv, Tlvs.AreTlvs, Tlvs.IsTruncated}
@@ -23,9 +23,9 @@ abbrev pub after_first : List ℕ → Option (List ℕ)
 after_first [] = None
 after_first (octet ∷ rest) = Some rest
 
--- The octets after a name. First n octets are passed over; then labels come, and an octet 0 or a compression pointer of two
--- octets ends the name (RFC 1035, 3.1 and 4.1.4). There are none if the octets end before the name does, or if an octet from 64
--- to 191 stands where a label begins.
+-- The octets after a name. First n octets are passed over; then labels come, and an octet 0 or a compression pointer of
+-- two octets ends the name (RFC 1035, 3.1 and 4.1.4). There are none if the octets end before the name does, or if an
+-- octet from 64 to 191 stands where a label begins.
 abbrev pub after_name : ℕ → List ℕ → Option (List ℕ)
 after_name n [] = None
 after_name (suc n) (octet ∷ rest) = after_name n rest
@@ -122,8 +122,8 @@ LacksPart m p n t i =
     (is_partless t ≡ true)
     ⊎ ((p + n ≤ length m) × (AreFewParts t (drop p (take (p + n) m)) i ⊎ AreCutOptions t (drop p (take (p + n) m))))
 
--- A cursor before part number i of the n octets from p, which are parts: at the offset where that part begins, or at their end
--- if there are i, and with the offset where the octets end.
+-- A cursor before part number i of the n octets from p, which are parts: at the offset where that part begins, or at
+-- their end if there are i, and with the offset where the octets end.
 pub record IsBefore (m : List ℕ) (p n : ℕ) (t : RecordType) (i : ℕ) (cursor : PartsCursor) : Type 0 where
   pub within : p + n ≤ length m
   pub left : AreLeft (take (p + n) m) p t i cursor.next
@@ -146,8 +146,8 @@ HoldValue types.HTTPS v parts = AllHeld ParameterHeld parts (parameters_in v)
 HoldValue types.SVCB v parts = AllHeld ParameterHeld parts (parameters_in v)
 HoldValue t v parts = ⊥
 
--- Part number i of the n octets from p has this number, and its octets begin at this offset of the message and are so many; and the
--- parts hold the options or parameters of the value, each that of its index.
+-- Part number i of the n octets from p has this number, and its octets begin at this offset of the message and are so
+-- many; and the parts hold the options or parameters of the value, each that of its index.
 pub record IsPartIn (m : List ℕ) (p n : ℕ) (t : RecordType) (v : RData) (i number begin count : ℕ) : Type 0 where
   pub part : HasPart m p n t i number begin count
   pub hold : HoldValue t v (part.part.left.before ++ part.part.left.rest)

@@ -19,7 +19,8 @@ abbrev pub cause_in : ParseError → ℕ
 cause_in (parse.Proto (proto.Decode cause)) = decode_status cause
 cause_in e = 0
 
--- so many octets from this offset on of what the error says are the name of the field that it is about; or it is about none
+-- so many octets from this offset on of what the error says are the name of the field that it is about; or it is about
+-- none
 abbrev pub IsFieldAt : ParseError → ℕ × ℕ → Type 0
 IsFieldAt e span = IsAbout e (take span.1 (drop span.0 (reason_text e))) ⊎ ((span.1 ≡ 0) × ((name : List ℕ) → IsAbout e name → ⊥))
 

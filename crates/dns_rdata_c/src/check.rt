@@ -27,7 +27,8 @@ pub struct Reason {
     pub offset: usize,
 }
 
-// Tells the numbers of an error, of the record's own result, and of the offset where reading stopped, and returns the status.
+// Tells the numbers of an error, of the record's own result, and of the offset where reading stopped, and returns the
+// status.
 fn tell(error: DecodeError, own: Result<(), DecodeError>, offset: usize, why: &mut Reason) -> u32
     ensures numbers { why.new ≡ numbers_of error own offset }
     ensures status { result ≡ decode_status error }
@@ -72,8 +73,8 @@ fn status_in(own: Result<(), DecodeError>) -> u32
     }
 }
 
-/// Tells whether the octets are RDATA of their type, and, if they are not, the first reason with its numbers, the record's own error, and the offset where reading stopped.
-/// Allocates nothing.
+/// Tells whether the octets are RDATA of their type, and, if they are not, the first reason with its numbers, the
+/// record's own error, and the offset where reading stopped. Allocates nothing.
 #[unsafe(no_mangle)]
 pub extern "C" fn dns_rdata_check(alloc: Global, rdata: &Rdata<'_>, why: &mut Reason) -> u32
     // A value of the type fills the octets.

@@ -72,8 +72,8 @@ fn equality_of(view: &RDataRef<'_>, other: &RDataRef<'_>) -> i32
     if view.equals(other) { 1 } else { 0 }
 }
 
-/// Tells whether the RDATA of two records of one type is equal: 1 if their canonical octets are the same, and 0 otherwise.
-/// Allocates nothing.
+/// Tells whether the RDATA of two records of one type is equal: 1 if their canonical octets are the same, and 0
+/// otherwise. Allocates nothing.
 #[unsafe(no_mangle)]
 pub extern "C" fn dns_rdata_equal(
     alloc: Global,
@@ -103,8 +103,8 @@ pub extern "C" fn dns_rdata_equal(
     }
 }
 
-/// The order of two lists of octets: -1, 0 or 1, a proper beginning before what goes on. Of canonical octets it is the order
-/// of the data. Allocates nothing.
+/// The order of two lists of octets: -1, 0 or 1, a proper beginning before what goes on. Of canonical octets it is the
+/// order of the data. Allocates nothing.
 #[unsafe(no_mangle)]
 pub extern "C" fn dns_rdata_compare_canonical(octets: &[u8], other: &[u8]) -> i32
     ensures { result ≡ octets_order octets.now other.now }

@@ -1,8 +1,8 @@
-//! The data of DNS resource records (RDATA) for programs in C: the calls check and compare it, write its canonical and its
-//! uncompressed octets, print it and read it from text.
+//! The data of DNS resource records (RDATA) for programs in C: the calls check and compare it, write its canonical and
+//! its uncompressed octets, print it and read it from text.
 //!
-//! Each call takes octets, writes its result to buffers of the caller, keeps no pointer, and returns a status (`status`).
-//! `c/include/dns_rdata.h` declares the calls and is their document for C.
+//! Each call takes octets, writes its result to buffers of the caller, keeps no pointer, and returns a status
+//! (`status`). `c/include/dns_rdata.h` declares the calls and is their document for C.
 #![tactic(auto)]
 
 pub mod check;

@@ -17,8 +17,8 @@ use dns_rdata_zone::{ZoneName, name_from_zone_text};
 use dns_view::names::skip_name;
 use std::alloc::Global;
 
-/// Sets `count` to the number of octets that the name at an offset of the message takes there, with the octet 0 or the compression
-/// pointer at its end. Allocates nothing.
+/// Sets `count` to the number of octets that the name at an offset of the message takes there, with the octet 0 or the
+/// compression pointer at its end. Allocates nothing.
 #[unsafe(no_mangle)]
 pub extern "C" fn dns_rdata_name_length(message: &[u8], offset: usize, count: &mut usize) -> u32
     ensures ok { result ≡ OK → NameEnds message.now offset (offset + count.new) }
@@ -39,8 +39,8 @@ pub extern "C" fn dns_rdata_name_length(message: &[u8], offset: usize, count: &m
     }
 }
 
-/// Writes the text of the name at an offset of the message to a buffer, followed by a zero octet, and sets `count` to its length
-/// without that octet: the presentation format (RFC 1035, section 5.1), fully qualified and case preserved.
+/// Writes the text of the name at an offset of the message to a buffer, followed by a zero octet, and sets `count` to
+/// its length without that octet: the presentation format (RFC 1035, section 5.1), fully qualified and case preserved.
 #[unsafe(no_mangle)]
 pub extern "C" fn dns_rdata_name_text(
     alloc: Global,
@@ -83,8 +83,9 @@ fn put_name(name: &Name, out: &mut [u8], count: &mut usize) -> u32
     status
 }
 
-/// Reads a name from text (RFC 1035, section 5.1), and writes its octets to a buffer, uncompressed and case preserved. A relative
-/// name is completed by the origin, whose octets are given; with no octets of an origin it is taken as fully qualified.
+/// Reads a name from text (RFC 1035, section 5.1), and writes its octets to a buffer, uncompressed and case preserved.
+/// A relative name is completed by the origin, whose octets are given; with no octets of an origin it is taken as fully
+/// qualified.
 #[unsafe(no_mangle)]
 pub extern "C" fn dns_rdata_name_from_text(
     alloc: Global,

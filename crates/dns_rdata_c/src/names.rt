@@ -11,9 +11,9 @@ use crate::reading::view_at;
 use crate::status::{ABSENT, BUFFER, OK, REFUSED};
 use std::alloc::Global;
 
-/// Writes a name of the RDATA to a buffer, uncompressed and case preserved, and sets the number of octets and the offset of the
-/// name in the message. Names are counted from 0, in the order of the fields. If there is no name of this number, the status is
-/// `ABSENT`. Allocates nothing.
+/// Writes a name of the RDATA to a buffer, uncompressed and case preserved, and sets the number of octets and the
+/// offset of the name in the message. Names are counted from 0, in the order of the fields. If there is no name of this
+/// number, the status is `ABSENT`. Allocates nothing.
 #[unsafe(no_mangle)]
 pub extern "C" fn dns_rdata_name(
     alloc: Global,

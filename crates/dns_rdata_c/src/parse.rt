@@ -53,8 +53,8 @@ fn emit_to(alloc: Global, octets: &mut Vec<u8>, value: &RData) -> Result<(), Pro
     outcome
 }
 
-// The uncompressed octets of a value, or the status of the error. `RData::emit` would compress the names of CNAME, MX, NS, PTR
-// and SOA, by pointers into the encoder's own message.
+// The uncompressed octets of a value, or the status of the error. `RData::emit` would compress the names of CNAME, MX,
+// NS, PTR and SOA, by pointers into the encoder's own message.
 #[tactic(auto, using(dns_rdata_zone::proofs::Again::same_length))]
 fn whole_octets(alloc: Global, value: &RData) -> Result<Vec<u8>, u32>
     requires { IsEmittable value.now }
@@ -111,9 +111,10 @@ fn read_zone_text(
     }
 }
 
-/// Reads the RDATA of a line of a zone file, which follows the type there (RFC 1035, section 5.1; RFC 3597, section 5; RFC 9460,
-/// section 2.1), and writes its octets to a buffer, names uncompressed and case preserved. A relative name is completed by the
-/// origin, whose octets are given. With no octets of an origin it is taken as fully qualified. The text need not be UTF-8.
+/// Reads the RDATA of a line of a zone file, which follows the type there (RFC 1035, section 5.1; RFC 3597, section 5;
+/// RFC 9460, section 2.1), and writes its octets to a buffer, names uncompressed and case preserved. A relative name is
+/// completed by the origin, whose octets are given. With no octets of an origin it is taken as fully qualified. The
+/// text need not be UTF-8.
 #[unsafe(no_mangle)]
 pub extern "C" fn dns_rdata_parse(
     alloc: Global,

@@ -206,10 +206,10 @@ fn data_end(message: &[u8], offset: usize, length: u16) -> Option<&[u8]>
     Some(&message[..offset + length as usize])
 }
 
-/// Finds an option of OPT, or a parameter of SVCB or HTTPS: sets its code or key, the offset of its octets in the message, and how
-/// many they are. Parts are counted from 0, in the order of the message. If there is none of this number, the status is `ABSENT`,
-/// as for every type without parts. Only the lengths are looked at, and no value is read, so parts are also found in octets that
-/// are not RDATA of the type. Allocates nothing.
+/// Finds an option of OPT, or a parameter of SVCB or HTTPS: sets its code or key, the offset of its octets in the
+/// message, and how many they are. Parts are counted from 0, in the order of the message. If there is none of this
+/// number, the status is `ABSENT`, as for every type without parts. Only the lengths are looked at, and no value is
+/// read, so parts are also found in octets that are not RDATA of the type. Allocates nothing.
 #[unsafe(no_mangle)]
 pub extern "C" fn dns_rdata_part(
     rdata: &Rdata<'_>,
@@ -249,8 +249,8 @@ pub extern "C" fn dns_rdata_part(
     }
 }
 
-/// Sets a cursor to the first option or parameter. It looks at each length once, as `dns_rdata_part` does, and returns what that
-/// call returns for index 0. With a status other than `OK` the cursor has no parts. Does not allocate.
+/// Sets a cursor to the first option or parameter. It looks at each length once, as `dns_rdata_part` does, and returns
+/// what that call returns for index 0. With a status other than `OK` the cursor has no parts. Does not allocate.
 #[unsafe(no_mangle)]
 pub extern "C" fn dns_rdata_parts_begin(rdata: &Rdata<'_>, parts: &mut PartsCursor) -> u32
     ensures ok { result ≡ OK → Of rdata.now (λ m p n t. IsBefore m p n t 0 parts.new) }
@@ -274,8 +274,9 @@ pub extern "C" fn dns_rdata_parts_begin(rdata: &Rdata<'_>, parts: &mut PartsCurs
     status
 }
 
-/// Returns the part at the cursor, as `dns_rdata_part` returns it, and moves the cursor to the next one. After the last part it
-/// returns `ABSENT`. The data is that with which the cursor began. Each call takes the same time. Does not allocate.
+/// Returns the part at the cursor, as `dns_rdata_part` returns it, and moves the cursor to the next one. After the last
+/// part it returns `ABSENT`. The data is that with which the cursor began. Each call takes the same time. Does not
+/// allocate.
 #[unsafe(no_mangle)]
 pub extern "C" fn dns_rdata_parts_next(
     rdata: &Rdata<'_>,

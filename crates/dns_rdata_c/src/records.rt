@@ -100,8 +100,8 @@ fn record_of(offset: usize, step: &PassedRecord) -> Record
     }
 }
 
-/// Sets a cursor before the first record of a message, after its questions. The walk may follow 65,536 compression pointers. Allocates
-/// nothing.
+/// Sets a cursor before the first record of a message, after its questions. The walk may follow 65,536 compression
+/// pointers. Allocates nothing.
 #[unsafe(no_mangle)]
 pub extern "C" fn dns_rdata_records_begin(message: &[u8], records: &mut RecordsCursor) -> u32
     ensures ok { result ≡ OK → BeginsWalk message.now records.new }
@@ -132,12 +132,12 @@ pub extern "C" fn dns_rdata_records_begin(message: &[u8], records: &mut RecordsC
     }
 }
 
-/// Returns the record at the cursor, and moves the cursor to the next one. After the last record it returns `ABSENT`. The message is
-/// the one with which the cursor began. Allocates nothing.
+/// Returns the record at the cursor, and moves the cursor to the next one. After the last record it returns `ABSENT`.
+/// The message is the one with which the cursor began. Allocates nothing.
 ///
-/// If the RDATA is rejected, the status is its error, as `dns_rdata_check` returns it; the record is told, and the walk goes on.
-/// With `RECORD` no record is encoded there, and with `POINTERS` the record follows more compression pointers than the walk may; the
-/// walk has ended.
+/// If the RDATA is rejected, the status is its error, as `dns_rdata_check` returns it; the record is told, and the walk
+/// goes on. With `RECORD` no record is encoded there, and with `POINTERS` the record follows more compression pointers
+/// than the walk may; the walk has ended.
 #[unsafe(no_mangle)]
 pub extern "C" fn dns_rdata_records_next(
     message: &[u8],

@@ -9,8 +9,8 @@ use crate::status::{BUFFER, MEMORY, NO_TYPE, NOT_UTF8, OK};
 use dns_rdata::RecordType;
 use std::alloc::Global;
 
-/// Writes the name of the type of this number to a buffer, with a 0 after it, and sets its length: the name in capitals, or
-/// `TYPE` and the number (RFC 3597, section 5).
+/// Writes the name of the type of this number to a buffer, with a 0 after it, and sets its length: the name in
+/// capitals, or `TYPE` and the number (RFC 3597, section 5).
 #[unsafe(no_mangle)]
 pub extern "C" fn dns_rdata_type_text(
     alloc: Global,

@@ -83,9 +83,9 @@ fn fault_of(record_type: RecordType, text: &[u8], error: &ParseError) -> TextFau
     }
 }
 
-/// Writes why a text gives no RDATA to a buffer, with a 0 after it, and sets `count` to the length: the name of the field of a missing
-/// token, or what is wrong; nothing if the status of `dns_rdata_parse` says all. Sets the token and the field that the error is about.
-/// If the text gives RDATA, the status is `ABSENT`.
+/// Writes why a text gives no RDATA to a buffer, with a 0 after it, and sets `count` to the length: the name of the
+/// field of a missing token, or what is wrong; nothing if the status of `dns_rdata_parse` says all. Sets the token and
+/// the field that the error is about. If the text gives RDATA, the status is `ABSENT`.
 #[unsafe(no_mangle)]
 pub extern "C" fn dns_rdata_parse_why(
     alloc: Global,

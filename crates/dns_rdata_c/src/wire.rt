@@ -19,8 +19,9 @@ pub fn whole_len(view: &RDataRef<'_>) -> usize
     view.put_whole(&mut [])
 }
 
-/// Puts the uncompressed RDATA into a buffer, names with their case preserved, and sets `count` to the number of octets. These
-/// octets mean the same in every message. A DNSSEC signer or validator starts from them. Allocates nothing.
+/// Puts the uncompressed RDATA into a buffer, names with their case preserved, and sets `count` to the number of
+/// octets. These octets mean the same in every message. A DNSSEC signer or validator starts from them. Allocates
+/// nothing.
 #[unsafe(no_mangle)]
 pub extern "C" fn dns_rdata_wire(
     alloc: Global,
@@ -48,11 +49,11 @@ pub extern "C" fn dns_rdata_wire(
     OK
 }
 
-/// Puts the canonical octets of the RDATA into a buffer, and sets `count` to their number. They are this library's own form, for
-/// equality, order and hashing: names uncompressed and lowercased (of SVCB, HTTPS and ANAME, too), the options of OPT sorted, the
-/// bitmap of CSYNC minimal. Values of one type are equal exactly if these octets are the same, and are ordered as they are. They are
-/// not for DNSSEC: a signer starts from `dns_rdata_wire`. With `BUFFER` and `TOO_LONG` the buffer holds as many as fit.
-/// Allocates nothing.
+/// Puts the canonical octets of the RDATA into a buffer, and sets `count` to their number. They are this library's own
+/// form, for equality, order and hashing: names uncompressed and lowercased (of SVCB, HTTPS and ANAME, too), the
+/// options of OPT sorted, the bitmap of CSYNC minimal. Values of one type are equal exactly if these octets are the
+/// same, and are ordered as they are. They are not for DNSSEC: a signer starts from `dns_rdata_wire`. With `BUFFER` and
+/// `TOO_LONG` the buffer holds as many as fit. Allocates nothing.
 #[unsafe(no_mangle)]
 pub extern "C" fn dns_rdata_canonical(
     alloc: Global,
