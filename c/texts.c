@@ -1,4 +1,4 @@
-/* The calls of dns_rdata.h that return a text of the library: it is static, and never freed. They need nothing. */
+/* The calls of dns_rdata.h that return a text of the library, which is static and never freed. They are plain C, and tested. */
 #include "dns_rdata.h"
 
 const char *dns_rdata_strerror(dns_rdata_status status) {

@@ -1,7 +1,8 @@
 /*
  * The RDATA of DNS resource records: checked, compared, written as canonical or as uncompressed octets, printed, and parsed from
  * text. The library behind these calls is proved: for every message, offset, length and type each call does what is written here,
- * reads and writes only the buffers that it is given, and returns.
+ * reads and writes only the buffers that it is given, and returns. Two calls that return fixed texts, dns_rdata_strerror and
+ * dns_rdata_version, are plain C.
  *
  * What every call has in common:
  *
@@ -14,12 +15,12 @@
  *    its usual result if it can do without that memory. Calls that never allocate say so.
  *  - Calls keep no state: threads may call at the same time. Not for signal handlers. A stack of 40 KiB is enough, and of 96 KiB
  *    for OPT of more than 8,195 octets.
- *  - The answer is a status, DNS_RDATA_OK or why not. From DNS_RDATA_REFUSED on, the octets are the data of no record of that
+ *  - Calls return a status, DNS_RDATA_OK or why not. From DNS_RDATA_REFUSED on, the octets are the data of no record of that
  *    type; from DNS_RDATA_DAMAGED on, the message is damaged; from DNS_RDATA_NO_DATA_TEXT on, the text is of none, or is no name.
- *    None of these is ever answered for octets, messages or texts that are right. A later version may have more statuses in these
+ *    None of these is returned for octets, messages or texts that are right. A later version may have more statuses in these
  *    ranges and below them: treat a status that you do not know by its range.
- *  - Where octets or a text do not fit into the buffer the answer is DNS_RDATA_BUFFER, and *count tells how many octets they
- *    are (of a text without the 0 behind it, as snprintf does), so the call can be made again; a buffer of length 0 asks
+ *  - If octets or a text do not fit into the buffer, the call returns DNS_RDATA_BUFFER, and *count tells how many octets they
+ *    are (of a text without the 0 after it, as snprintf does), so the call can be made again; a buffer of length 0 asks
  *    for that number. *count is set with DNS_RDATA_OK and DNS_RDATA_BUFFER, and otherwise left as it was.
  *  - RDATA is rejected for the first of these reasons that holds: the type is never read (DNS_RDATA_NEVER); the record takes
  *    another number of octets than `length` (DNS_RDATA_LENGTH); the record itself has an error (the other statuses). A record stops
@@ -64,7 +65,7 @@ extern "C" {
 #define DNS_RDATA_VERSION_MINOR 1
 #define DNS_RDATA_VERSION_PATCH 0
 
-/* The status that a call answers. */
+/* The status that a call returns. */
 typedef uint32_t dns_rdata_status;
 
 enum {
@@ -266,7 +267,7 @@ DNS_RDATA_NONNULL dns_rdata_status dns_rdata_text(const struct dns_rdata *data, 
                                                   size_t *count);
 
 /*
- * Data from its text in a zone file, as it stands behind the type, into the octets of dns_rdata_wire (RFC 1035, 5.1; RFC 9460, 2.1;
+ * Data from its text in a zone file, as it comes after the type, into the octets of dns_rdata_wire (RFC 1035, 5.1; RFC 9460, 2.1;
  * the RFCs of the types). The form of unknown data, \# and octets, is read of every type (RFC 3597, 5), and of a type without a form
  * of its own, of OPT, NULL, ANAME and 0 no other is. The text is octets, and need not be UTF-8. `origin` is the octets of a name,
  * with its 0 at the end, by which relative names are completed; with origin_length 0 there is none, and they stand as if they were
@@ -394,7 +395,7 @@ DNS_RDATA_NONNULL dns_rdata_status dns_rdata_name_text(const uint8_t *message, s
 DNS_RDATA_NONNULL dns_rdata_status dns_rdata_name_from_text(const char *text, size_t text_length, const uint8_t *origin,
                                                             size_t origin_length, uint8_t *out, size_t out_length, size_t *count);
 
-/* The type's name in capitals, or TYPE and its number (RFC 3597, 5), with a 0 behind it. */
+/* The type's name in capitals, or TYPE and its number (RFC 3597, 5), with a 0 after it. */
 DNS_RDATA_NONNULL dns_rdata_status dns_rdata_type_text(uint16_t type, char *out, size_t out_length, size_t *count);
 
 /* The type of a name in capitals, or of TYPE and a number. DNS_RDATA_NO_TYPE where the text is of none. Takes no memory. */
