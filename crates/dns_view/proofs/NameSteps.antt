@@ -1,8 +1,8 @@
 -- The steps by which a name is gone over.
-use Rattle.std.proofs.Common.{◌≡◌, ℕ, ◌+◌, ◌-◌, ◌*◌, ◌≤◌, ◌<◌, List, [], ◌++◌, length, take, get_or, Option, Some, None, true, refl, arith, length-append, ap}
+use Rattle.std.proofs.Common.{◌≡◌, ℕ, ◌+◌, ◌-◌, ◌*◌, ◌≤◌, ◌<◌, List, [], ◌++◌, length, take, drop, get_or, Option, Some, None, true, refl, arith, length-append, length-take, length-drop, ap}
 use Rattle.dns_fields.specs.{Labels.wire, Labels.DomainName, Names.IsNameIn}
 use Rattle.dns_labels.specs.{Labels.name_of, Reading.IsRun, Reading.AddsRun}
-use Rattle.dns_labels.proofs.{ReadingSteps.SoFar, ReadingSteps.so_far_none, ReadingSteps.at_zero, ReadingSteps.at_pointer, ReadingRuns.Pending}
+use Rattle.dns_labels.proofs.{ReadingSteps.SoFar, ReadingSteps.so_far_none, ReadingSteps.at_zero, ReadingSteps.at_pointer, ReadingSteps.onward, ReadingSteps.one_more, ReadingRuns.Pending}
 use Rattle.dns_labels.proofs.{ReadingRuns.first_run, ReadingRuns.next_run}
 use Rattle.dns_labels.proofs.{ReadingRuns.first_refused, ReadingRuns.next_refused, ReadingRuns.no_more, Found.name_found}
 use Rattle.dns_view.specs.NameEnds.{NameEnds, SkipsRun}
@@ -16,6 +16,36 @@ pub record Skipped (message : List ℕ) (offset at before len : ℕ) : Type 0 wh
 
 pub skipped_none : {message : List ℕ} {offset before : ℕ} → offset ≤ length message → before ≤ 254 → Skipped message offset offset before before
 skipped_none within few = record { octets = []; so = so_far_none within (omega arith); len_is = omega arith; room = few }
+
+-- with one label more, if what follows it is within the message and the name is not too long
+pub one_longer : {message : List ℕ} {offset at before n : ℕ} → Skipped message offset at before (before + (at - offset)) → n ≡ get_or message at 0
+    → 1 ≤ n → n ≤ 63 → at + (n + 1) ≤ length message → before + (at + (n + 1) - offset) ≤ 254
+    → Skipped message offset (at + (n + 1)) before (before + (at + (n + 1) - offset))
+one_longer {message} {offset} {at} {before} {n} s n_is low high inside room =
+    let k = get_or message at 0 in
+    let part = take (k + 1) (drop at message) in
+    let size = length-take (k + 1) (drop at message) in
+    let rest = length-drop at message in
+    let start = s.so.at_is in
+    rw n_is (record {
+      octets = s.octets ++ part;
+      so = one_more s.so (omega (arith, n_is)) (omega (arith, n_is)) (omega (arith, n_is)) (omega (arith, s.len_is, n_is, start)) refl;
+      len_is = omega (arith, s.len_is, length-append s.octets part, size, rest, n_is, start);
+      room = omega (arith, n_is);
+    })
+
+-- so much of the message is there if a run is: a label, and an octet behind it
+pub label_left : {message : List ℕ} {offset at before n : ℕ} {front : List (List ℕ)} {stop : Option ℕ} {end : ℕ}
+    → Skipped message offset at before (before + (at - offset)) → n ≡ get_or message at 0 → 1 ≤ n → n ≤ 63
+    → IsRun message offset front stop end → before + length (wire front) ≤ 254
+    → (at + (n + 1) < length message) × (before + (at + (n + 1) - offset) ≤ 254)
+label_left {message} {offset} {at} {before} {n} s n_is low high run room =
+    let o = onward s.so run in
+    let l = o.1.label (omega (arith, n_is)) (omega (arith, n_is)) in
+    let start = s.so.at_is in
+    let few : before + (at + (n + 1) - offset) ≤ 254 = omega (arith, l.1, o.2, s.len_is, n_is, start, room) in
+    let more = one_longer s n_is low high (omega (arith, l.0, n_is)) few in
+    (omega (arith, (onward {new = more.octets} more.so run).1.some), few)
 
 pub skips_run : {message : List ℕ} {offset at before len : ℕ} {stop : Option ℕ} {end : ℕ} (s : Skipped message offset at before len)
     → AddsRun message offset stop end [] s.octets → SkipsRun message offset stop end before len

@@ -19,6 +19,9 @@ pub(crate) struct Run {
 }
 
 // Goes over labels up to an octet 0 or a compression pointer.
+//
+// The name has at most 254 octets with them, so whatever ends them is encoded before `most`. One comparison with it finds
+// both damage and a name that is too long.
 #[inline]
 #[tactic(auto, using(crate::proofs::NameSteps::pointer_skips, crate::proofs::NameSteps::zero_skips, crate::proofs::NameSteps::skipped_none))]
 pub(crate) fn skip_run(message: &[u8], offset: usize, before: usize) -> Option<Run>
@@ -29,38 +32,37 @@ pub(crate) fn skip_run(message: &[u8], offset: usize, before: usize) -> Option<R
     ensures none { IfNone result ((front : List (List ℕ)) (stop : Option ℕ) (end : ℕ) →
         IsRun message.now offset front stop end → before + length (wire front) ≤ 254 → ⊥) }
 {
-    let mut at = offset;
-    let mut len = before;
-    'labels: loop {
-        if at >= message.len() {
-            return None;
-        }
-        let first = message[at];
-        let count = first as usize;
-        if count == 0 {
-            return Some(Run {
-                end: at + 1,
-                next: None,
-                octets: len,
-            });
-        }
-        if count >= 192 {
-            if message.len() - at < 2 {
-                return None;
-            }
-            let second = message[at + 1];
-            return Some(Run {
-                end: at + 2,
-                next: Some((count - 192) * 256 + second as usize),
-                octets: len,
-            });
-        }
-        if count >= 64 || message.len() - at <= count || len + count >= MAX_OCTETS {
-            return None;
-        }
-        at += count + 1;
-        len += count + 1;
+    if offset == message.len() {
+        return None;
     }
+    let most = message.len().min(offset + (MAX_OCTETS - before) + 1);
+    let mut at = offset;
+    let mut first = message[at] as usize;
+    'labels: while first != 0 && first < 64 {
+        let next = at + (first + 1);
+        if next >= most {
+            return None;
+        }
+        at = next;
+        first = message[at] as usize;
+    }
+    let octets = before + (at - offset);
+    if first == 0 {
+        return Some(Run {
+            end: at + 1,
+            next: None,
+            octets,
+        });
+    }
+    if first < 192 || message.len() - at < 2 {
+        return None;
+    }
+    let second = message[at + 1];
+    Some(Run {
+        end: at + 2,
+        next: Some((first - 192) * 256 + second as usize),
+        octets,
+    })
 }
 
 // Where the encoding of a name ends, if one is there, and how many compression pointers were followed.

@@ -1,37 +1,25 @@
-use Rattle.std.proofs.Common.{arith, take, drop, get_or, refl, ◌+◌, ◌++◌, length-append, length-take, length-drop}
-use Rattle.dns_labels.proofs.ReadingSteps.{onward, one_more}
-use Rattle.dns_view.proofs.names.skip_run.Goals.{then-count-ge64-via-then-count-ge64, then-count-ge64-via-else-count-ge64+then-message-at}
-use Rattle.dns_view.proofs.names.skip_run.Goals.{then-count-ge64-via-else-count-ge64+else-message-at+then-len-count-ge-MAX_OCTETS}
+use Rattle.std.proofs.Common.{arith, refl}
+use Rattle.dns_labels.proofs.ReadingSteps.{onward}
+use Rattle.dns_view.proofs.NameSteps.{label_left, one_longer, skipped_none}
 use Rattle.dns_view.proofs.names.skip_run.Goals as goal
 
-pub returns-then-at-message-clause-none : goal.returns-then-at-message-clause-none
-returns-then-at-message-clause-none c = λ front stop end run room. let o = onward c.labels.invariant.so run in omega (arith, o.1.some)
+pub returns-then-offset-message-clause-none : goal.returns-then-offset-message-clause-none
+returns-then-offset-message-clause-none c = λ front stop end run room.
+    omega (arith, (onward (skipped_none {before = c.args.before} (omega arith) (omega arith)).so run).1.some)
 
-pub returns-then-message-at-lt2-clause-none : goal.returns-then-message-at-lt2-clause-none
-returns-then-message-at-lt2-clause-none c = λ front stop end run room.
-    let o = onward c.labels.invariant.so run in
-    omega (arith, (o.1.pointer (omega arith)).1)
+pub returns-then-next-most-clause-none : goal.returns-then-next-most-clause-none
+returns-then-next-most-clause-none c = λ front stop end run room.
+    let i = c.labels.invariant in
+    let l = label_left i.0 i.1 (omega arith) (omega arith) run room in
+    omega (arith, l.0, l.1)
 
-pub returns-then-count-ge64-clause-none : goal.returns-then-count-ge64-clause-none
-returns-then-count-ge64-clause-none c = λ front stop end run room.
-    let o = onward c.labels.invariant.so run in
-    let k = c.labels.invariant.len_is in
-    elim c.then-count-ge64.branch [
-      | then-count-ge64-via-then-count-ge64 w ↦ omega (arith, (o.1.pointer (omega arith)).0)
-      | then-count-ge64-via-else-count-ge64+then-message-at w ↦ omega (arith, (o.1.label (omega arith) (omega arith)).0)
-      | then-count-ge64-via-else-count-ge64+else-message-at+then-len-count-ge-MAX_OCTETS w ↦ omega (arith, (o.1.label (omega arith) (omega arith)).1, o.2, k)
-    ]
+pub returns-then-first-lt192-clause-none : goal.returns-then-first-lt192-clause-none
+returns-then-first-lt192-clause-none c = λ front stop end run room.
+    let i = c.labels.invariant in
+    let o = onward i.0.so run in
+    omega (arith, o.1.pointer (omega (arith, i.1)), i.1)
 
 pub labels-preserved : goal.labels-preserved
 labels-preserved c =
-    let s = c.labels.invariant in
-    let n = get_or c.args.message.now c.labels.at 0 in
-    let part = take (n + 1) (drop c.labels.at c.args.message.now) in
-    let size = length-take (n + 1) (drop c.labels.at c.args.message.now) in
-    let rest = length-drop c.labels.at c.args.message.now in
-    record {
-      octets = s.octets ++ part;
-      so = one_more s.so (omega arith) (omega arith) (omega arith) (omega (arith, s.len_is)) refl;
-      len_is = omega (arith, s.len_is, length-append s.octets part, size, rest);
-      room = omega arith;
-    }
+    let i = c.labels.invariant in
+    (one_longer i.0 i.1 (omega arith) (omega arith) (omega arith) (omega (arith, i.0.so.at_is)), refl, omega arith)
