@@ -9,3 +9,4 @@ pub mod Asks
 pub mod Starts
 pub mod Examples
 pub mod RecordFields
+pub mod CommonRows

@@ -10,6 +10,7 @@
 
 ghost use Rattle.dns_message.specs.Examples.{MessageExamples};
 
+mod common;
 pub mod edns;
 pub mod error;
 pub mod header;

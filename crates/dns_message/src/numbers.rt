@@ -12,7 +12,7 @@ pub(crate) fn number_at(message: &[u8], offset: usize) -> u16
     requires { offset + 2 ≤ length message.now }
     ensures { Field message.now offset (Number 2) result (offset + 2) }
 {
-    let mut walk = Walk::at(message, offset);
+    let mut walk = Walk::at(&message[offset..offset + 2], 0);
     match walk.read_u16() {
         Ok(number) => number,
         // Unreachable: two octets are there.
@@ -26,7 +26,7 @@ pub(crate) fn long_at(message: &[u8], offset: usize) -> u32
     requires { offset + 4 ≤ length message.now }
     ensures { Field message.now offset (Number 4) result (offset + 4) }
 {
-    let mut walk = Walk::at(message, offset);
+    let mut walk = Walk::at(&message[offset..offset + 4], 0);
     match walk.read_u32() {
         Ok(number) => number,
         // Unreachable: four octets are there.

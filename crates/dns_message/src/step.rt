@@ -1,10 +1,11 @@
 //! A step of a walk over records, for callers that keep numbers alone.
 
-ghost use Rattle.std.specs.Prelude.{◌≤◌, length, IfOk, IfErr, OnOk};
+ghost use Rattle.std.specs.Prelude.{◌+◌, ◌≤◌, length, IfOk, IfErr, OnOk};
 ghost use Rattle.dns_view.specs.Pointers.{Leaves};
 ghost use Rattle.dns_message.specs.{Passing.TellsContent, Pointers.DataPointers, Pointers.RecordPointers, Pointers.Takes};
 ghost use Rattle.dns_message.specs.{Readings.IsFound, Stops.IsRecordStop};
 
+use crate::common::has_common_rdata;
 use crate::error::{Fault, Section};
 use crate::reading::{FixedFields, read_record};
 use crate::record_ref::rdata_of;
@@ -27,12 +28,15 @@ pub struct PassedRecord {
 // Whether a record has RDATA, or why that is rejected. Takes the compression pointers of the RDATA off `left`.
 #[inline]
 fn content_of(message: &[u8], fields: &FixedFields, left: &mut usize) -> Result<bool, DecodeError>
-    requires { fields.now.rdata ≤ length message.now }
+    requires { fields.now.rdata + fields.now.rdlength ≤ length message.now }
     ensures told { TellsContent message.now fields.now result }
     ensures pointers { Leaves
         (DataPointers message.now fields.now.record_type fields.now.class fields.now.rdlength fields.now.rdata)
         left.old left.new }
 {
+    if has_common_rdata(message, fields, left) {
+        return Ok(true);
+    }
     match rdata_of(message, fields, left) {
         Ok(Some(_)) => Ok(true),
         Ok(None) => Ok(false),

@@ -1,0 +1,62 @@
+//! RDATA of the types that most records have, for which a few comparisons tell that it is there.
+
+ghost use Rattle.std.specs.Prelude.{◌≡◌, ◌+◌, ◌≤◌, length};
+ghost use Rattle.std.specs.Bool.{OnTrue, OnFalse};
+ghost use Rattle.dns_view.specs.{NameEnds.NameEnds, Pointers.NamePointers, Pointers.Leaves};
+ghost use Rattle.dns_message.specs.Passing.{PassesRData};
+
+use crate::reading::FixedFields;
+use dns_view::Walk;
+use dns_view::names::pass_name;
+
+// The numbers of these types (RFC 1035, section 3.2.2; RFC 3596, section 2.1).
+const A: u16 = 1;
+
+const NS: u16 = 2;
+
+const CNAME: u16 = 5;
+
+const PTR: u16 = 12;
+
+const MX: u16 = 15;
+
+const AAAA: u16 = 28;
+
+// Whether a name is encoded from one offset to another. Takes its compression pointers off `left` if it is.
+#[inline]
+fn is_name(message: &[u8], start: usize, end: usize, left: &mut usize) -> bool
+    requires { start ≤ length message.now }
+    ensures ends { OnTrue result (NameEnds message.now start end) }
+    ensures pointers { OnTrue result (Leaves (NamePointers message.now start) left.old left.new) }
+    ensures unchanged { OnFalse result (left.new ≡ left.old) }
+{
+    let mut after = *left;
+    match pass_name(message, start, &mut after) {
+        Some(found) if found == end => {
+            *left = after;
+            true
+        }
+        _ => false,
+    }
+}
+
+// Whether a record has RDATA that is as its type asks, if its type is a common one: `false` says nothing about the record.
+// Takes the compression pointers of the RDATA off `left` if it does.
+#[inline]
+pub(crate) fn has_common_rdata(message: &[u8], fields: &FixedFields, left: &mut usize) -> bool
+    requires { fields.now.rdata + fields.now.rdlength ≤ length message.now }
+    ensures there { OnTrue result (PassesRData message.now fields.now left.old left.new) }
+    ensures unchanged { OnFalse result (left.new ≡ left.old) }
+{
+    // For the proof: brings in that the message is octets.
+    let _start = Walk::at(message, fields.rdata).index();
+    let start = fields.rdata;
+    let len = fields.rdlength as usize;
+    match fields.record_type {
+        A => len == 4,
+        AAAA => len == 16,
+        NS | CNAME | PTR if len > 0 => is_name(message, start, start + len, left),
+        MX if len > 2 => is_name(message, start + 2, start + len, left),
+        _ => false,
+    }
+}
