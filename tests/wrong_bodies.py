@@ -18,6 +18,7 @@ import shutil
 import subprocess
 import sys
 import tempfile
+import time
 from concurrent.futures import ThreadPoolExecutor
 
 TOP = os.path.dirname(os.path.dirname(os.path.abspath(__file__)))
@@ -105,6 +106,7 @@ def refused(said, status):
 def try_edit(crates, folder, name, edit):
     """Tries an edit that names a function. Returns whether the prover refuses it, and what to print."""
     only, changes = read_edit(f"{EDITS}/{name}/{edit}")
+    begun = time.monotonic()
     with tempfile.TemporaryDirectory() as copy:
         for part in ("src", "specs", "proofs"):
             if os.path.isdir(f"{TOP}/crates/{name}/{part}"):
@@ -114,7 +116,7 @@ def try_edit(crates, folder, name, edit):
             command = [f"{folder}/bin/rattle", "check", *words(crates, name, folder), "--only", only]
             ran = subprocess.run(command, cwd=copy, stdout=subprocess.PIPE, stderr=subprocess.STDOUT, text=True, errors="replace")
             wrong = refused(ran.stdout, ran.returncode)
-    return wrong is None, f"{name} {edit}: {'refused, as it must be' if wrong is None else wrong}"
+    return wrong is None, f"{name} {edit}: {'refused, as it must be' if wrong is None else wrong} ({time.monotonic() - begun:.0f} s)"
 
 
 def by_function(names):

@@ -212,7 +212,8 @@ impl<'a> MessageRef<'a> {
     /// [`resume`](MessageRef::resume) and a call of `next` do, for callers that keep numbers alone. Allocates nothing.
     ///
     /// Returns `None` if no record is left, or if no walk can be there, as for `resume`; `progress` is then unchanged. A
-    /// record whose RDATA is rejected is passed.
+    /// record whose RDATA is rejected is passed. The name in the RDATA of a CNAME, MX, NS or PTR record that is rejected is
+    /// gone over twice, and its compression pointers are counted once.
     ///
     /// # Errors
     ///
