@@ -22,7 +22,7 @@ pub use letter::{Letter, Letters};
 pub use mnemonics::{Mnemonic, number_named};
 pub use names::put_name;
 pub use numbers::number_of;
-pub use remaining::{all_base64, all_hex, is_unknown_mark, no_more, unknown_data};
+pub use remaining::{all_base64, all_hex, is_unknown_mark, no_more, put_hex, unknown_data};
 pub use spans::token_span;
 pub use texts::{ipv4_of, ipv6_of, put_string, put_text, ttl_of, type_of};
 pub use tokens::{ZoneToken, ZoneTokens};

@@ -8,6 +8,7 @@ ghost use Rattle.dns_zone_tokens.specs.NameTokens.{name, name_octets, is_alone, 
 
 use crate::field::NameField;
 use crate::letter::Letters;
+use crate::quiet::quiet_len;
 use crate::tokens::ZoneToken;
 use arrayvec::ArrayVec;
 use dns_names_wire::Name;
@@ -121,7 +122,7 @@ fn plain_len(text: &[u8]) -> usize
     ensures plain { (k : ℕ) → k < result → (slice_index text.now k ≢ 46) × (slice_index text.now k ≢ 92) }
     ensures stops { result < length text.now → (slice_index text.now result ≡ 46) ⊎ (slice_index text.now result ≡ 92) }
 {
-    let mut at = 0usize;
+    let mut at = quiet_len(0, b'.', b'\\', text);
     'octets: while at < text.len() && text[at] != b'.' && text[at] != b'\\' {
         at += 1;
     }

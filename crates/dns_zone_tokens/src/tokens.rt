@@ -1,9 +1,9 @@
 //! The tokens of a text of a zone file (RFC 1035, section 5.1).
 
-ghost use Rattle.std.specs.Prelude.{◌≡◌, ℕ, ◌<◌, ◌≤◌, ◌∷◌, false, true, [], length, slice_index, Ok, Err, IfSome, IfNone, IfOk, IfErr, OnOk, OnErr};
+ghost use Rattle.std.specs.Prelude.{◌≡◌, ℕ, Bool, ◌<◌, ◌≤◌, ◌∷◌, false, true, [], length, slice_index, Ok, Err, IfSome, IfNone, IfOk, IfErr, OnOk, OnErr};
 ghost use Rattle.dns_zone_tokens.specs.{Quiet.IsQuiet, Spans.lefts_at, Spans.lefts_from, Views.token_value};
 ghost use Rattle.dns_zone_tokens.specs.Tokens.{begins_gap, ends_run, between, comment, over, over_comment, tokens_read_from, tokens_at};
-ghost use Rattle.dns_zone_tokens.specs.Tokens.{with_token, zone_tokens};
+ghost use Rattle.dns_zone_tokens.specs.Tokens.{quotes, with_token, zone_tokens};
 ghost use Rattle.dns_zone_tokens.specs.TokenSteps.{NoGap, RunTaken, QuotesTaken, QuotesRefused};
 
 use crate::letter::Letters;
@@ -109,6 +109,17 @@ impl<'a> ZoneTokens<'a> {
     {
         if self.rest.len() == 0 && self.depth == 0 {
             return Ok(None);
+        }
+        let (text, is_joined) = behind_blank(self.rest, self.joined);
+        if text.len() > 0 && text[0] == b'"' {
+            let (raw, rest) = quoted_octets(&text[1..])?;
+            self.rest = rest;
+            self.joined = true;
+            return Ok(Some(ZoneToken {
+                raw,
+                quoted: true,
+                joined: is_joined,
+            }));
         }
         let at = self.again().skip_gaps()?;
         if at.rest.len() == 0 {
@@ -359,6 +370,16 @@ fn run_len_from(text: &[u8], start: usize) -> usize
         }
     }
     at
+}
+
+// The octets before the `"` that closes the quotes, and the text after it.
+fn quoted_octets(text: &[u8]) -> Result<(&[u8], &[u8]), TokensError>
+    ensures token { IfOk result (λ r. (depth : ℕ) (joined : Bool) → tokens_read_from (quotes depth joined []) text.now ≡ with_token (record { octets = r.0.now; quoted = true; joined = joined }) (tokens_read_from (between depth true) r.1.now)) }
+    ensures shorter { IfOk result (λ r. length r.1.now < length text.now) }
+    ensures refused { IfErr result (QuotesRefused text.now) }
+{
+    let len = quoted_len(text)?;
+    Ok((&text[..len], &text[len + 1..]))
 }
 
 // How many octets are before the `"` that closes the quotes.
