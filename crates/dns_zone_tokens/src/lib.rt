@@ -20,7 +20,7 @@ pub use field::{HexField, NameField, StringField};
 pub use fields::{next_number, some_token};
 pub use letter::{Letter, Letters};
 pub use mnemonics::{Mnemonic, number_named};
-pub use names::put_name;
+pub use names::{put_name, put_name_within};
 pub use numbers::number_of;
 pub use remaining::{all_base64, all_hex, is_unknown_mark, no_more, put_hex, unknown_data};
 pub use spans::token_span;
