@@ -1,6 +1,6 @@
 //! The tokens of a text of a zone file (RFC 1035, section 5.1).
 
-ghost use Rattle.std.specs.Prelude.{◌≡◌, ℕ, Bool, ◌<◌, ◌≤◌, ◌∷◌, false, true, [], length, slice_index, Ok, Err, IfSome, IfNone, IfOk, IfErr, OnOk, OnErr};
+ghost use Rattle.std.specs.Prelude.{◌≡◌, ℕ, ◌<◌, ◌≤◌, ◌∷◌, false, true, [], length, slice_index, Ok, Err, IfSome, IfNone, IfOk, IfErr, OnOk, OnErr};
 ghost use Rattle.dns_zone_tokens.specs.{Quiet.IsQuiet, Spans.lefts_at, Spans.lefts_from, Views.token_value};
 ghost use Rattle.dns_zone_tokens.specs.Tokens.{begins_gap, ends_run, between, comment, over, over_comment, tokens_read_from, tokens_at};
 ghost use Rattle.dns_zone_tokens.specs.Tokens.{quotes, with_token, zone_tokens};
@@ -87,7 +87,10 @@ impl<'a> ZoneTokens<'a> {
         ensures unchanged { OnErr result (self.new ≡ self.old) }
         ensures stays { IfOk result (λ o. IfNone o (self.new ≡ self.old)) }
     {
-        match plain_token(self.rest, self.joined) {
+        if self.rest.len() == 0 && self.depth == 0 {
+            return Ok(None);
+        }
+        match near_token(self.rest, self.joined) {
             Some((token, rest)) => {
                 self.rest = rest;
                 self.joined = true;
@@ -97,7 +100,7 @@ impl<'a> ZoneTokens<'a> {
         }
     }
 
-    // Does the same, whatever comes first.
+    // Does the same, whatever comes first, and makes all errors.
     #[inline(never)]
     fn next_other(&mut self) -> Result<Option<ZoneToken<'a>>, TokensError>
         ensures token { IfOk result (λ o. IfSome o (λ w. tokens_at self.old ≡ with_token (token_value w) (tokens_at self.new))) }
@@ -107,20 +110,6 @@ impl<'a> ZoneTokens<'a> {
         ensures unchanged { OnErr result (self.new ≡ self.old) }
         ensures stays { IfOk result (λ o. IfNone o (self.new ≡ self.old)) }
     {
-        if self.rest.len() == 0 && self.depth == 0 {
-            return Ok(None);
-        }
-        let (text, is_joined) = behind_blank(self.rest, self.joined);
-        if text.len() > 0 && text[0] == b'"' {
-            let (raw, rest) = quoted_octets(&text[1..])?;
-            self.rest = rest;
-            self.joined = true;
-            return Ok(Some(ZoneToken {
-                raw,
-                quoted: true,
-                joined: is_joined,
-            }));
-        }
         let at = self.again().skip_gaps()?;
         if at.rest.len() == 0 {
             return if at.depth > 0 {
@@ -280,14 +269,21 @@ fn behind_comment(text: &[u8]) -> &[u8]
     rest
 }
 
-// The first token and the text after it, if the token has no quotes and follows one blank or none, as most do.
+// The first token and the text after it, if it follows one blank or none, as most do. `None` also where its quotes have no
+// end, say: `next_other` then finds the error.
 #[inline(always)]
-fn plain_token<'a>(text: &'a [u8], joined: bool) -> Option<(ZoneToken<'a>, &'a [u8])>
+fn near_token<'a>(text: &'a [u8], joined: bool) -> Option<(ZoneToken<'a>, &'a [u8])>
     ensures token { IfSome result (λ r. (depth : ℕ) → tokens_read_from (between depth joined) text.now ≡ with_token (token_value r.0) (tokens_read_from (between depth true) r.1.now)) }
     ensures shorter { IfSome result (λ r. length r.1.now < length text.now) }
 {
     let (rest, is_joined) = behind_blank(text, joined);
-    if rest.len() == 0 || ends_run(rest[0]) {
+    if rest.len() == 0 {
+        return None;
+    }
+    if rest[0] == b'"' {
+        return quoted_token(&rest[1..], is_joined);
+    }
+    if begins_gap(rest[0]) {
         return None;
     }
     let len = run_len(rest);
@@ -297,6 +293,21 @@ fn plain_token<'a>(text: &'a [u8], joined: bool) -> Option<(ZoneToken<'a>, &'a [
         joined: is_joined,
     };
     Some((token, &rest[len..]))
+}
+
+// The token of the octets before the `"` that closes the quotes, and the text after it; `None` if nothing closes them.
+#[inline(always)]
+fn quoted_token<'a>(text: &'a [u8], joined: bool) -> Option<(ZoneToken<'a>, &'a [u8])>
+    ensures token { IfSome result (λ r. (depth : ℕ) → tokens_read_from (quotes depth joined []) text.now ≡ with_token (token_value r.0) (tokens_read_from (between depth true) r.1.now)) }
+    ensures shorter { IfSome result (λ r. length r.1.now < length text.now) }
+{
+    let len = quoted_len(text).ok()?;
+    let token = ZoneToken {
+        raw: &text[..len],
+        quoted: true,
+        joined,
+    };
+    Some((token, &text[len + 1..]))
 }
 
 // The text without the blank that it begins with, if it does, and whether a token then ends right there.
@@ -370,16 +381,6 @@ fn run_len_from(text: &[u8], start: usize) -> usize
         }
     }
     at
-}
-
-// The octets before the `"` that closes the quotes, and the text after it.
-fn quoted_octets(text: &[u8]) -> Result<(&[u8], &[u8]), TokensError>
-    ensures token { IfOk result (λ r. (depth : ℕ) (joined : Bool) → tokens_read_from (quotes depth joined []) text.now ≡ with_token (record { octets = r.0.now; quoted = true; joined = joined }) (tokens_read_from (between depth true) r.1.now)) }
-    ensures shorter { IfOk result (λ r. length r.1.now < length text.now) }
-    ensures refused { IfErr result (QuotesRefused text.now) }
-{
-    let len = quoted_len(text)?;
-    Ok((&text[..len], &text[len + 1..]))
 }
 
 // How many octets are before the `"` that closes the quotes.
