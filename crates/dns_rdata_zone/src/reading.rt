@@ -1,6 +1,6 @@
 //! RDATA read from a text of a zone file.
 
-ghost use Rattle.std.specs.Prelude.{◌≡◌, ◌↔◌, ◌⊎◌, IsTrue, IfSome, IfNone, IfOk, IfErr, length};
+ghost use Rattle.std.specs.Prelude.{◌≡◌, ◌↔◌, ◌⊎◌, [], IsTrue, IfSome, IfNone, IfOk, IfErr, length};
 ghost use Rattle.std.specs.{Bool.OnTrue, Option.option_copied};
 ghost use Rattle.dns_rdata.specs.Data.{shape, type_of, IsEmittable, data_octets};
 ghost use Rattle.dns_tokens.specs.Reads.{UnlessParseMemory};
@@ -11,9 +11,10 @@ ghost use Rattle.dns_rdata_zone.specs.ZoneGives.{GiveByRow, has_name, AreDataOf,
 ghost use Rattle.dns_rdata_zone.specs.ZoneSteps.{AreNoData, UnknownIs, UnknownIsNone, RowIs, RowIsNone};
 
 use crate::services::count_octets;
+use arrayvec::ArrayVec;
 use dns_rdata::{BinDecoder, Name, ParseError, RData, RecordType, Restrict};
 use dns_types::Octets;
-use dns_zone_rows::{row_octets, zone_row_of};
+use dns_zone_rows::{row_octets, short_row_octets, zone_row_of};
 use dns_zone_tokens::{ZoneTokens, is_unknown_mark, unknown_data};
 use std::alloc::Global;
 
@@ -110,6 +111,66 @@ fn begins_unmarked(text: &[u8]) -> bool
 
 // The value that the tokens of a text give by the zone row of the type.
 fn from_row(
+    alloc: Global,
+    record_type: RecordType,
+    text: &[u8],
+    origin: Option<&Name>,
+) -> Result<RData, ParseError>
+    ensures found { IfOk result (RowIs (option_copied origin.entry) record_type text.now) }
+    ensures kind { IfOk result (λ v. type_of v ≡ record_type) }
+    ensures emittable { IfOk result IsEmittable }
+    ensures refused { IfErr result (λ e. UnlessParseMemory e (RowIsNone (option_copied origin.entry) record_type text.now)) }
+    ensures why { IfErr result (λ e. (e ≡ ParseError.Memory) ⊎ ByRowFault (option_copied origin.entry) record_type text.now e) }
+{
+    match record_type {
+        RecordType::A
+        | RecordType::AAAA
+        | RecordType::CNAME
+        | RecordType::MX
+        | RecordType::NS
+        | RecordType::PTR
+        | RecordType::SRV => from_short_row(alloc, record_type, text, origin),
+        _ => from_long_row(alloc, record_type, text, origin),
+    }
+}
+
+// The same, of a type whose zone row has only addresses, numbers of 16 bits and one name. Its octets need no allocation.
+fn from_short_row(
+    alloc: Global,
+    record_type: RecordType,
+    text: &[u8],
+    origin: Option<&Name>,
+) -> Result<RData, ParseError>
+    ensures found { IfOk result (RowIs (option_copied origin.entry) record_type text.now) }
+    ensures kind { IfOk result (λ v. type_of v ≡ record_type) }
+    ensures emittable { IfOk result IsEmittable }
+    ensures refused { IfErr result (λ e. UnlessParseMemory e (RowIsNone (option_copied origin.entry) record_type text.now)) }
+    ensures why { IfErr result (λ e. (e ≡ ParseError.Memory) ⊎ ByRowFault (option_copied origin.entry) record_type text.now e) }
+{
+    let mut octets = ArrayVec::new();
+    short_row_data(record_type, text, origin, &mut octets)?;
+    read_octets(alloc, record_type, octets.as_slice())
+}
+
+// The octets that the tokens of a text give by such a zone row, in a buffer that is empty before.
+fn short_row_data(
+    record_type: RecordType,
+    text: &[u8],
+    origin: Option<&Name>,
+    octets: &mut ArrayVec<u8, 264>,
+) -> Result<(), ParseError>
+    requires { octets.old.items ≡ [] }
+    ensures reads { ReadsAll (GiveByRow (option_copied origin.entry) (zone_row_of record_type)) (λ _. octets.new.items) result (at_start text.now) }
+    ensures why { IfErr result (λ e. (e ≡ ParseError.Memory) ⊎ LacksRow record_type e ⊎ TokensFault (option_copied origin.entry) record_type text.now e) }
+{
+    match zone_row_of(record_type) {
+        Some(zone_row) => short_row_octets(&mut ZoneTokens::new(text), origin, &zone_row, octets),
+        None => Err(ParseError::UnsupportedRecordType(record_type)),
+    }
+}
+
+// The same of any type.
+fn from_long_row(
     alloc: Global,
     record_type: RecordType,
     text: &[u8],

@@ -14,7 +14,7 @@ use crate::zone_row::ZoneRest;
 use dns_types::ParseError;
 use dns_zone_parameters::put_parameters;
 use dns_zone_tokens::{
-    Field, HexField, StringField, ZoneTokens, all_base64, all_hex, no_more, put_string, some_token,
+    Field, HexField, StringField, ZoneTokens, all_base64, no_more, put_hex, put_string, some_token,
 };
 use std::alloc::Global;
 
@@ -80,8 +80,7 @@ fn add_hex(
     ensures why { IfErr result (λ e. (e ≡ ParseError.Memory) ⊎ LacksFirst (ParseError.MissingToken missing.entry) tokens.old e ⊎ HexFault field.now tokens.old e) }
 {
     ask_some(tokens, missing)?;
-    let data = all_hex(alloc, tokens, field)?;
-    add_octets(octets, data.as_slice())
+    put_hex(alloc, tokens, field, octets)
 }
 
 fn add_base64(

@@ -1,5 +1,6 @@
 pub mod DecimalSteps
 pub mod FirstSteps
+pub mod HexTokens
 pub mod LetterSteps
 pub mod NameLabels
 pub mod NamePuts

@@ -32,7 +32,7 @@ alone_is c [] h = absurd (cc)
 alone_is c (d ∷ []) h = let same : d ≡ c = grind (arith, nat_tests) in ap (λ (e : ℕ). e ∷ []) same
 alone_is c (d ∷ e ∷ s) h = absurd (cc)
 
-pub dot_put : (origin : Option DomainName) (token : Token) (before after : List ℕ) → token.quoted ≡ false → is_alone 46 token.octets ≡ true
+dot_put : (origin : Option DomainName) (token : Token) (before after : List ℕ) → token.quoted ≡ false → is_alone 46 token.octets ≡ true
     → after ≡ before ++ 0 ∷ []
     → PutAs (name origin) name_octets before after token
 dot_put origin token before after bare dot same =
@@ -68,6 +68,12 @@ octets_same text mark octets read = read.same ∙ ap (λ (y : DomainName). wire 
 
 memory_put : (P : Type 0) (e : ParseError) → e ≡ parse.Memory → UnlessParseMemory e P
 memory_put P e h = subst (λ (x : ParseError). UnlessParseMemory x P) (sym h) tt
+
+-- the root, where there is room
+pub dot_ended : {T : Type 0} (origin : Option DomainName) (token : Token) (r : Result T ParseError) (before after : List ℕ) → token.quoted ≡ false
+    → is_alone 46 token.octets ≡ true → OnOk r (after ≡ before ++ 0 ∷ []) → IfErr r (λ e. e ≡ parse.Memory) → PutsAs (name origin) name_octets r before after token
+dot_ended origin token (Ok x) before after bare dot put memory = dot_put origin token before after bare dot put
+dot_ended origin token (Err e) before after bare dot put memory = memory_put _ e memory
 
 -- the labels of a token that no origin completes
 pub whole_put : {T : Type 0} (origin : Option DomainName) (token : Token) (mark : Bool) (r : Result T ParseError) (before after octets : List ℕ)
@@ -172,3 +178,10 @@ completed_why origin own token field (Err e) octets has (inr past) = inr (inr (i
   past.0,
   subst (λ (y : DomainName). 255 < length (wire y.labels) + 1) (sym has.all) (omega (arith, joined_room (labelled token.octets) own octets has.wired, past.1)),
 ))))
+
+-- ---- a name that is put after other octets
+
+pub name_moved : (origin : Option DomainName) (token : Token) (before octets after : List ℕ) → PutAs (name origin) name_octets [] octets token
+    → after ≡ before ++ octets → PutAs (name origin) name_octets before after token
+name_moved origin token before octets after put same =
+    record { value = put.value; is = put.is; same = same ∙ ap (λ (o : List ℕ). before ++ o) put.same }

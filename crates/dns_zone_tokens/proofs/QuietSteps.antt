@@ -1,4 +1,4 @@
--- Octets at which a reader need not stop: their marks in a vector of sixteen, and the octets before an index.
+-- Octets at which a reader need not stop: their marks in a vector, and the octets before an index.
 use Rattle.std.proofs.Common.{◌≡◌, ◌≢◌, ℕ, ◌+◌, ◌-◌, ◌<◌, ◌≤◌, ◌%◌, ◌^◌, Bool, true, false, cond, eqb, leb, List, length, get_or, map, replicate, take, drop}
 use Rattle.std.proofs.lemmas.Simd.{zip2_splat, zip2_of_maps, map-map, mask_l-mod, trailing_mask_l, run_in_chunk_le, run_in_chunk_fails, none_from_empty_mask}
 use Rattle.std.proofs.{lemmas.Simd.get_or-chunk, lemmas.List.length-map, lemmas.List.length-take-le, lemmas.Bool.leb-false, lemmas.Bool.eq-eqb}
@@ -31,44 +31,44 @@ unmarked most b c x h =
     let all = none_of (leb x most) (eqb x b) (eqb x c) h in
     (leb-false x most all.0, differ x b all.1, differ x c all.2)
 
--- the marks, as the code has them
-abbrev pub marks_of : ℕ → ℕ → ℕ → List ℕ → ℕ
-marks_of most b c xs =
-    mask_l (map (top 7) (zip2 bit_or (zip2 (λ x y. cond (leb x y) 255 0) xs (replicate 16 most))
-    (zip2 bit_or (zip2 (λ x y. cond (eqb x y) 255 0) xs (replicate 16 b)) (zip2 (λ x y. cond (eqb x y) 255 0) xs (replicate 16 c))))) % 2 ^ 64
+-- the marks of a vector of w octets, as the code has them
+abbrev pub marks_of : ℕ → ℕ → ℕ → ℕ → List ℕ → ℕ
+marks_of w most b c xs =
+    mask_l (map (top 7) (zip2 bit_or (zip2 (λ x y. cond (leb x y) 255 0) xs (replicate w most))
+    (zip2 bit_or (zip2 (λ x y. cond (eqb x y) 255 0) xs (replicate w b)) (zip2 (λ x y. cond (eqb x y) 255 0) xs (replicate w c))))) % 2 ^ 64
 
-marks_are : (most b c : ℕ) (xs : List ℕ) → length xs ≡ 16 → marks_of most b c xs ≡ mask_l (map (is_marked most b c) xs)
-marks_are most b c xs long =
+marks_are : (w most b c : ℕ) (xs : List ℕ) → w ≤ 64 → length xs ≡ w → marks_of w most b c xs ≡ mask_l (map (is_marked most b c) xs)
+marks_are w most b c xs few long =
     ap (λ (ys : List ℕ). mask_l (map (top 7) ys) % 2 ^ 64)
     (zip2_of_maps bit_or (λ x. cond (leb x most) 255 0) (λ x. bit_or (cond (eqb x b) 255 0) (cond (eqb x c) 255 0)) xs
-    (zip2_splat (λ x y. cond (leb x y) 255 0) xs 16 most long)
+    (zip2_splat (λ x y. cond (leb x y) 255 0) xs w most long)
     (zip2_of_maps bit_or (λ x. cond (eqb x b) 255 0) (λ x. cond (eqb x c) 255 0) xs
-    (zip2_splat (λ x y. cond (eqb x y) 255 0) xs 16 b long) (zip2_splat (λ x y. cond (eqb x y) 255 0) xs 16 c long)))
+    (zip2_splat (λ x y. cond (eqb x y) 255 0) xs w b long) (zip2_splat (λ x y. cond (eqb x y) 255 0) xs w c long)))
     ∙ ap (λ (bs : List Bool). mask_l bs % 2 ^ 64) (map-map (top 7) (mark most b c) xs)
     ∙ mask_l-mod (map (is_marked most b c) xs) 64 (omega (arith, length-map xs (is_marked most b c)))
 
 -- without a mark all are quiet
-pub all_quiet : (most b c : ℕ) (s : List ℕ) → 16 ≤ length s → marks_of most b c (take 16 s) ≡ 0 → (k : ℕ) → k < 16 → IsQuiet most b c (get_or s k 0)
-all_quiet most b c s room none k lt =
+pub all_quiet : (w most b c : ℕ) (s : List ℕ) → w ≤ 64 → w ≤ length s → marks_of w most b c (take w s) ≡ 0 → (k : ℕ) → k < w → IsQuiet most b c (get_or s k 0)
+all_quiet w most b c s few room none k lt =
     unmarked most b c (get_or s k 0)
-    (none_from_empty_mask (is_marked most b c) s 0 16 0 room (sym (marks_are most b c (take 16 s) (length-take-le 16 s room)) ∙ none) k (omega arith) lt)
+    (none_from_empty_mask (is_marked most b c) s 0 w 0 (omega arith) (sym (marks_are w most b c (take w s) few (length-take-le w s room)) ∙ none) k (omega arith) (omega arith))
 
 -- and so are those before the first mark
-in_front : (most b c r : ℕ) (s : List ℕ) → 16 ≤ length s → r ≡ prefix_len (λ x. not (is_marked most b c x)) (take 16 s)
-    → (r ≤ 16) × ((k : ℕ) → k < r → IsQuiet most b c (get_or s k 0))
-in_front most b c r s room counted = (
-  run_in_chunk_le (is_marked most b c) s 0 16 r 0 room counted,
-  λ k lt. unmarked most b c (get_or s k 0) (run_in_chunk_fails (is_marked most b c) s 0 16 r 0 room counted k (omega arith) (omega arith)),
+in_front : (w most b c r : ℕ) (s : List ℕ) → w ≤ length s → r ≡ prefix_len (λ x. not (is_marked most b c x)) (take w s)
+    → (r ≤ w) × ((k : ℕ) → k < r → IsQuiet most b c (get_or s k 0))
+in_front w most b c r s room counted = (
+  run_in_chunk_le (is_marked most b c) s 0 w r 0 (omega arith) counted,
+  λ k lt. unmarked most b c (get_or s k 0) (run_in_chunk_fails (is_marked most b c) s 0 w r 0 (omega arith) counted k (omega arith) (omega arith)),
 )
 
-pub first_quiet : (most b c : ℕ) (s : List ℕ) → 16 ≤ length s → 0 < marks_of most b c (take 16 s)
-    → (trailing_zeros w64 (marks_of most b c (take 16 s)) ≤ 16)
-    × ((k : ℕ) → k < trailing_zeros w64 (marks_of most b c (take 16 s)) → IsQuiet most b c (get_or s k 0))
-first_quiet most b c s room some =
-    let long : length (take 16 s) ≡ 16 = length-take-le 16 s room in
-    let same = marks_are most b c (take 16 s) long in
-    in_front most b c (trailing_zeros w64 (marks_of most b c (take 16 s))) s room
-    (ap (λ m. trailing_zeros w64 m) same ∙ trailing_mask_l (is_marked most b c) 64 (take 16 s) (omega arith) (omega (arith, same)))
+pub first_quiet : (w most b c : ℕ) (s : List ℕ) → w ≤ 64 → w ≤ length s → 0 < marks_of w most b c (take w s)
+    → (trailing_zeros w64 (marks_of w most b c (take w s)) ≤ w)
+    × ((k : ℕ) → k < trailing_zeros w64 (marks_of w most b c (take w s)) → IsQuiet most b c (get_or s k 0))
+first_quiet w most b c s few room some =
+    let long : length (take w s) ≡ w = length-take-le w s room in
+    let same = marks_are w most b c (take w s) few long in
+    in_front w most b c (trailing_zeros w64 (marks_of w most b c (take w s))) s room
+    (ap (λ m. trailing_zeros w64 m) same ∙ trailing_mask_l (is_marked most b c) 64 (take w s) (omega (arith, long)) (omega (arith, same)))
 
 -- ---- octets at the front
 

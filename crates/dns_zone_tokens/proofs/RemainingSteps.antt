@@ -104,11 +104,11 @@ module _ {is : List Token → Type 0} {old now : Cursor} (so : TakenSoFar is old
 
 -- ---- their octets, none in quotes
 
-bare_more : (tokens : List Token) (token : Token) → AllBare tokens → token.quoted ≡ false → AllBare (tokens ++ token ∷ [])
+pub bare_more : (tokens : List Token) (token : Token) → AllBare tokens → token.quoted ≡ false → AllBare (tokens ++ token ∷ [])
 bare_more [] token h e = (e, tt)
 bare_more (first ∷ tokens) token h e = (h.0, bare_more tokens token h.1 e)
 
-joined_more : (tokens : List Token) (token : Token) → joined (tokens ++ token ∷ []) ≡ joined tokens ++ token.octets
+pub joined_more : (tokens : List Token) (token : Token) → joined (tokens ++ token ∷ []) ≡ joined tokens ++ token.octets
 joined_more tokens token = flat_map-append (λ (w : Token). w.octets) tokens (token ∷ []) ∙ ap (λ (x : List ℕ). joined tokens ++ x) (append-nil token.octets)
 
 pub one_joined : {octets more : List ℕ} (token : Token) → token.quoted ≡ false → more ≡ octets ++ token.octets → (tokens : List Token) → AreJoined octets tokens

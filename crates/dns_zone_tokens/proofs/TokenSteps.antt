@@ -1,10 +1,10 @@
 -- Tokens of a text, octet by octet.
 use Rattle.std.proofs.Common.{◌≡◌, ℕ, zero, suc, ◌+◌, ◌-◌, ◌<◌, ◌≤◌, Bool, true, false, ◌||◌, eqb, if◌then◌else◌, List, [], ◌∷◌, ◌++◌, length, take, drop, get_or, refl}
-use Rattle.std.proofs.Common.{sym, subst, ◌∙◌, ap, add-one, arith, Err}
-use Rattle.std.proofs.{Math.Seq.take-suc, Math.Seq.drop-cons, lemmas.Bool.Decides.nat_tests, lemmas.List.get_or-drop}
+use Rattle.std.proofs.Common.{sym, subst, ◌∙◌, ap, add-one, arith, Err, ◌⊎◌, inl, inr}
+use Rattle.std.proofs.{Math.Seq.take-suc, Math.Seq.drop-cons, Math.Seq.drop-nil, lemmas.Bool.Decides.nat_tests, lemmas.List.get_or-drop, lemmas.List.length-drop, lemmas.List.length-take-le}
 use Rattle.dns_zone_tokens.specs.Tokens.{Spot, is_blank, is_line_end, begins_gap, ends_run, gap_on, run_on, on, between, run, run_backslash, quotes}
-use Rattle.dns_zone_tokens.specs.{Quiet.IsQuiet, Spans.lefts_from, TokenSteps.NoGap, TokenSteps.QuotesRefused, declared.tokens_error.TokensError.TokensError}
-use Rattle.dns_zone_tokens.specs.Tokens.{quotes_backslash, over, over_comment, refused, tokens_read_from}
+use Rattle.dns_zone_tokens.specs.{Quiet.IsQuiet, Spans.lefts_from, TokenSteps.NoGap, TokenSteps.RunTaken, TokenSteps.QuotesRefused, declared.tokens_error.TokensError.TokensError}
+use Rattle.dns_zone_tokens.specs.Tokens.{quotes_backslash, with_token, over, over_comment, refused, tokens_read_from}
 use Rattle.dns_zone_tokens.specs.declared.tokens_error.TokensError.TheVariants.{NoParenthesis, LineInQuotes, FurtherLine}
 use Rattle.dns_zone_tokens.proofs.{LetterSteps.from_offset, QuietSteps.AreQuiet}
 
@@ -184,6 +184,44 @@ module _ {A : Type 0} {go : Spot → List ℕ → A} (walks : Walks go) where
   closes_nothing depth joined (c ∷ text) none some h =
       let next : on (between depth joined) c ≡ refused NoParenthesis = rw (none, h) refl in
       walks.goes (between depth joined) c text refl ∙ ap (λ (spot : Spot). go spot text) next
+
+-- ---- the end of a token without quotes
+
+-- the text ends, or begins with an octet that ends such a token
+abbrev EndsRun : List ℕ → Type 0
+EndsRun [] = Unit {0}
+EndsRun (c ∷ rest) = ends_run c ≡ true
+
+ends_there : (text : List ℕ) (n : ℕ) → n ≤ length text → (n ≡ length text) ⊎ (ends_run (get_or text n 0) ≡ true) → EndsRun (drop n text)
+ends_there [] n within h = rw (drop-nil n) tt
+ends_there (c ∷ text) zero within (inl e) = absurd (omega arith)
+ends_there (c ∷ text) zero within (inr e) = e
+ends_there (c ∷ text) (suc n) within (inl e) = ends_there text n (omega arith) (inl (omega arith))
+ends_there (c ∷ text) (suc n) within (inr e) = ends_there text n (omega arith) (inr e)
+
+token_ends : (depth : ℕ) (joined : Bool) (front rest : List ℕ) → EndsRun rest → tokens_read_from (run depth joined front) rest
+    ≡ with_token (record { octets = front; quoted = false; joined = joined }) (tokens_read_from (between depth true) rest)
+token_ends zero joined front [] h = refl
+token_ends (suc depth) joined front [] h = refl
+token_ends depth joined front (c ∷ rest) h = rw h refl
+
+left_ends : (depth : ℕ) (joined : Bool) (front rest : List ℕ) → EndsRun rest → lefts_from (run depth joined front) rest
+    ≡ (length front + length rest, length rest) ∷ lefts_from (between depth true) rest
+left_ends depth joined front [] h = ap (λ (n : ℕ). (n, 0) ∷ []) (omega arith)
+left_ends depth joined front (c ∷ rest) h = rw h refl
+
+-- quiet octets and such an end are a token
+pub run_taken : (text : List ℕ) (n : ℕ) → n ≤ length text → AreQuiet 41 59 92 text n → (n ≡ length text) ⊎ (ends_run (get_or text n 0) ≡ true)
+    → RunTaken text n
+run_taken text n within quiet h =
+    let ends = ends_there text n within h in
+    record {
+      token = λ depth joined. run_quiet tokens_walk text n within quiet depth joined ∙ token_ends depth joined (take n text) (drop n text) ends;
+      left = λ depth joined.
+          let whole : length (take n text) + length (drop n text) ≡ length text = omega (arith, length-take-le n text within, length-drop n text) in
+          run_quiet lefts_walk text n within quiet depth joined ∙ left_ends depth joined (take n text) (drop n text) ends
+          ∙ ap (λ (m : ℕ). (m, length (drop n text)) ∷ lefts_from (between depth true) (drop n text)) whole;
+    }
 
 pub quotes_line : (text : List ℕ) (n : ℕ) → QuotesOn tokens_walk text n → QuotesOn lefts_walk text n → n < length text → eqb (get_or text n 0) 34 ≡ false
     → eqb (get_or text n 0) 10 ≡ true → QuotesRefused text LineInQuotes

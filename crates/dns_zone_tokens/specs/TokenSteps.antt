@@ -1,5 +1,6 @@
 -- What the code of tokens keeps.
-use Rattle.std.specs.Prelude.{◌≡◌, ℕ, suc, ◌+◌, take, drop, length, Bool, true, false, List, [], ◌∷◌, Err}
+use Rattle.std.specs.Prelude.{◌≡◌, ℕ, suc, ◌+◌, take, drop, length, Bool, true, false, List, [], ◌∷◌, ◌++◌, Ok, Err}
+use Rattle.hex.specs.Hex.{decode_of as hex_of}
 use Rattle.dns_zone_tokens.specs.{Spans.lefts_from, declared.tokens_error.TokensError.TokensError}
 use Rattle.dns_zone_tokens.specs.Tokens.{begins_gap, between, run, quotes, tokens_read_from, with_token}
 
@@ -28,3 +29,9 @@ pub record QuotesTaken (text : List ℕ) (n : ℕ) : Type 0 where
 pub record QuotesRefused (text : List ℕ) (e : TokensError) : Type 0 where
   pub why : (depth : ℕ) (joined : Bool) → tokens_read_from (quotes depth joined []) text ≡ Err e
   pub left : (depth : ℕ) (joined : Bool) → lefts_from (quotes depth joined []) text ≡ []
+
+-- the octets of these digits were appended
+pub record PutHex (digits before after : List ℕ) : Type 0 where
+  pub octets : List ℕ
+  pub are : hex_of digits ≡ Ok octets
+  pub same : after ≡ before ++ octets

@@ -8,6 +8,7 @@ ghost use Rattle.dns_zone_tokens.specs.NameTokens.{name, name_octets, is_alone, 
 
 use crate::field::NameField;
 use crate::letter::Letters;
+use crate::quiet::quiet_len;
 use crate::tokens::ZoneToken;
 use arrayvec::ArrayVec;
 use dns_names_wire::Name;
@@ -27,58 +28,92 @@ pub fn put_name(
     ensures puts { PutsAs (name (option_copied origin.entry)) name_octets result octets.old.items octets.new.items (token_value token.entry) }
     ensures why { IfErr result (λ e. (e ≡ ParseError.Memory) ⊎ NameFault field.now (option_copied origin.entry) (token_value token.entry) e) }
 {
+    let mut name = ArrayVec::new();
+    read_name(&mut name, token, origin, field)?;
+    octets.extend_from_slice(name.as_slice())?;
+    Ok(())
+}
+
+/// Does the same as `put_name` and allocates nothing. If the octets do not fit, returns
+/// [`Memory`](ParseError::Memory).
+pub fn put_name_within(
+    octets: &mut ArrayVec<u8, 264>,
+    token: ZoneToken<'_>,
+    origin: Option<&Name>,
+    field: &NameField,
+) -> Result<(), ParseError>
+    ensures puts { PutsAs (name (option_copied origin.entry)) name_octets result octets.old.items octets.new.items (token_value token.entry) }
+    ensures why { IfErr result (λ e. (e ≡ ParseError.Memory) ⊎ NameFault field.now (option_copied origin.entry) (token_value token.entry) e) }
+{
+    let mut name = ArrayVec::new();
+    read_name(&mut name, token, origin, field)?;
+    match octets.try_extend_from_slice(name.as_slice()) {
+        Ok(()) => Ok(()),
+        Err(_) => Err(ParseError::Memory),
+    }
+}
+
+// Appends the octets of a name, its 0 included, to none.
+fn read_name(
+    wire: &mut ArrayVec<u8, 255>,
+    token: ZoneToken<'_>,
+    origin: Option<&Name>,
+    field: &NameField,
+) -> Result<(), ParseError>
+    requires { wire.old.items ≡ [] }
+    ensures puts { PutsAs (name (option_copied origin.entry)) name_octets result [] wire.new.items (token_value token.entry) }
+    ensures why { IfErr result (λ e. (e ≡ ParseError.Memory) ⊎ NameFault field.now (option_copied origin.entry) (token_value token.entry) e) }
+{
     if token.quoted {
         return Err(ParseError::Message(field.quoted));
     }
     if is_alone(b'@', token.raw) {
         return match origin {
-            Some(origin) => put_whole(octets, origin.label_octets()),
+            Some(origin) => end_name(wire, origin.label_octets()),
             None => Err(ParseError::Message(field.no_origin)),
         };
     }
     if is_alone(b'.', token.raw) {
-        octets.push(0)?;
-        return Ok(());
+        return end_name(wire, &[]);
     }
-    let mut wire = ArrayVec::new();
-    let is_fqdn = read_labels(token.raw, &mut wire, field)?;
+    let is_fqdn = read_labels(token.raw, wire, field)?;
     if is_fqdn {
-        return put_whole(octets, wire.as_slice());
+        return end_name(wire, &[]);
     }
     match origin {
-        Some(origin) => put_completed(octets, wire.as_slice(), origin, field),
-        None => put_whole(octets, wire.as_slice()),
+        Some(origin) => complete_name(wire, origin, field),
+        None => end_name(wire, &[]),
     }
 }
 
-// Appends labels and a 0.
-fn put_whole(octets: &mut Vec<u8>, wire: &[u8]) -> Result<(), ParseError>
-    ensures put { OnOk result (octets.new.items ≡ octets.old.items ++ (wire.now ++ 0 ∷ [])) }
+// Appends labels and a 0. Fails only where there is no room, which a name of at most 255 octets has.
+#[inline]
+fn end_name(wire: &mut ArrayVec<u8, 255>, labels: &[u8]) -> Result<(), ParseError>
+    ensures put { OnOk result (wire.new.items ≡ wire.old.items ++ (labels.now ++ 0 ∷ [])) }
     ensures memory { IfErr result (λ e. e ≡ ParseError.Memory) }
 {
-    octets.extend_from_slice(wire)?;
-    octets.push(0)?;
+    if wire.try_extend_from_slice(labels).is_err() || wire.try_push(0).is_err() {
+        return Err(ParseError::Memory);
+    }
     Ok(())
 }
 
-// Appends labels, those of the origin and a 0, if the name then has at most 255 octets.
-fn put_completed(
-    octets: &mut Vec<u8>,
-    wire: &[u8],
+// Appends the labels of the origin and a 0, if the name then has at most 255 octets.
+fn complete_name(
+    wire: &mut ArrayVec<u8, 255>,
     origin: &Name,
     field: &NameField,
 ) -> Result<(), ParseError>
-    requires { length wire.now ≤ 254 }
-    ensures put { OnOk result (octets.new.items ≡ octets.old.items ++ (wire.now ++ name_octets origin.now)) }
-    ensures fits { OnOk result (length wire.now + length (lowname origin.now) ≤ 255) }
+    requires { length wire.old.items ≤ 254 }
+    ensures put { OnOk result (wire.new.items ≡ wire.old.items ++ name_octets origin.now) }
+    ensures fits { OnOk result (length wire.old.items + length (lowname origin.now) ≤ 255) }
     ensures name { IsName origin.now }
-    ensures refused { IfErr result (λ e. (e ≡ ParseError.Memory) ⊎ ((e ≡ ParseError.Message field.now.long_name) × (255 < length wire.now + length (lowname origin.now)))) }
+    ensures refused { IfErr result (λ e. (e ≡ ParseError.Memory) ⊎ ((e ≡ ParseError.Message field.now.long_name) × (255 < length wire.old.items + length (lowname origin.now)))) }
 {
     if wire.len() + origin.len() > 255 {
         return Err(ParseError::Message(field.long_name));
     }
-    octets.extend_from_slice(wire)?;
-    put_whole(octets, origin.label_octets())
+    end_name(wire, origin.label_octets())
 }
 
 #[inline]
@@ -91,7 +126,7 @@ fn is_alone(octet: u8, text: &[u8]) -> bool
 // Appends the labels of a text, each after its length, and returns whether a dot ends them.
 fn read_labels(
     text: &[u8],
-    wire: &mut ArrayVec<u8, 254>,
+    wire: &mut ArrayVec<u8, 255>,
     field: &NameField,
 ) -> Result<bool, ParseError>
     requires { wire.old.items ≡ [] }
@@ -121,7 +156,7 @@ fn plain_len(text: &[u8]) -> usize
     ensures plain { (k : ℕ) → k < result → (slice_index text.now k ≢ 46) × (slice_index text.now k ≢ 92) }
     ensures stops { result < length text.now → (slice_index text.now result ≡ 46) ⊎ (slice_index text.now result ≡ 92) }
 {
-    let mut at = 0usize;
+    let mut at = quiet_len(0, b'.', b'\\', text);
     'octets: while at < text.len() && text[at] != b'.' && text[at] != b'\\' {
         at += 1;
     }
@@ -130,7 +165,7 @@ fn plain_len(text: &[u8]) -> usize
 
 // Appends the last label of a text if it has an octet, and returns whether it has none.
 fn last_label(
-    wire: &mut ArrayVec<u8, 254>,
+    wire: &mut ArrayVec<u8, 255>,
     label: &[u8],
     field: &NameField,
 ) -> Result<bool, ParseError>
@@ -147,7 +182,7 @@ fn last_label(
 // Reads the rest of a text letter by letter, otherwise as `read_labels`.
 fn read_letters(
     rest: &[u8],
-    wire: &mut ArrayVec<u8, 254>,
+    wire: &mut ArrayVec<u8, 255>,
     field: &NameField,
 ) -> Result<bool, ParseError>
     ensures ok { IfOk result (λ mark. (text : List ℕ) → ReadSoFar text rest.now wire.old.items [] → LabelsRead text mark wire.new.items) }
@@ -174,7 +209,7 @@ fn read_letters(
 
 // Appends a label after its length, if it has an octet and the name has room for it and a 0.
 fn close_label(
-    wire: &mut ArrayVec<u8, 254>,
+    wire: &mut ArrayVec<u8, 255>,
     label: &[u8],
     field: &NameField,
 ) -> Result<(), ParseError>

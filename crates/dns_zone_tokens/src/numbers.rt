@@ -35,7 +35,7 @@ fn token_number(token: ZoneToken<'_>) -> Option<u32>
 }
 
 // The number of 32 bits that decimal digits are.
-fn decimal(digits: &[u8]) -> Option<u32>
+pub(crate) fn decimal(digits: &[u8]) -> Option<u32>
     ensures some { IfSome result (λ n. IsNumeral 10 digits.now × (n ≡ digits_value 10 digits.now)) }
     ensures none { IfNone result (IsNumeral 10 digits.now → 2 ^ 32 ≤ digits_value 10 digits.now) }
 {

@@ -1,8 +1,10 @@
 //! All remaining tokens of a text: base64, hexadecimal digits, and the unknown-data form (RFC 3597, section 5).
 
-ghost use Rattle.std.specs.Prelude.{◌≡◌, ◌≢◌, ◌↔◌, ◌⊎◌, [], Ok, IsTrue, IfErr, OnOk, OnErr};
+ghost use Rattle.std.specs.Prelude.{◌≡◌, ◌≢◌, ◌↔◌, ◌⊎◌, [], Ok, IsTrue, IfErr, OnOk, OnErr, length, take};
+ghost use Rattle.std.specs.{Bool.OnTrue};
 ghost use Rattle.dns_zone_tokens.specs.{Forms.StringFault, Views.token_value, Tokens.tokens_at, ZoneReads.IsUndividedError};
-ghost use Rattle.dns_zone_tokens.specs.Remaining.{AreJoined, AreHex, AreBase64, AreUnknown, AreStrings, IsUnknownMark, ReadsAll, AmongFault};
+ghost use Rattle.dns_zone_tokens.specs.Remaining.{AreJoined, AreHex, AreBase64, AreUnknown, AreStrings, IsUnknownMark, PutAll, PutsAll, ReadsAll, AmongFault};
+ghost use Rattle.dns_zone_tokens.specs.TokenSteps.{PutHex};
 ghost use Rattle.dns_zone_tokens.specs.Remaining.{QuotesFault, HexFault, Base64Fault, UnknownFault};
 
 use crate::field::HexField;
@@ -50,6 +52,60 @@ pub fn all_hex(
         Err(FromHexError::OutOfMemory) => Err(ParseError::Memory),
         Err(_) => Err(ParseError::Message(field.digit)),
     }
+}
+
+/// Reads all remaining tokens as `all_hex` does, and appends their octets. Allocates as the vector grows; beside that only
+/// if a token has an odd number of digits.
+pub fn put_hex(
+    alloc: Global,
+    tokens: &mut ZoneTokens<'_>,
+    field: &HexField,
+    octets: &mut Vec<u8>,
+) -> Result<(), ParseError>
+    ensures puts { PutsAll AreHex result octets.old.items octets.new.items tokens.old }
+    ensures why { IfErr result (λ e. (e ≡ ParseError.Memory) ⊎ HexFault field.now tokens.old e) }
+{
+    let start = octets.len();
+    if put_pairs(&mut tokens.again(), octets) {
+        return Ok(());
+    }
+    octets.truncate(start);
+    let data = all_hex(alloc, tokens, field)?;
+    octets.extend_from_slice(data.as_slice())?;
+    Ok(())
+}
+
+// Appends the octets of all remaining tokens, and returns whether it could: each token has an even number of digits.
+fn put_pairs(tokens: &mut ZoneTokens<'_>, octets: &mut Vec<u8>) -> bool
+    ensures put { OnTrue result (PutAll AreHex octets.old.items octets.new.items tokens.old) }
+    ensures kept { take (length octets.old.items) octets.new.items ≡ octets.old.items }
+{
+    'tokens: loop {
+        match tokens.next_token() {
+            Ok(Some(token)) => {
+                if token.quoted {
+                    return false;
+                }
+                if !put_digits(octets, token.raw) {
+                    return false;
+                }
+            }
+            Ok(None) => return true,
+            Err(_) => return false,
+        }
+    }
+}
+
+// Appends the octets of an even number of digits, and returns whether it could.
+fn put_digits(octets: &mut Vec<u8>, digits: &[u8]) -> bool
+    ensures put { OnTrue result (PutHex digits.now octets.old.items octets.new.items) }
+    ensures kept { take (length octets.old.items) octets.new.items ≡ octets.old.items }
+{
+    let start = octets.len();
+    if octets.resize(start + digits.len() / 2, 0).is_err() {
+        return false;
+    }
+    hex::decode_to_slice(digits, &mut octets.as_mut_slice()[start..]).is_ok()
 }
 
 /// Reads all remaining tokens as base64 with padding (RFC 4648, section 4); without tokens there are no octets. Tokens

@@ -9,6 +9,7 @@ ghost use Rattle.dns_zone_tokens.specs.Forms.{bare, string, text, IsType, String
 
 use crate::field::StringField;
 use crate::letter::first_letter;
+use crate::numbers::decimal;
 use crate::quiet::quiet_len;
 use crate::tokens::ZoneToken;
 use crate::type_names::type_named;
@@ -92,6 +93,10 @@ pub fn ttl_of(token: ZoneToken<'_>, wrong: &'static str) -> Result<u32, ParseErr
 {
     if token.quoted {
         return Err(ParseError::Message(wrong));
+    }
+    // Most have no unit.
+    if let Some(seconds) = decimal(token.raw) {
+        return Ok(seconds);
     }
     match str::from_utf8(token.raw) {
         Ok(text) => ttl_of_text(text, wrong),

@@ -3,7 +3,7 @@
 ghost use Rattle.std.specs.Prelude.{◌≡◌, ℕ, ◌<◌, ◌≤◌, ◌∷◌, false, true, [], length, slice_index, Ok, Err, IfSome, IfNone, IfOk, IfErr, OnOk, OnErr};
 ghost use Rattle.dns_zone_tokens.specs.{Quiet.IsQuiet, Spans.lefts_at, Spans.lefts_from, Views.token_value};
 ghost use Rattle.dns_zone_tokens.specs.Tokens.{begins_gap, ends_run, between, comment, over, over_comment, tokens_read_from, tokens_at};
-ghost use Rattle.dns_zone_tokens.specs.Tokens.{with_token, zone_tokens};
+ghost use Rattle.dns_zone_tokens.specs.Tokens.{quotes, with_token, zone_tokens};
 ghost use Rattle.dns_zone_tokens.specs.TokenSteps.{NoGap, RunTaken, QuotesTaken, QuotesRefused};
 
 use crate::letter::Letters;
@@ -78,7 +78,31 @@ impl<'a> ZoneTokens<'a> {
     }
 
     /// Takes the next token; `None` if there is none. An error changes nothing.
+    #[inline]
     pub fn next_token(&mut self) -> Result<Option<ZoneToken<'a>>, TokensError>
+        ensures token { IfOk result (λ o. IfSome o (λ w. tokens_at self.old ≡ with_token (token_value w) (tokens_at self.new))) }
+        ensures shorter { IfOk result (λ o. IfSome o (λ _. length self.new.text < length self.old.text)) }
+        ensures end { IfOk result (λ o. IfNone o (tokens_at self.old ≡ Ok [])) }
+        ensures refused { IfErr result (λ e. tokens_at self.old ≡ Err e) }
+        ensures unchanged { OnErr result (self.new ≡ self.old) }
+        ensures stays { IfOk result (λ o. IfNone o (self.new ≡ self.old)) }
+    {
+        if self.rest.len() == 0 && self.depth == 0 {
+            return Ok(None);
+        }
+        match near_token(self.rest, self.joined) {
+            Some((token, rest)) => {
+                self.rest = rest;
+                self.joined = true;
+                Ok(Some(token))
+            }
+            None => self.next_other(),
+        }
+    }
+
+    // Does the same, whatever comes first, and makes all errors.
+    #[inline(never)]
+    fn next_other(&mut self) -> Result<Option<ZoneToken<'a>>, TokensError>
         ensures token { IfOk result (λ o. IfSome o (λ w. tokens_at self.old ≡ with_token (token_value w) (tokens_at self.new))) }
         ensures shorter { IfOk result (λ o. IfSome o (λ _. length self.new.text < length self.old.text)) }
         ensures end { IfOk result (λ o. IfNone o (tokens_at self.old ≡ Ok [])) }
@@ -245,7 +269,61 @@ fn behind_comment(text: &[u8]) -> &[u8]
     rest
 }
 
+// The first token and the text after it, if it follows one blank or none, as most do. `None` also where its quotes have no
+// end, say: `next_other` then finds the error.
+#[inline(always)]
+fn near_token<'a>(text: &'a [u8], joined: bool) -> Option<(ZoneToken<'a>, &'a [u8])>
+    ensures token { IfSome result (λ r. (depth : ℕ) → tokens_read_from (between depth joined) text.now ≡ with_token (token_value r.0) (tokens_read_from (between depth true) r.1.now)) }
+    ensures shorter { IfSome result (λ r. length r.1.now < length text.now) }
+{
+    let (rest, is_joined) = behind_blank(text, joined);
+    if rest.len() == 0 {
+        return None;
+    }
+    if rest[0] == b'"' {
+        return quoted_token(&rest[1..], is_joined);
+    }
+    if begins_gap(rest[0]) {
+        return None;
+    }
+    let len = run_len(rest);
+    let token = ZoneToken {
+        raw: &rest[..len],
+        quoted: false,
+        joined: is_joined,
+    };
+    Some((token, &rest[len..]))
+}
+
+// The token of the octets before the `"` that closes the quotes, and the text after it; `None` if nothing closes them.
+#[inline(always)]
+fn quoted_token<'a>(text: &'a [u8], joined: bool) -> Option<(ZoneToken<'a>, &'a [u8])>
+    ensures token { IfSome result (λ r. (depth : ℕ) → tokens_read_from (quotes depth joined []) text.now ≡ with_token (token_value r.0) (tokens_read_from (between depth true) r.1.now)) }
+    ensures shorter { IfSome result (λ r. length r.1.now < length text.now) }
+{
+    let len = quoted_len(text).ok()?;
+    let token = ZoneToken {
+        raw: &text[..len],
+        quoted: true,
+        joined,
+    };
+    Some((token, &text[len + 1..]))
+}
+
+// The text without the blank that it begins with, if it does, and whether a token then ends right there.
+#[inline(always)]
+fn behind_blank(text: &[u8], joined: bool) -> (&[u8], bool)
+    ensures same { (depth : ℕ) → tokens_read_from (between depth joined) text.now ≡ tokens_read_from (between depth result.1) result.0.now }
+    ensures shorter { length result.0.now ≤ length text.now }
+{
+    if text.len() > 0 && text[0] == b' ' {
+        return (&text[1..], false);
+    }
+    (text, joined)
+}
+
 // How many octets the first token has, if it is not in quotes.
+#[inline(always)]
 fn run_len(text: &[u8]) -> usize
     requires some { 0 < length text.now }
     requires begins { ends_run (slice_index text.now 0) ≡ false }
@@ -253,8 +331,47 @@ fn run_len(text: &[u8]) -> usize
     ensures token { RunTaken text.now result }
     ensures within { result ≤ length text.now }
 {
+    let at = quiet_run_len(text);
+    if at == text.len() || ends_run(text[at]) {
+        return at;
+    }
+    run_len_from(text, at)
+}
+
+// How many octets at the front of a token without quotes need no look.
+#[inline(always)]
+fn quiet_run_len(text: &[u8]) -> usize
+    ensures within { result ≤ length text.now }
+    ensures quiet { (k : ℕ) → k < result → IsQuiet 41 59 92 (slice_index text.now k) }
+{
+    if text.len() < 16 {
+        return short_quiet_run_len(text);
+    }
     // `)` is the greatest octet that ends a token, except `;`.
-    let mut at = quiet_len(b')', b';', b'\\', text);
+    quiet_len(b')', b';', b'\\', text)
+}
+
+// The same of a text of few octets, in one place.
+#[inline(never)]
+fn short_quiet_run_len(text: &[u8]) -> usize
+    ensures within { result ≤ length text.now }
+    ensures quiet { (k : ℕ) → k < result → IsQuiet 41 59 92 (slice_index text.now k) }
+{
+    quiet_len(b')', b';', b'\\', text)
+}
+
+// The same as `run_len`, after octets of the token that need no look.
+#[inline(never)]
+fn run_len_from(text: &[u8], start: usize) -> usize
+    requires some { 0 < length text.now }
+    requires begins { ends_run (slice_index text.now 0) ≡ false }
+    requires within { start ≤ length text.now }
+    requires quiet { (k : ℕ) → k < start → IsQuiet 41 59 92 (slice_index text.now k) }
+    ensures some { 1 ≤ result }
+    ensures token { RunTaken text.now result }
+    ensures within { result ≤ length text.now }
+{
+    let mut at = start;
     'octets: while at < text.len() && !ends_run(text[at]) {
         let behind = at + 1;
         if text[at] == b'\\' && behind < text.len() && !is_line_end(text[behind]) {

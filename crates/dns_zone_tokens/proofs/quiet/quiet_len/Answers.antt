@@ -1,4 +1,4 @@
-use Rattle.std.proofs.Common.{arith}
+use Rattle.std.proofs.Common.{arith, length, ◌-◌}
 use Rattle.dns_zone_tokens.proofs.QuietSteps.{quiet_on}
 use Rattle.dns_zone_tokens.proofs.quiet.quiet_len.Goals as goal
 
@@ -12,3 +12,7 @@ parts-preserved c = record {
   quiet = quiet_on c.args.most c.args.b c.args.c c.args.text.now c.parts.at c.quiet_of_sixteen-len.result c.parts.invariant.quiet
       (omega arith) c.quiet_of_sixteen-len.ensures.quiet;
 }
+
+pub returns-clause-quiet : goal.returns-clause-quiet
+returns-clause-quiet c = quiet_on c.args.most c.args.b c.args.c c.args.text.now (length c.args.text.now - 16) c.quiet_of_sixteen.result
+    (λ k lt. c.parts.invariant.quiet k (omega (arith, c.parts-test.false))) (omega (arith, c.quiet_of_sixteen.ensures.within)) c.quiet_of_sixteen.ensures.quiet

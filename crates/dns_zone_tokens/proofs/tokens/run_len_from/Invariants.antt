@@ -1,6 +1,6 @@
 use Rattle.std.proofs.Common.{◌≡◌, ℕ, Bool, [], length, take, drop, ◌-◌, ◌≤◌}
 use Rattle.dns_zone_tokens.specs.{Spans.lefts_from, Tokens.run, Tokens.tokens_read_from}
-use Rattle.dns_zone_tokens.proofs.tokens.run_len.Given as goal
+use Rattle.dns_zone_tokens.proofs.tokens.run_len_from.Given as goal
 
 -- the token is what was passed so far, and goes on
 abbrev pub invariant-octets : goal.invariant-octets

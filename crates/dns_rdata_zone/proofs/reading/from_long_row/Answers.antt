@@ -2,7 +2,7 @@ use Rattle.std.proofs.Common.{refl}
 use Rattle.std.specs.Option.{option_copied}
 use Rattle.dns_rdata_zone.specs.ZoneGives.{at_start}
 use Rattle.dns_rdata_zone.proofs.ZoneSteps.{row_refused, given_why}
-use Rattle.dns_rdata_zone.proofs.reading.from_row.Goals as goal
+use Rattle.dns_rdata_zone.proofs.reading.from_long_row.Goals as goal
 
 pub returns-clause-refused : goal.returns-clause-refused
 returns-clause-refused c = row_refused c.read_octets.result (option_copied c.args.origin) c.args.record_type c.in_ok-octets.octets c.as_slice.result.now c.args.text.now (at_start c.args.text.now) refl
