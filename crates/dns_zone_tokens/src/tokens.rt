@@ -78,7 +78,7 @@ impl<'a> ZoneTokens<'a> {
     }
 
     /// Takes the next token; `None` if there is none. An error changes nothing.
-    #[inline]
+    #[inline(always)]
     pub fn next_token(&mut self) -> Result<Option<ZoneToken<'a>>, TokensError>
         ensures token { IfOk result (λ o. IfSome o (λ w. tokens_at self.old ≡ with_token (token_value w) (tokens_at self.new))) }
         ensures shorter { IfOk result (λ o. IfSome o (λ _. length self.new.text < length self.old.text)) }
