@@ -103,36 +103,54 @@ def refused(said, status):
     return "not tried:\n" + "\n".join(said.splitlines()[:6])
 
 
-def try_edit(crates, folder, name, edit):
-    """Tries an edit that names a function. Returns whether the prover refuses it, and what to print."""
+def try_edit(words_of, copy, name, edit):
+    """Tries an edit on a copy of its crate, which it leaves as it was. Returns whether the prover refuses it, and what to print."""
     only, changes = read_edit(f"{EDITS}/{name}/{edit}")
     begun = time.monotonic()
+    before = {}
+    for file, _, _ in changes:
+        with open(f"{copy}/{file}", encoding="utf-8") as it:
+            before.setdefault(file, it.read())
+    wrong = apply(changes, copy)
+    if wrong is None:
+        ran = subprocess.run([*words_of, "--only", only], cwd=copy, stdout=subprocess.PIPE, stderr=subprocess.STDOUT, text=True, errors="replace")
+        wrong = refused(ran.stdout, ran.returncode)
+    for file, text in before.items():
+        with open(f"{copy}/{file}", "w", encoding="utf-8") as it:
+            it.write(text)
+    return wrong is None, f"{name} {edit}: {'refused, as it must be' if wrong is None else wrong} ({time.monotonic() - begun:.0f} s)"
+
+
+def try_crate(crates, folder, name, edits):
+    """Tries the edits of a crate, one after the other: what one check has proved of functions that no edit changes serves the next ones."""
+    good = 0
     with tempfile.TemporaryDirectory() as copy:
         for part in ("src", "specs", "proofs"):
             if os.path.isdir(f"{TOP}/crates/{name}/{part}"):
                 shutil.copytree(f"{TOP}/crates/{name}/{part}", f"{copy}/{part}")
-        wrong = apply(changes, copy)
-        if wrong is None:
-            command = [f"{folder}/bin/rattle", "check", *words(crates, name, folder), "--only", only]
-            ran = subprocess.run(command, cwd=copy, stdout=subprocess.PIPE, stderr=subprocess.STDOUT, text=True, errors="replace")
-            wrong = refused(ran.stdout, ran.returncode)
-    return wrong is None, f"{name} {edit}: {'refused, as it must be' if wrong is None else wrong} ({time.monotonic() - begun:.0f} s)"
+        os.mkdir(f"{copy}/kept")
+        words_of = [f"{folder}/bin/rattle", "check", *words(crates, name, folder), "--incremental", f"{copy}/kept"]
+        for edit in edits:
+            is_good, line = try_edit(words_of, copy, name, edit)
+            print(line, flush=True)
+            good += is_good
+    return good
 
 
 def by_function(names):
     """Tries the edits of these crates that name a function."""
     crates, folder = libraries(), kit()
-    edits = [(it, edit) for it in names for edit in sorted(os.listdir(f"{EDITS}/{it}")) if read_edit(f"{EDITS}/{it}/{edit}")[0]]
-    missing = {lib for it, _ in edits for lib in below(crates, it) if not os.path.isdir(f"{TOP}/crates/{lib}/out/rlib/{lib}.rlib")}
+    edits = {it: [edit for edit in sorted(os.listdir(f"{EDITS}/{it}")) if read_edit(f"{EDITS}/{it}/{edit}")[0]] for it in names}
+    many = sum(map(len, edits.values()))
+    missing = {lib for it in names if edits[it] for lib in below(crates, it) if not os.path.isdir(f"{TOP}/crates/{lib}/out/rlib/{lib}.rlib")}
     if missing:
         print(f"not as wanted: these libraries are not proved here: {' '.join(sorted(missing))}; rt ci proves and leaves them")
-        return 0, len(edits)
-    good = 0
+        return 0, many
+    # (those with the most edits first)
+    order = sorted((it for it in names if edits[it]), key=lambda it: -len(edits[it]))
     with ThreadPoolExecutor(int(os.environ.get("RT_JOBS") or os.cpu_count() or 1)) as lanes:
-        for is_good, line in lanes.map(lambda it: try_edit(crates, folder, *it), edits):
-            print(line, flush=True)
-            good += is_good
-    return good, len(edits) - good
+        good = sum(lanes.map(lambda it: try_crate(crates, folder, it, edits[it]), order))
+    return good, many - good
 
 
 def by_crate(names):
