@@ -139,6 +139,22 @@ def long_records():
             yield kind, octets, f"\\# {len(octets)} " + in_tokens(octets.hex())
 
 
+def longest_names():
+    """Type, RDATA and text of records with a name of 254 and of 255 octets, the most that a name has (RFC 1035, section 3.1)."""
+    for last in (60, 61):
+        labels = [bytes([97 + at]) * length for at, length in enumerate((63, 63, 63, last))]
+        name = b"".join(bytes([len(it)]) + it for it in labels) + b"\0"
+        text = b".".join(labels).decode() + "."
+        for kind, octets, front in (
+            ("CNAME", b"", ""),
+            ("NS", b"", ""),
+            ("PTR", b"", ""),
+            ("MX", b"\0\12", "10 "),
+            ("SRV", b"\0\1\0\2\23\304", "1 2 5060 "),
+        ):
+            yield kind, octets + name, front + text
+
+
 def type_lines():
     """Each name of a type, in both cases: as a line's type, before one octet of unknown data, and in CSYNC's list."""
     for line in (TOP / "tests/type_names.tsv").read_text(encoding="utf-8").splitlines():
@@ -167,6 +183,7 @@ def main():
     for name, texts, words in (
         ("long data, printed", [(f"{kind} 0 {len(octets)} {octets.hex()}".encode(), text) for kind, octets, text in records], ()),
         ("long data, read", [(f"{kind} {text}".encode(), octets.hex()) for kind, octets, text in records], ("read", ORIGIN)),
+        ("longest names, read", [(f"{kind} {text}".encode(), octets.hex()) for kind, octets, text in longest_names()], ("read", ORIGIN)),
     ):
         more, others = compare(name, texts, words)
         good, bad = good + more, bad + others
