@@ -5,17 +5,16 @@ ghost use Rattle.std.specs.{Bool.OnTrue, Option.option_copied};
 ghost use Rattle.dns_rdata.specs.Data.{shape, type_of, IsEmittable, data_octets};
 ghost use Rattle.dns_tokens.specs.Reads.{UnlessParseMemory};
 ghost use Rattle.dns_zone_rows.specs.RowTable.{zone_row_of};
-ghost use Rattle.dns_zone_tokens.specs.{Remaining.ReadsAll, ZoneReads.IsUndividedError};
+ghost use Rattle.dns_zone_tokens.specs.{Remaining.ReadsAll, Remaining.TookAll, ZoneReads.IsUndividedError};
 ghost use Rattle.dns_rdata_zone.specs.ZoneFaults.{OctetsFault, IsBehindMark, BehindMarkFault, HasNoMark, LacksRow, TokensFault, ByRowFault, ZoneFault};
 ghost use Rattle.dns_rdata_zone.specs.ZoneGives.{GiveByRow, has_name, AreDataOf, GivesValue, GivesNone, at_start};
 ghost use Rattle.dns_rdata_zone.specs.ZoneSteps.{AreNoData, UnknownIs, UnknownIsNone, RowIs, RowIsNone};
 
 use crate::services::count_octets;
-use arrayvec::ArrayVec;
 use dns_rdata::{BinDecoder, Name, ParseError, RData, RecordType, Restrict};
 use dns_types::Octets;
-use dns_zone_rows::{row_octets, short_row_octets, zone_row_of};
-use dns_zone_tokens::{ZoneTokens, is_unknown_mark, unknown_data};
+use dns_zone_rows::{fields_alone_of, put_near_row, row_octets, zone_row_of};
+use dns_zone_tokens::{ShortOctets, ZoneTokens, is_unknown_mark, unknown_data};
 use std::alloc::Global;
 
 const TOO_LONG: &str = "record data past 65535 octets";
@@ -109,7 +108,8 @@ fn begins_unmarked(text: &[u8]) -> bool
     true
 }
 
-// The value that the tokens of a text give by the zone row of the type.
+// The value that the tokens of a text give by the zone row of the type. Most texts are short and plain: their octets need no
+// allocation.
 fn from_row(
     alloc: Global,
     record_type: RecordType,
@@ -122,54 +122,33 @@ fn from_row(
     ensures refused { IfErr result (λ e. UnlessParseMemory e (RowIsNone (option_copied origin.entry) record_type text.now)) }
     ensures why { IfErr result (λ e. (e ≡ ParseError.Memory) ⊎ ByRowFault (option_copied origin.entry) record_type text.now e) }
 {
-    match record_type {
-        RecordType::A
-        | RecordType::AAAA
-        | RecordType::CNAME
-        | RecordType::MX
-        | RecordType::NS
-        | RecordType::PTR
-        | RecordType::SRV => from_short_row(alloc, record_type, text, origin),
-        _ => from_long_row(alloc, record_type, text, origin),
+    let mut octets = ShortOctets::new();
+    if put_near_data(&mut octets, record_type, text, origin) {
+        return read_octets(alloc, record_type, octets.as_slice());
     }
+    from_long_row(alloc, record_type, text, origin)
 }
 
-// The same, of a type whose zone row has only addresses, numbers of 16 bits and one name. Its octets need no allocation.
-fn from_short_row(
-    alloc: Global,
+// The octets that the tokens of a text give by the zone row of the type, in a buffer that is empty before. `false` says
+// nothing of the text.
+#[inline]
+fn put_near_data(
+    octets: &mut ShortOctets,
     record_type: RecordType,
     text: &[u8],
     origin: Option<&Name>,
-) -> Result<RData, ParseError>
-    ensures found { IfOk result (RowIs (option_copied origin.entry) record_type text.now) }
-    ensures kind { IfOk result (λ v. type_of v ≡ record_type) }
-    ensures emittable { IfOk result IsEmittable }
-    ensures refused { IfErr result (λ e. UnlessParseMemory e (RowIsNone (option_copied origin.entry) record_type text.now)) }
-    ensures why { IfErr result (λ e. (e ≡ ParseError.Memory) ⊎ ByRowFault (option_copied origin.entry) record_type text.now e) }
-{
-    let mut octets = ArrayVec::new();
-    short_row_data(record_type, text, origin, &mut octets)?;
-    read_octets(alloc, record_type, octets.as_slice())
-}
-
-// The octets that the tokens of a text give by such a zone row, in a buffer that is empty before.
-fn short_row_data(
-    record_type: RecordType,
-    text: &[u8],
-    origin: Option<&Name>,
-    octets: &mut ArrayVec<u8, 264>,
-) -> Result<(), ParseError>
+) -> bool
     requires { octets.old.items ≡ [] }
-    ensures reads { ReadsAll (GiveByRow (option_copied origin.entry) (zone_row_of record_type)) (λ _. octets.new.items) result (at_start text.now) }
-    ensures why { IfErr result (λ e. (e ≡ ParseError.Memory) ⊎ LacksRow record_type e ⊎ TokensFault (option_copied origin.entry) record_type text.now e) }
+    ensures { OnTrue result (TookAll (GiveByRow (option_copied origin.entry) (zone_row_of record_type)) octets.new.items (at_start text.now)) }
 {
-    match zone_row_of(record_type) {
-        Some(zone_row) => short_row_octets(&mut ZoneTokens::new(text), origin, &zone_row, octets),
-        None => Err(ParseError::UnsupportedRecordType(record_type)),
+    match fields_alone_of(record_type) {
+        Some(fields) => put_near_row(octets, text, origin, fields),
+        None => false,
     }
 }
 
-// The same of any type.
+// The same of any text.
+#[inline(never)]
 fn from_long_row(
     alloc: Global,
     record_type: RecordType,

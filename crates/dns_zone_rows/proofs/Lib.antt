@@ -1,5 +1,6 @@
 pub mod FieldNames
 pub mod Adding
+pub mod NearRows
 pub mod Once
 pub mod RowLoop
 pub mod TokenFaults

@@ -29,7 +29,10 @@ pub(crate) fn add_field(
     ensures adds { AddsFirst (FieldGives (option_copied origin.entry) (kind_of field.now)) result octets.old.items octets.new.items tokens.old tokens.new }
     ensures why { IfErr result (λ e. (e ≡ ParseError.Memory) ⊎ FieldFault (option_copied origin.entry) field.now tokens.old e) }
 {
-    let token = some_token(tokens, field.name())?;
+    let token = match tokens.next_near() {
+        Some(token) => token,
+        None => some_token(tokens, field.name())?,
+    };
     put_field(octets, token, origin, field)
 }
 

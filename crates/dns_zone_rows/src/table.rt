@@ -1,6 +1,6 @@
 //! The zone row of each type of record.
 
-ghost use Rattle.std.specs.Prelude.{◌≡◌, ◌∷◌, ◌++◌, [], map, Some};
+ghost use Rattle.std.specs.Prelude.{◌≡◌, ◌∷◌, ◌++◌, [], map, Some, IfSome};
 ghost use Rattle.std.specs.Option.{option_map};
 ghost use Rattle.dns_zone_rows.specs.{RowFaults.kind_of, RowFaults.rest_kind_of, RowFaults.row_value, RowTable.zone_row, RowTable.zone_row_of, Rows.NoToken};
 ghost use Rattle.dns_zone_rows.specs.RowTexts.{no_more, row_texts, texts_of, texts_of_field, texts_of_rest};
@@ -121,6 +121,34 @@ static TLSA: [ZoneField; 3] = [
     ZoneField::U8(number_field!("matching type")),
 ];
 
+// A match over the types whose zone row has fields and nothing after them, and other arms.
+macro_rules! match_alone {
+    ($record_type:expr, $fields:path, $($others:tt)*) => {
+        match $record_type {
+            RecordType::A => $fields(&A),
+            RecordType::AAAA => $fields(&AAAA),
+            RecordType::CAA => $fields(&CAA),
+            RecordType::CNAME => $fields(&CNAME),
+            RecordType::HINFO => $fields(&HINFO),
+            RecordType::MX => $fields(&MX),
+            RecordType::NAPTR => $fields(&NAPTR),
+            RecordType::NS => $fields(&NS),
+            RecordType::PTR => $fields(&PTR),
+            RecordType::SOA => $fields(&SOA),
+            RecordType::SRV => $fields(&SRV),
+            $($others)*
+        }
+    };
+}
+
+/// Returns the fields of a type whose zone row has nothing after them; `None` for all others.
+#[inline]
+pub fn fields_alone_of(record_type: RecordType) -> Option<&'static [ZoneField]>
+    ensures { IfSome result (λ fields. zone_row_of record_type ≡ zone_row (map kind_of fields.now) NoToken) }
+{
+    match_alone!(record_type, Some, _ => None)
+}
+
 /// Returns the zone row of a type; `None` if a zone file has only the unknown-data form for it (RFC 3597, section
 /// 5).
 pub fn zone_row_of(record_type: RecordType) -> Option<ZoneRow>
@@ -128,29 +156,20 @@ pub fn zone_row_of(record_type: RecordType) -> Option<ZoneRow>
     // The texts of errors about its fields.
     ensures texts { option_map row_texts result ≡ texts_of record_type }
 {
-    match record_type {
-        RecordType::A => fields_alone(&A),
-        RecordType::AAAA => fields_alone(&AAAA),
-        RecordType::CAA => fields_alone(&CAA),
+    match_alone!(
+        record_type,
+        fields_alone,
         RecordType::CERT => fields_and(&CERT, ZoneRest::Base64(CERT_DATA)),
-        RecordType::CNAME => fields_alone(&CNAME),
         RecordType::CSYNC => fields_and(&CSYNC, ZoneRest::Types(CSYNC_TYPES)),
-        RecordType::HINFO => fields_alone(&HINFO),
         RecordType::HTTPS => fields_and(&SVCB, ZoneRest::Parameters),
-        RecordType::MX => fields_alone(&MX),
-        RecordType::NAPTR => fields_alone(&NAPTR),
-        RecordType::NS => fields_alone(&NS),
         RecordType::OPENPGPKEY => fields_and(&NO_FIELDS, ZoneRest::Base64(PUBLIC_KEY)),
-        RecordType::PTR => fields_alone(&PTR),
         RecordType::SMIMEA => fields_and(&TLSA, ZoneRest::Hex(CERTIFICATE, CERTIFICATE_DATA)),
-        RecordType::SOA => fields_alone(&SOA),
-        RecordType::SRV => fields_alone(&SRV),
         RecordType::SSHFP => fields_and(&SSHFP, ZoneRest::Hex(FINGERPRINT, FINGERPRINT_DATA)),
         RecordType::SVCB => fields_and(&SVCB, ZoneRest::Parameters),
         RecordType::TLSA => fields_and(&TLSA, ZoneRest::Hex(CERTIFICATE, CERTIFICATE_DATA)),
         RecordType::TXT => fields_and(&NO_FIELDS, ZoneRest::Strings(TXT_DATA)),
-        _ => None,
-    }
+        _ => None
+    )
 }
 
 // The zone row of fields that no token follows.

@@ -1,8 +1,9 @@
 -- Letters, one by one.
 use Rattle.std.proofs.Common.{◌≡◌, ℕ, ◌<◌, ◌≤◌, Bool, true, false, cond, eqb, List, [], ◌∷◌, ◌++◌, length, map, get_or, take, drop, length-drop}
 use Rattle.std.proofs.Common.{◌-◌, zero, suc, ◌≢◌, ap, refl, sym, ◌∙◌, arith, append_assoc}
-use Rattle.std.proofs.{lemmas.List.append-nil, lemmas.List.nil_from_length, lemmas.List.take_all, lemmas.Bool.Decides.nat_tests}
-use Rattle.dns_zone_tokens.specs.{Forms.text as text_form, Views.BeginsWith, Tokens.Token, ZoneReads.PutAs, ZoneReads.NoValueOf}
+use Rattle.std.proofs.{lemmas.List.append-nil, lemmas.List.drop_all, lemmas.List.nil_from_length, lemmas.List.take_all, lemmas.Bool.Decides.nat_tests}
+use Rattle.dns_fields.specs.Tlvs.{string as string_octets}
+use Rattle.dns_zone_tokens.specs.{Forms.IsText, Forms.string, Forms.text as text_form, Views.BeginsWith, Tokens.Token, ZoneReads.PutAs, ZoneReads.NoValueOf}
 use Rattle.dns_zone_tokens.specs.Letters.{Letter, is_digit, letters, octet_of, escapes_stand}
 
 either_way : (b : Bool) → cond b false false ≡ false
@@ -78,3 +79,22 @@ put_all token rest before octets so end =
 -- a `\` without a meaning
 pub no_text : (token : Token) → escapes_stand token.octets ≡ false → NoValueOf text_form token
 no_text token bad = record { none = λ v is. let both : true ≡ false = sym is.escapes ∙ bad in absurd (cc) }
+
+-- ---- without a `\`
+
+plain_is : (token : Token) (n : ℕ) → length token.octets ≤ n → ((k : ℕ) → k < n → get_or token.octets k 0 ≢ 92) → IsText token.octets token
+plain_is token n all plain =
+    let own = plain_letters (length token.octets) token.octets (omega arith) (λ k l. plain k (omega (arith, l, all))) in
+    let none : drop (length token.octets) token.octets ≡ [] = drop_all (length token.octets) token.octets (omega arith) in record {
+      escapes = own.0 ∙ ap escapes_stand none;
+      value = sym (own.1 ∙ ap (λ (s : List ℕ). take (length token.octets) token.octets ++ map octet_of (letters s)) none
+          ∙ append-nil (take (length token.octets) token.octets) ∙ take_all (length token.octets) token.octets (omega arith));
+    }
+
+pub plain_put : (token : Token) (before after : List ℕ) (n : ℕ) → length token.octets ≤ n → ((k : ℕ) → k < n → get_or token.octets k 0 ≢ 92)
+    → after ≡ before ++ token.octets → PutAs text_form (λ s. s) before after token
+plain_put token before after n all plain put = record { value = token.octets; is = plain_is token n all plain; same = put }
+
+pub plain_string : (token : Token) (before after : List ℕ) (n : ℕ) → length token.octets ≤ n → ((k : ℕ) → k < n → get_or token.octets k 0 ≢ 92)
+    → length token.octets ≤ 255 → after ≡ before ++ length token.octets ∷ token.octets → PutAs string string_octets before after token
+plain_string token before after n all plain few put = record { value = token.octets; is = (plain_is token n all plain, few); same = put }

@@ -4,6 +4,7 @@ pub mod HexTokens
 pub mod LetterSteps
 pub mod NameLabels
 pub mod NamePuts
+pub mod NearNames
 pub mod QuietSteps
 pub mod RemainingSteps
 pub mod TextSteps

@@ -27,7 +27,7 @@ if_err P Q (Err e) f h = f e h
 
 -- ---- the root
 
-alone_is : (c : ℕ) (s : List ℕ) → is_alone c s ≡ true → s ≡ c ∷ []
+pub alone_is : (c : ℕ) (s : List ℕ) → is_alone c s ≡ true → s ≡ c ∷ []
 alone_is c [] h = absurd (cc)
 alone_is c (d ∷ []) h = let same : d ≡ c = grind (arith, nat_tests) in ap (λ (e : ℕ). e ∷ []) same
 alone_is c (d ∷ e ∷ s) h = absurd (cc)

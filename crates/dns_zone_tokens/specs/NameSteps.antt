@@ -1,5 +1,5 @@
 -- What the code of names keeps.
-use Rattle.std.specs.Prelude.{◌≡◌, ◌⊎◌, ℕ, ◌+◌, ◌<◌, ◌≤◌, Bool, true, List, [], ◌++◌, length}
+use Rattle.std.specs.Prelude.{◌≡◌, ◌⊎◌, ℕ, ◌+◌, ◌<◌, ◌≤◌, Bool, true, if◌then◌else◌, List, [], ◌∷◌, ◌++◌, length}
 use Rattle.dns_fields.specs.Labels.{AreLabels, FitsName, wire}
 use Rattle.dns_zone_tokens.specs.{Letters.letters, Letters.escapes_stand, NameTokens.parts_from, NameTokens.labelled, declared.field.NameField.NameField}
 use Rattle.dns_types.specs.declared.error.ParseError.{ParseError}
@@ -33,3 +33,9 @@ NotClosed field octets label e =
     ((e ≡ parse.Message field.empty_label) × (length label ≡ 0))
     ⊎ ((e ≡ parse.Message field.long_label) × (63 < length label))
     ⊎ ((e ≡ parse.Message field.long_name) × (1 ≤ length label) × (253 < length octets + length label))
+
+-- labels were appended, and a 0 if a dot ends them
+pub record LabelsPut (text : List ℕ) (mark : Bool) (before after : List ℕ) : Type 0 where
+  pub octets : List ℕ
+  pub read : LabelsRead text mark octets
+  pub same : after ≡ before ++ (if mark then octets ++ 0 ∷ [] else octets)

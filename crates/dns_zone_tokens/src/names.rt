@@ -34,25 +34,6 @@ pub fn put_name(
     Ok(())
 }
 
-/// Does the same as `put_name` and allocates nothing. If the octets do not fit, returns
-/// [`Memory`](ParseError::Memory).
-pub fn put_name_within(
-    octets: &mut ArrayVec<u8, 264>,
-    token: ZoneToken<'_>,
-    origin: Option<&Name>,
-    field: &NameField,
-) -> Result<(), ParseError>
-    ensures puts { PutsAs (name (option_copied origin.entry)) name_octets result octets.old.items octets.new.items (token_value token.entry) }
-    ensures why { IfErr result (λ e. (e ≡ ParseError.Memory) ⊎ NameFault field.now (option_copied origin.entry) (token_value token.entry) e) }
-{
-    let mut name = ArrayVec::new();
-    read_name(&mut name, token, origin, field)?;
-    match octets.try_extend_from_slice(name.as_slice()) {
-        Ok(()) => Ok(()),
-        Err(_) => Err(ParseError::Memory),
-    }
-}
-
 // Appends the octets of a name, its 0 included, to none.
 fn read_name(
     wire: &mut ArrayVec<u8, 255>,
@@ -117,7 +98,7 @@ fn complete_name(
 }
 
 #[inline]
-fn is_alone(octet: u8, text: &[u8]) -> bool
+pub(crate) fn is_alone(octet: u8, text: &[u8]) -> bool
     ensures { result ≡ is_alone octet text.now }
 {
     text.len() == 1 && text[0] == octet
@@ -151,7 +132,7 @@ fn read_labels(
 
 // How many octets are before the first dot or `\`, or before the end of the text.
 #[inline]
-fn plain_len(text: &[u8]) -> usize
+pub(crate) fn plain_len(text: &[u8]) -> usize
     ensures within { result ≤ length text.now }
     ensures plain { (k : ℕ) → k < result → (slice_index text.now k ≢ 46) × (slice_index text.now k ≢ 92) }
     ensures stops { result < length text.now → (slice_index text.now result ≡ 46) ⊎ (slice_index text.now result ≡ 92) }

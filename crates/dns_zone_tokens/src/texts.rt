@@ -68,7 +68,7 @@ pub fn put_text(
 
 // How many octets are before the first `\`, or before the end of the text.
 #[inline]
-fn plain_len(text: &[u8]) -> usize
+pub(crate) fn plain_len(text: &[u8]) -> usize
     ensures within { result ≤ length text.now }
     ensures plain { (k : ℕ) → k < result → slice_index text.now k ≢ 92 }
 {

@@ -1,6 +1,7 @@
 //! The tokens of a text of a zone file (RFC 1035, section 5.1).
 
 ghost use Rattle.std.specs.Prelude.{◌≡◌, ℕ, ◌<◌, ◌≤◌, ◌∷◌, false, true, [], length, slice_index, Ok, Err, IfSome, IfNone, IfOk, IfErr, OnOk, OnErr};
+ghost use Rattle.std.specs.Bool.{OnTrue};
 ghost use Rattle.dns_zone_tokens.specs.{Quiet.IsQuiet, Spans.lefts_at, Spans.lefts_from, Views.token_value};
 ghost use Rattle.dns_zone_tokens.specs.Tokens.{begins_gap, ends_run, between, comment, over, over_comment, tokens_read_from, tokens_at};
 ghost use Rattle.dns_zone_tokens.specs.Tokens.{quotes, with_token, zone_tokens};
@@ -87,16 +88,30 @@ impl<'a> ZoneTokens<'a> {
         ensures unchanged { OnErr result (self.new ≡ self.old) }
         ensures stays { IfOk result (λ o. IfNone o (self.new ≡ self.old)) }
     {
-        if self.rest.len() == 0 && self.depth == 0 {
+        if self.is_over() {
             return Ok(None);
         }
+        match self.next_near() {
+            Some(token) => Ok(Some(token)),
+            None => self.next_other(),
+        }
+    }
+
+    /// Takes the next token if it directly follows the one before or one blank, as most do. `None` says nothing of the
+    /// text, and changes nothing.
+    #[inline(always)]
+    pub fn next_near(&mut self) -> Option<ZoneToken<'a>>
+        ensures token { IfSome result (λ w. tokens_at self.old ≡ with_token (token_value w) (tokens_at self.new)) }
+        ensures shorter { IfSome result (λ _. length self.new.text < length self.old.text) }
+        ensures stays { IfNone result (self.new ≡ self.old) }
+    {
         match near_token(self.rest, self.joined) {
             Some((token, rest)) => {
                 self.rest = rest;
                 self.joined = true;
-                Ok(Some(token))
+                Some(token)
             }
-            None => self.next_other(),
+            None => None,
         }
     }
 
@@ -159,6 +174,14 @@ impl<'a> ZoneTokens<'a> {
             depth: self.depth,
             joined: self.joined,
         }
+    }
+
+    /// Returns whether no octet is left, outside of parentheses. Then no token is left; `false` says nothing.
+    #[inline]
+    pub fn is_over(&self) -> bool
+        ensures { OnTrue result (tokens_at self.now ≡ Ok []) }
+    {
+        self.rest.len() == 0 && self.depth == 0
     }
 
     /// Returns how many octets of the text are left.
