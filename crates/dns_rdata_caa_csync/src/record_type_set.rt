@@ -152,6 +152,7 @@ impl BinEncodable for RecordTypeSet {
 
     /// Appends the shortest bitmap of the set: rising windows, none of them empty, none that ends with a zero octet.
     /// The empty set has no octet.
+    #[inline(always)]
     fn emit(&self, encoder: &mut BinEncoder<'_>) -> Result<(), ProtoError> {
         // For the proof: brings in that the numbers rise.
         let _set = self.len();

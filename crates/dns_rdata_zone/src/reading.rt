@@ -148,7 +148,6 @@ fn put_near_data(
 }
 
 // The same of any text.
-#[inline(never)]
 fn from_long_row(
     alloc: Global,
     record_type: RecordType,

@@ -37,5 +37,6 @@ pub fn number_named(names: &[Mnemonic], text: &[u8]) -> Option<u16>
 fn is_same_name(text: &[u8], name: &[u8]) -> bool
     ensures { result ≡ str_eq_ignore_ascii_case text.now name.now }
 {
-    text.eq_ignore_ascii_case(name)
+    // Most names differ in their length, which is told without a call.
+    text.len() == name.len() && text.eq_ignore_ascii_case(name)
 }

@@ -10,6 +10,7 @@ use crate::record_type_set::windows::first_window;
 use dns_names_wire::{BinEncoder, ProtoError};
 
 // Appends the blocks of a set's numbers, which rise.
+#[inline(always)]
 #[tactic(auto, using(crate::proofs::WindowSteps::left_first))]
 pub(super) fn emit_blocks(encoder: &mut BinEncoder<'_>, numbers: &[u16]) -> Result<(), ProtoError>
     requires { IsTypeSet numbers.now }
