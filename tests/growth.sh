@@ -2,8 +2,9 @@
 # How the time of options and parameters grows with their number, each of four octets: nanoseconds an octet of the data, for
 # reading, emitting into a fresh encoder, and `==`. Then, for records of options in no order, the microseconds of one call:
 # reading, `==`, hash, `cmp` of equal records and of records whose last options differ, canonical octets one by one, the last
-# of them, and all of them copied. A line with more than 10 ms says so. It runs the built benchmark (crates/rdata_bench, after
-# `rt run` there).
+# of them, and all of them copied. A line with more than 10 ms says so. At last texts of 4,000 to 65,000 octets: the nanoseconds
+# an octet of the text of reading them by `try_from_str` (where the type is read so) and by `from_zone_text`. It runs the built
+# benchmark (crates/rdata_bench, after `rt run` there).
 set -u
 bench="${1:-$(cd "$(dirname "$0")/.." && pwd)/crates/rdata_bench/out/rdata_bench}"
 sample() { # TYPE COUNT: codes or keys from 100 on
@@ -25,3 +26,26 @@ done
   NF = 10
   print $0 (slow ? "\tover 10 ms" : "")
 }'
+# A line with a text of about so many octets.
+text() { # TYPE OCTETS
+  awk -v kind="$1" -v octets="$2" 'BEGIN {
+    if (kind == "CSYNC") body = " 1 3"
+    if (kind == "SVCB") body = " 1 ."
+    if (kind == "TLSA") body = " 3 1 1 "
+    for (i = 1; length(body) < octets; i++) {
+      if (kind == "TXT") body = body " " sprintf("%0100d", i)
+      if (kind == "OPENPGPKEY") body = body (i > 1 ? "" : " ") "QUJD"
+      if (kind == "TLSA" || kind == "TYPE65280") body = body "0a1b2c3d"
+      if (kind == "CSYNC") body = body " TYPE" 5 * i
+      if (kind == "SVCB") body = body " key" i + 100 "=abcd"
+    }
+    if (kind == "TYPE65280") body = " \\# " length(body) / 2 " " body
+    print kind body
+  }'
+}
+for kind in TXT OPENPGPKEY TLSA CSYNC SVCB TYPE65280; do
+  for octets in 4000 16000 65000; do
+    (text "$kind" "$octets") | "$bench" parse 100 |
+      awk -v kind="$kind" -v octets="$octets" -F '\t' 'NR == 2 { printf "%s\t%d\ttry_from_str %s\tfrom_zone_text %.2f\n", kind, octets, $2 == "" ? "-" : sprintf("%.2f", $2 / octets), $3 / octets }'
+  done
+done
