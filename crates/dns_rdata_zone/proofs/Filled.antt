@@ -3,8 +3,8 @@ use Rattle.std.proofs.Common.{◌≡◌, ℕ, zero, suc, ◌+◌, ◌*◌, ◌/�
 use Rattle.std.proofs.Common.{refl, sym, ◌∙◌, ap, subst, arith}
 use Rattle.std.specs.Prelude.{flat_map, slice_index}
 use Rattle.std.specs.{List.AllByRecursion, Net.Addr.IsIpv4Addr, Net.Addr.IsIpv6Addr, Net.Addr.ipv6_segments, Net.Addr.octets_of}
-use Rattle.dns_fields.specs.{Labels.DomainName, Labels.AreLabels, Labels.wire, Octets.AreOctets, Octets.At, Fields.canonical}
-use Rattle.dns_fields.specs.Fields.{Value, Values, Field, Stands, CompleteOptions, TruncatedOptions, option_tlvs, all_emittable}
+use Rattle.dns_fields.specs.{Labels.DomainName, Labels.AreLabels, Labels.wire, Octets.AreOctets, Octets.At}
+use Rattle.dns_fields.specs.Fields.{Value, Values, Field, Stands, CompleteOptions, TruncatedOptions, option_tlvs}
 use Rattle.dns_fields.specs.declared.Kind.{Kind, TheVariants.Name, TheVariants.Options}
 use Rattle.dns_fields.specs.Tlvs.{Numbered, tlv, tlvs, string, as_tlv, AllHeld, IsTlv, OptionValue, Subnet, OpaqueOption, option_octets}
 use Rattle.dns_fields.specs.Tlvs.{OptionHeld, ParameterHeld, IsEmittable, IsBody, parameter_octets}

@@ -1,6 +1,6 @@
 -- Parameters that were written are read as they were.
 use Rattle.std.proofs.Common.{◌≡◌, ◌≢◌, ◌⊎◌, ℕ, suc, get_or, ◌+◌, ◌^◌, ◌<◌, ◌≤◌, Bool, true, false, cond, eqb, ◌&&◌, nat_lt, List, [], ◌∷◌, ◌++◌}
-use Rattle.std.proofs.Common.{length, take, drop, decimal, codes, refl, sym, ◌∙◌, ap, subst, append_assoc, arith, inl, inr, lt-ltb, le-ltb}
+use Rattle.std.proofs.Common.{length, drop, decimal, codes, refl, sym, ap, subst, append_assoc, arith, inl, inr, lt-ltb, le-ltb}
 use Rattle.std.specs.{Prelude.not, List.AllByRecursion, List.list_all, List.position_or_len, Str.Parse.digits_value}
 use Rattle.std.proofs.{lemmas.Bool.Decides.nat_tests, lemmas.Bool.cases_lt, lemmas.Fmt.decimal_is_IsNumeral, lemmas.Str.Parse.digit_at}
 use Rattle.std.proofs.lemmas.List.{take_all, drop_all}
@@ -14,7 +14,7 @@ use Rattle.dns_rdata_service.specs.declared.svcb.key.SvcParamKey.{SvcParamKey}
 use Rattle.dns_rdata_service.specs.declared.svcb.key.SvcParamKey.TheVariants.{Key, Key65535, Unknown}
 use Rattle.dns_rdata_service.proofs.SvcbValues.{key_number-of}
 use Rattle.dns_zone_parameters.specs.{Keys.IsKeyName, Laws.HasNoEquals, Values.IsValue}
-use Rattle.dns_zone_parameters.specs.Parameters.{Parameter, is_equals, name_in, value_in, IsParameter}
+use Rattle.dns_zone_parameters.specs.Parameters.{Parameter, is_equals, IsParameter}
 use Rattle.dns_zone_parameters.proofs.WrittenTokens.{tokens_read}
 use Rattle.dns_rdata_zone.specs.{Parameters.key_name, ZoneGives.AreUnmarked}
 

@@ -1,10 +1,10 @@
 -- Values of parameters that were written are read as they were.
 use Rattle.std.proofs.Common.{rules, ◌≡◌, ◌≢◌, ℕ, zero, suc, ◌+◌, ◌^◌, ◌<◌, ◌≤◌, Bool, true, false, cond, eqb, ◌||◌, ◌&&◌, nat_lt, List, [], ◌∷◌, arith}
-use Rattle.std.proofs.Common.{◌++◌, map, length, take, drop, get_or, All, inl, inr, decimal, codes, Ok, refl, sym, ◌∙◌, ap, subst, append_assoc}
+use Rattle.std.proofs.Common.{◌++◌, map, length, take, drop, get_or, All, inl, inr, decimal, codes, Ok, refl, sym, ◌∙◌, ap, subst}
 use Rattle.std.specs.{Prelude.flat_map, Prelude.slice_index, Prelude.not, Prelude.bytes_eq, Net.Text.ipv4_text, Net.Text.ipv6_text, Net.Text.hex_groups_text}
 use Rattle.std.specs.{Int.bytes_high_first, List.AllByRecursion, List.AllZip, List.list_all, List.join_with_byte, List.Sorted.IsStrictlyIncreasing}
 use Rattle.std.specs.Net.Addr.{IsIpv4Addr, IsIpv6Addr, ipv4_octets, ipv6_segments, octets_of}
-use Rattle.std.proofs.{NetLemmas.Texts.AllSegments, NetLemmas.Texts.AllSegments-drop, lemmas.Str.Parse.digit_at, lemmas.Bool.Decides.nat_tests}
+use Rattle.std.proofs.{NetLemmas.Texts.AllSegments, NetLemmas.Texts.AllSegments-drop, lemmas.Bool.Decides.nat_tests}
 use Rattle.std.proofs.{lemmas.Fmt.decimal_is_IsNumeral, lemmas.Grind.flat_map-append, lemmas.List.append-nil, lemmas.List.Sorted.IsPermutation-refl}
 use Rattle.std.proofs.NetLemmas.Alphabet.{IsDigitOrDot, IsHexOrColon, All-ipv4_text, All-hex_groups_text}
 use Rattle.std.proofs.lemmas.List.Elements.{All-append, All-cons, All-head, All-nil, All-tail}

@@ -1,10 +1,10 @@
 -- The parameters of a service that was written give their octets.
-use Rattle.std.proofs.Common.{◌≡◌, ◌≢◌, ℕ, ◌^◌, ◌<◌, ◌≤◌, true, false, cond, eqb, nat_lt, List, [], ◌∷◌, ◌++◌, map, length, decimal, codes, refl, sym}
-use Rattle.std.proofs.Common.{◌∙◌, ap, subst, arith, le-ltb}
+use Rattle.std.proofs.Common.{◌≡◌, ◌≢◌, ℕ, ◌^◌, ◌<◌, ◌≤◌, true, cond, eqb, nat_lt, List, [], ◌∷◌, ◌++◌, map, length, decimal, codes, refl, sym}
+use Rattle.std.proofs.Common.{subst, arith, le-ltb}
 use Rattle.std.specs.{Prelude.flat_map, Int.bytes_high_first, List.AllByRecursion, List.list_all}
 use Rattle.std.proofs.{lemmas.Bool.Decides.nat_tests, lemmas.List.append-nil, lemmas.List.Sorted.IsPermutation-refl}
 use Rattle.base64.specs.{Engines.standard, GeneralPurpose.encode_of}
-use Rattle.dns_zone_parameters.specs.{Values.HasOctets, Values.IsValue, Laws.IsProtocolName}
+use Rattle.dns_zone_parameters.specs.{Values.HasOctets, Laws.IsProtocolName}
 use Rattle.dns_zone_parameters.specs.Parameters.{Parameter as Spelled, IsParameter, AreWritten, AreParameters}
 use Rattle.dns_fields.specs.{Fields.parameter_tlvs, Octets.AreOctets}
 use Rattle.dns_fields.specs.Tlvs.{Numbered, ParameterValue, string, tlvs, as_tlv, is_some, parameter_octets, Below, Rising}
@@ -19,7 +19,7 @@ use Rattle.dns_rdata_zone.specs.{Lists.commas, Spellings.escaped, Strings.quoted
 use Rattle.dns_rdata_zone.specs.Parameters.{key_name, named_key, zone_value, zone_parameter, rises_from, is_number_of, value_has_text, has_text}
 use Rattle.dns_rdata_zone.specs.Readable.{IsString, IsWritableValue, IsWritableParameter}
 use Rattle.dns_rdata_zone.proofs.{Letters.first_true, Letters.second_true, RowForms.decimal_run, RestForms.base64_run}
-use Rattle.dns_rdata_zone.proofs.Dividing.{AreDivided, divided_then, AreRunOctets, InQuotes, plain_quotes, spelled_quotes}
+use Rattle.dns_rdata_zone.proofs.Dividing.{AreDivided, divided_then, AreRunOctets, plain_quotes, spelled_quotes}
 use Rattle.dns_rdata_zone.proofs.ParameterForms.{ParameterText, IsKeyOf, alone_text, bare_text, enclosed_text, zone_key, key_is}
 use Rattle.dns_rdata_zone.proofs.ParameterValues.{plain_value, escaped_value, item_text, names_list, list_octets, list_spelled, rises_above}
 use Rattle.dns_rdata_zone.proofs.ParameterValues.{keys_run, keys_list, hints4_run, hints4_list, hints6_run, hints6_list, port_is, ech_is}

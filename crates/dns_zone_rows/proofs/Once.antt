@@ -7,7 +7,7 @@ use Rattle.dns_text.proofs.TtlSteps.{periods_one}
 use Rattle.dns_types.specs.{declared.record_type.RecordType.RecordType, declared.record_type.RecordType.TheVariants.Unknown}
 use Rattle.dns_types.specs.RecordTypes.{number_of, is_named, named_types, record_type_of, type_text, has_name, IsTypeName, IsNumberText, IsTypeText}
 use Rattle.dns_types.proofs.TypeTexts.{reads_name}
-use Rattle.dns_zone_tokens.specs.{Tokens.Token, TypeNames.IsZoneType, Mnemonics.number_named, Forms.ZoneForm, Forms.number, Forms.string, Forms.text}
+use Rattle.dns_zone_tokens.specs.{Tokens.Token, TypeNames.IsZoneType, Mnemonics.number_named, Forms.ZoneForm, Forms.number, Forms.string}
 use Rattle.dns_zone_parameters.proofs.{Items.same_both, OneReading.one_reading}
 use Rattle.dns_zone_rows.specs.Rows.{FieldKind, Number, NamedNumber, Ttl, Ipv4, Ipv6, Name, String, Tag, Octets, RestKind, NoToken, SomeStrings, SomeHex}
 use Rattle.dns_zone_rows.specs.Mnemonics.{IsNamedNumber}

@@ -1,14 +1,14 @@
 -- Labels that are put into place in their text.
-use Rattle.std.proofs.Common.{◌≡◌, ◌≢◌, ℕ, suc, get_or, take, drop, length-drop, ◌-◌, ◌+◌, ◌<◌, ◌≤◌, Bool, true, false, List, [], ◌∷◌, ◌++◌, length}
-use Rattle.std.proofs.Common.{refl, sym, ◌∙◌, ap, subst, arith, append_assoc, Option, Some, None, Result, Ok, Err}
+use Rattle.std.proofs.Common.{◌≡◌, ◌≢◌, ℕ, suc, get_or, take, drop, ◌-◌, ◌+◌, ◌≤◌, true, false, List, [], ◌∷◌, ◌++◌, length}
+use Rattle.std.proofs.Common.{refl, sym, ◌∙◌, ap, subst, arith, append_assoc, Option, Some, None, Ok}
 use Rattle.std.proofs.{lemmas.List.append-nil, lemmas.List.length-append, lemmas.List.nil_from_length, lemmas.List.take-append-drop, Math.Seq.set-append_seam}
 use Rattle.std.proofs.lemmas.List.{length-take-le, take_all}
 use Rattle.dns_zone_tokens.proofs.LetterSteps.{from_offset}
 use Rattle.std.specs.Prelude.{slice_set}
-use Rattle.dns_fields.specs.Labels.{DomainName, IsName, lowname, wire}
+use Rattle.dns_fields.specs.Labels.{DomainName, IsName, wire}
 use Rattle.dns_fields.proofs.NameLaws.{lowname_length}
 use Rattle.dns_types.specs.declared.error.ParseError.TheVariants as parse
-use Rattle.dns_zone_tokens.specs.{Letters.escapes_stand, NameSteps.ReadSoFar, NameSteps.LabelsRead, NameSteps.LabelsPut, Tokens.Token, ZoneReads.PutAs}
+use Rattle.dns_zone_tokens.specs.{Letters.escapes_stand, NameSteps.ReadSoFar, NameSteps.LabelsPut, Tokens.Token, ZoneReads.PutAs}
 use Rattle.dns_zone_tokens.specs.NameTokens.{labelled, is_alone, name, named, name_octets}
 use Rattle.dns_zone_tokens.proofs.NamePuts.{alone_is, dot_ended, whole_put, is_completed, completed_put, completed_full, completed_none, full_by}
 use Rattle.dns_zone_tokens.proofs.NameLabels.{PlainTo, front_read, at_end, end_dot, end_label, label_read}

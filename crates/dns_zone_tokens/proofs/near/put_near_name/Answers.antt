@@ -1,7 +1,7 @@
 use Rattle.std.proofs.Common.{◌∙◌, ap, sym, refl, [], ◌∷◌, ◌++◌}
 use Rattle.std.proofs.lemmas.Bool.{OnTrue_at, OnTrue_from}
 use Rattle.std.specs.Option.{option_copied}
-use Rattle.dns_zone_tokens.specs.{NameTokens.name, NameTokens.name_octets, Views.token_value, ZoneReads.PutAs}
+use Rattle.dns_zone_tokens.specs.{Views.token_value}
 use Rattle.dns_zone_tokens.proofs.NearNames.{root_put, origin_put, full_put, relative_put, joined_put}
 use Rattle.dns_zone_tokens.proofs.near.put_near_name.Goals as goal
 
