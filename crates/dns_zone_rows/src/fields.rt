@@ -64,6 +64,7 @@ fn put_field(
 
 // Appends a number of so many octets, at most four. Any other token gives the error with the text `wrong`, here and
 // below.
+#[inline(always)]
 fn put_number(
     octets: &mut Vec<u8>,
     token: ZoneToken<'_>,
@@ -79,6 +80,7 @@ fn put_number(
 }
 
 // Appends a number that may have one of these names.
+#[inline(always)]
 fn put_named(
     octets: &mut Vec<u8>,
     token: ZoneToken<'_>,
