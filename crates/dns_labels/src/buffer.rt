@@ -1,12 +1,11 @@
 //! A name's octets while they are read, without a request for memory.
 
-ghost use Rattle.std.specs.Prelude.{◌≡◌, ◌+◌, ◌<◌, ◌≤◌, [], ◌++◌, ◌∷◌, length, IfOk, slice_set, ℕ, List};
+ghost use Rattle.std.specs.Prelude.{◌≡◌, ◌+◌, ◌<◌, ◌≤◌, [], ◌++◌, ◌∷◌, length, slice_set, ℕ, List};
 ghost use Rattle.std.specs.Bool.{OnTrue};
 ghost use Rattle.dns_labels.specs.Text.{label_text};
 
 use crate::text::is_plain;
 use arrayvec::ArrayVec;
-use std::alloc::{AllocError, Global};
 use std::marker::Model;
 
 /// The most octets that a name has before its last one, the 0 of the root (RFC 1035, section 3.1).
@@ -80,13 +79,6 @@ impl NameBuffer {
         ensures { self.new ≡ slice_set self.old index octet }
     {
         self.octets.as_mut_slice()[index] = octet;
-    }
-
-    /// Copies the octets to a vector without spare capacity.
-    pub(crate) fn to_vec(&self, alloc: Global) -> Result<Vec<u8>, AllocError>
-        ensures { IfOk result (λ v. v.items ≡ self.now) }
-    {
-        Vec::from_slice(alloc, self.as_slice())
     }
 
     /// The octets.

@@ -1,12 +1,13 @@
 //! Texts of names (RFC 1035, 5.1).
 
-ghost use Rattle.std.specs.Prelude.{◌≡◌, ℕ, ◌+◌, ◌<◌, ◌≤◌, List, [], ◌∷◌, ◌++◌, length, take, drop, ◌⊎◌, IfSome, IfNone, IfOk, IfErr, MatchResult, Some};
-ghost use Rattle.std.specs.{Fmt.DisplaysOnOk, Bool.OnTrue};
-ghost use Rattle.dns_fields.specs.Labels.{DomainName, IsLabel, IsName};
+ghost use Rattle.std.specs.Prelude.{◌≡◌, ℕ, ◌+◌, ◌<◌, ◌≤◌, List, [], ◌∷◌, ◌++◌, ◌==◌, not, length, take, drop, ◌⊎◌, IfSome, IfNone, IfOk, IfErr, MatchResult, Some};
+ghost use Rattle.std.specs.{Fmt.DisplaysOnOk, Bool.OnTrue, List.prefix_len};
+ghost use Rattle.dns_fields.specs.{Labels.DomainName, Labels.IsLabel, Labels.IsName, Octets.AreOctets};
 ghost use Rattle.dns_labels.specs.{Text.printed, Text.label_text, Text.name_text, Labels.AreNameOctets, Labels.name_of};
 ghost use Rattle.dns_labels.specs.declared.error.NameTextError.TheVariants as text_error;
 ghost use Rattle.dns_labels.specs.Text.{OctetText as IsOctetText, LabelText as IsLabelText, IsNameText, IsLabelEnd, AddsOctets, AddsLabel, HasOctets};
 
+use crate::NameOctets;
 use crate::buffer::{MAX_OCTETS, NameBuffer};
 use crate::error::NameTextError;
 use crate::labels::LabelIter;
@@ -67,10 +68,32 @@ fn read_octet(text: &[u8]) -> Option<(u8, usize)>
     Some((value as u8, 4))
 }
 
-/// Reads the octets of a label up to a dot or the end of the text, and returns how many characters they take, or why it
-/// is not a label.
+// How many octets precede the first dot; all of them if there is none.
+#[inline]
+fn dot_index(text: &[u8]) -> usize
+    ensures value { result ≡ prefix_len (λ c. not (c == 46)) text.now }
+    ensures within { result ≤ length text.now }
+{
+    text.iter().take_while(|octet| **octet != 46).count()
+}
+
+// The label up to a dot or the end of the text, if each of its octets is written as it is.
+#[inline]
+fn plain_label(text: &[u8]) -> Option<&[u8]>
+    ensures { IfSome result (λ label. (old : List ℕ) → AddsOctets text.now (length label.now) old (old ++ label.now)) }
+{
+    let label = &text[..dot_index(text)];
+    if is_plain_label(label) {
+        Some(label)
+    } else {
+        None
+    }
+}
+
+// Reads the octets of a label one by one, up to a dot or the end of the text, and returns how many characters they take,
+// or why it is not a label.
 #[tactic(auto, using(crate::proofs::LabelSteps::label_none))]
-fn read_octets(text: &[u8], octets: &mut NameBuffer) -> Result<usize, &'static str>
+fn read_each_octet(text: &[u8], octets: &mut NameBuffer) -> Result<usize, &'static str>
     ensures some { IfOk result (λ taken. AddsOctets text.now taken octets.old octets.new) }
     ensures short { length octets.new ≤ length octets.old + 63 }
     ensures room { length octets.new ≤ 254 }
@@ -96,6 +119,23 @@ fn read_octets(text: &[u8], octets: &mut NameBuffer) -> Result<usize, &'static s
         at += taken;
     }
     Ok(at)
+}
+
+// The same. A label without escapes is copied as a whole.
+fn read_octets(text: &[u8], octets: &mut NameBuffer) -> Result<usize, &'static str>
+    ensures some { IfOk result (λ taken. AddsOctets text.now taken octets.old octets.new) }
+    ensures short { length octets.new ≤ length octets.old + 63 }
+    ensures room { length octets.new ≤ 254 }
+    ensures none { IfErr result (λ _. (label t rest : List ℕ) → IsLabelText label t → text.now ≡ t ++ rest →
+        IsLabelEnd rest → length label ≤ 63 → length octets.old + length label ≤ 254 → ⊥) }
+{
+    if let Some(label) = plain_label(text)
+        && label.len() <= MAX_LABEL.min(MAX_OCTETS - octets.len())
+    {
+        octets.extend(label);
+        return Ok(label.len());
+    }
+    read_each_octet(text, octets)
 }
 
 /// Reads a label up to a dot or the end of the text, with its length octet, and returns how many characters it takes,
@@ -154,22 +194,22 @@ fn read_name(text: &[u8], octets: &mut NameBuffer) -> Result<bool, &'static str>
 /// with a dot at the end if the name is fully qualified. In a label an octet is a graphic character of ASCII other than
 /// `.` and `\`, or `\` and three digits up to 255, or `\` and a graphic character that is no digit. A label has 1 to 63
 /// octets, and a name at most 255 on the wire. For any other text this returns [`Invalid`](NameTextError::Invalid) with
-/// the reason and allocates nothing; otherwise it allocates at most once.
+/// the reason and allocates nothing; otherwise it allocates once if the name has more than 32 octets.
 #[tactic(auto, using(crate::proofs::NameTexts::one_name, crate::proofs::NameTexts::name_reads))]
-pub fn parse_octets(alloc: Global, text: &[u8]) -> Result<(Vec<u8>, bool), NameTextError>
-    ensures ok { IfOk result (λ r. IsNameText (name_of r.0.items r.1) text.now) }
-    ensures octets { IfOk result (λ r. AreNameOctets r.0.items) }
+pub fn parse_octets(alloc: Global, text: &[u8]) -> Result<(NameOctets, bool), NameTextError>
+    ensures ok { IfOk result (λ r. IsNameText (name_of r.0 r.1) text.now) }
+    ensures octets { IfOk result (λ r. AreNameOctets r.0) }
     ensures refused { IfErr result (λ e. (e ≡ text_error.Memory) ⊎ ((name : DomainName) → IsNameText name text.now → ⊥)) }
     // a name's printed text reads back as that name
     ensures reads_back { (name : DomainName) → IsName name → HasOctets name → text.now ≡ name_text name →
-        MatchResult result (λ r. name_of r.0.items r.1 ≡ name) (λ e. e ≡ text_error.Memory) }
+        MatchResult result (λ r. name_of r.0 r.1 ≡ name) (λ e. e ≡ text_error.Memory) }
 {
     let mut octets = NameBuffer::new();
     let is_fqdn = match read_name(text, &mut octets) {
         Ok(is_fqdn) => is_fqdn,
         Err(why) => return Err(NameTextError::Invalid(why)),
     };
-    let octets = octets.to_vec(alloc)?;
+    let octets = NameOctets::from_slice(alloc, octets.as_slice())?;
     Ok((octets, is_fqdn))
 }
 
@@ -184,7 +224,8 @@ pub(crate) fn is_plain(octet: u8) -> bool
 /// Returns whether each of a label's octets is written as it is in its text.
 #[inline]
 pub(crate) fn is_plain_label(label: &[u8]) -> bool
-    ensures { OnTrue result (label_text label.now ≡ label.now) }
+    ensures plain { OnTrue result (label_text label.now ≡ label.now) }
+    ensures octets { AreOctets label.now }
 {
     for octet in label {
         if !is_plain(*octet) {

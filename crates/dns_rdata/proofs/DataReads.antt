@@ -16,7 +16,7 @@ use Rattle.dns_rdata_service.proofs.SvcbValues.{svcb_never}
 use Rattle.dns_rdata_base.specs as base
 use Rattle.dns_rdata_caa_csync.specs as caa_csync
 use Rattle.dns_rdata.specs.declared.record_data.RData.{RData}
-use Rattle.dns_rdata.specs.ReadErrors.{IsReadError, OwnError, OwnResult, OwnTaken, without, rejects_of, never_read, IsTaken, Reached}
+use Rattle.dns_rdata.specs.ReadErrors.{IsReadError, OwnError, OwnTaken, rejects_of, never_read, IsTaken, Reached}
 use Rattle.dns_rows.specs.Table.{TypeRow, fields as row, unread, formatless, table, kinds_of}
 use Rattle.dns_rdata.specs.Data.{parts_of, MeetsRule, IsFormatless, IsNever, FieldsOf, shape, MeetsCondition}
 use Rattle.dns_rdata.specs.Data.{IsUnknownType, IsValue, Fills, HasValue, NoValue, TookData, RefusedData, ReadsData, type_of, IsNeverRead}
@@ -231,10 +231,6 @@ taken_mapped : {X : Type 0} (f : X → RData) (r : Result X DecodeError) (P : Ty
 taken_mapped f (Ok x) P h = h
 taken_mapped f (Err e) P h = tt
 
-pub without_mapped : {X : Type 0} (f : X → RData) (r : Result X DecodeError) → without (mapped f r) ≡ without r
-without_mapped f (Ok x) = refl
-without_mapped f (Err e) = refl
-
 -- what reading a type gives by itself, before the octets that it took are counted
 pub record ReadsOwn (t : RecordType) (n : ℕ) (outcome : Result RData DecodeError) (old new : Reading) : Type 0 where
   pub reads : ReadsData t n outcome old new
@@ -335,7 +331,7 @@ unknown_own {n} {old} {new} t r h region own taken = record {
 
 -- ---- types without data
 
-pub zero_own : {n : ℕ} {d : Reading} → n < 65536 → d.index ≤ length d.message → AreOctets d.message → ReadsOwn types.ZERO n (Ok rdata.ZERO) d d
+zero_own : {n : ℕ} {d : Reading} → n < 65536 → d.index ≤ length d.message → AreOctets d.message → ReadsOwn types.ZERO n (Ok rdata.ZERO) d d
 zero_own {n} {d} short inside octets = record {
   reads = data_zero d n short inside octets;
   own = tt;
@@ -364,7 +360,7 @@ never_own t n d h rejects = record {
   never = λ _. (refl, refl);
 }
 
-pub unread_own : (t : RecordType) (n : ℕ) (d : Reading) → (t ≡ types.ANY) ⊎ ((t ≡ types.AXFR) ⊎ (t ≡ types.IXFR))
+unread_own : (t : RecordType) (n : ℕ) (d : Reading) → (t ≡ types.ANY) ⊎ ((t ≡ types.AXFR) ⊎ (t ≡ types.IXFR))
     → ReadsOwn t n (Err (decode.UnknownRecordTypeValue (number_of t))) d d
 unread_own t n d (inl e) = rw e (never_own types.ANY n d tt refl)
 unread_own t n d (inr (inl e)) = rw e (never_own types.AXFR n d tt refl)
@@ -375,33 +371,14 @@ pub unread_counted : (t : RecordType) (n : ℕ) (d : Reading) → (t ≡ types.A
 unread_counted t n d h =
     record { outcome = Err (decode.UnknownRecordTypeValue (number_of t)); given = unread_own t n d h; counted = refl }
 
--- ---- what a type gives by itself, without the value
+-- ---- what the clauses of reading say
 
 counted_behind : (t : RecordType) (n : ℕ) (o : Result RData DecodeError) (old new : Reading) → ReadsData t n o old new → StaysBehind old new
 counted_behind t n (Ok v) old new h = h.behind
 counted_behind t n (Err e) old new h = h.behind
 
-pub own_behind : {t : RecordType} {n : ℕ} {o : Result RData DecodeError} {old new : Reading} → ReadsOwn t n o old new → StaysBehind old new
+own_behind : {t : RecordType} {n : ℕ} {o : Result RData DecodeError} {old new : Reading} → ReadsOwn t n o old new → StaysBehind old new
 own_behind {t} {n} {o} {old} {new} h = counted_behind t n o old new h.reads
-
-pub own_result : {t : RecordType} {n : ℕ} (o : Result RData DecodeError) {old new : Reading} → ReadsOwn t n o old new → OwnResult t n old new (without o)
-own_result (Ok v) h = h.taken
-own_result (Err e) h = h.own
-
-pub own_whole : {t : RecordType} {n : ℕ} (o : Result RData DecodeError) {old new : Reading} → ReadsOwn t n o old new
-    → OnOk (without o) (new.index ≡ old.index + n → HasValue old.message old.index n t)
-own_whole (Ok v) h = λ e. record { value = v; fills = h.reads.here e }
-own_whole (Err e) h = tt
-
-pub own_elsewhere : {t : RecordType} {n : ℕ} (o : Result RData DecodeError) {old new : Reading} → ReadsOwn t n o old new
-    → OnOk (without o) (new.index ≢ old.index + n → NoValue old.message old.index n t)
-own_elsewhere {t} (Ok v) h = λ e. no_value t (h.reads.elsewhere e)
-own_elsewhere (Err e) h = tt
-
-pub own_refused : {t : RecordType} {n : ℕ} (o : Result RData DecodeError) {old new : Reading} → ReadsOwn t n o old new
-    → IfErr (without o) (λ e. UnlessMemory e (NoValue old.message old.index n t))
-own_refused (Ok v) h = tt
-own_refused {t} (Err e) h = unless_map e _ _ (no_value t) h.reads.none
 
 pub reads_behind : {t : RecordType} {n : ℕ} {r : Result RData DecodeError} {old new : Reading} → ReadsCounted t n r old new → StaysBehind old new
 reads_behind {t} {n} {r} {old} {new} h = own_behind h.given

@@ -81,11 +81,6 @@ abbrev pub OwnResult : RecordType → ℕ → Reading → Reading → Result (Un
 OwnResult t n old new (Ok x) = OwnTaken t n old new
 OwnResult t n old new (Err e) = UnlessMemory e (OwnError t n old new e)
 
--- the result without its value
-abbrev pub without : {X : Type 0} → Result X DecodeError → Result (Unit {0}) DecodeError
-without (Ok x) = Ok tt
-without (Err e) = Err e
-
 -- The decoder is where the record's own reader stopped, with a value or an error.
 pub record Stopped (t : RecordType) (n : ℕ) (old new : Reading) : Type 0 where
   pub own : Result (Unit {0}) DecodeError

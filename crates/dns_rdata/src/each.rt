@@ -59,26 +59,6 @@ macro_rules! read_each {
     };
 }
 
-// Matches the type: first the given arms, then one for each record, which reads the RDATA, keeps no value, and returns.
-macro_rules! own_each {
-    (
-        ($record_type:expr, $decoder:ident, $length:ident, $($pattern:pat => $other:expr),+; $last:expr)
-        $(($record:ident $rank:literal))+
-    ) => {
-        match $record_type {
-            $($pattern => $other,)+
-            $(RecordType::$record => {
-                let data = $record::read_data($decoder, $length);
-                return without_value(data);
-            })+
-            _ => $last,
-        }
-    };
-    ($($arguments:tt)+) => {
-        with_records!(own_each, ($($arguments)+))
-    };
-}
-
 // Clones a value: first the given arms, then one for each record. Addresses are copied.
 macro_rules! clone_each {
     (($value:expr, $($pattern:pat => $other:expr,)+) (A 0) (AAAA 1) $(($record:ident $rank:literal))+) => {
@@ -97,6 +77,5 @@ macro_rules! clone_each {
 pub(crate) use clone_each;
 pub(crate) use each;
 pub(crate) use equal_each;
-pub(crate) use own_each;
 pub(crate) use read_each;
 pub(crate) use with_records;

@@ -9,12 +9,13 @@ ghost use Rattle.dns_rdata_base.specs.NULL.{null_shape, null_fields};
 ghost use Rattle.dns_rdata.specs.Data.{Fills, HasValue, NoValue, EmitsData, IsEmittable, IsNeverRead, data_octets, fields_of, mode_for, type_of};
 ghost use Rattle.dns_rdata.specs.{Equal.equal, Equal.equal_equiv, Equal.record_type_eq, Hashing.data_fed, Hashing.fed_same, Laws.ReadsBack, Laws.ReadsCanonical};
 ghost use Rattle.std.specs.Option.{option_copied};
-ghost use Rattle.dns_rdata.specs.ReadErrors.{IsReadError, OwnResult, without};
+ghost use Rattle.dns_rdata.specs.ReadErrors.{IsReadError, OwnResult};
 ghost use Rattle.dns_rdata.specs.{Laws.TellsApart, Laws.address_of, Laws.target_of, Texts.HasText, Texts.data_text, WholeOctets.whole_data};
 ghost use Rattle.dns_rdata.specs.declared.record_data.RData.TheVariants as rdata;
 
-use crate::each::{clone_each, each, equal_each, own_each, read_each, with_records};
+use crate::each::{clone_each, each, equal_each, read_each, with_records};
 use crate::traits::RecordData;
+use crate::view::RDataRef;
 use crate::{
     A, AAAA, ANAME, CAA, CERT, CNAME, CSYNC, HINFO, HTTPS, MX, NAPTR, NS, NULL, OPENPGPKEY, OPT,
     PTR, SMIMEA, SOA, SRV, SSHFP, SVCB, TLSA, TXT,
@@ -212,23 +213,21 @@ impl RData {
         )
     }
 
-    /// The record's own result for RDATA of this type, before its octets are counted.
+    /// The record's own result for RDATA of this type, before its octets are counted. Allocates nothing.
     ///
     /// It is `Ok` if the record reads a value, wherever that ends, and the record's own error otherwise. The decoder is
     /// then where reading stopped. [`read`](RData::read) compares the number of octets with `length` before it returns
     /// an error of the record, so it rejects most damaged RDATA with
     /// [`IncorrectRDataLengthRead`](DecodeError::IncorrectRDataLengthRead). This call tells the error that the record
     /// has: [`CaaTagInvalid`](DecodeError::CaaTagInvalid) for a bad CAA tag with a value after it. `read` accepts the
-    /// RDATA exactly if this call returns `Ok` and moves the decoder by `length`. Allocates what `read` does, and frees
-    /// it.
+    /// RDATA exactly if this call returns `Ok` and moves the decoder by `length`.
     ///
     /// # Errors
     ///
     /// - [`UnknownRecordTypeValue`](DecodeError::UnknownRecordTypeValue): the type is ANY, AXFR or IXFR, of which no
     ///   data is read. The decoder has not moved.
-    /// - [`Memory`](DecodeError::Memory): an allocation failed.
     /// - The record's own errors, which [`read`](RData::read) lists.
-    #[inline(never)]
+    #[inline]
     pub fn own_result(
         decoder: &mut BinDecoder<'_>,
         record_type: RecordType,
@@ -245,22 +244,12 @@ impl RData {
         // After an error other than `Memory` they have none either.
         ensures refused { IfErr result (λ e. UnlessMemory e (
             NoValue decoder.old.message decoder.old.index length record_type)) }
+        ensures allocates_nothing { IfErr result (λ e. e ≢ DecodeError.Memory) }
         ensures never { IsNeverRead record_type → (decoder.new ≡ decoder.old)
             × (result ≡ Err (DecodeError.UnknownRecordTypeValue (number_of record_type))) }
         ensures behind { StaysBehind decoder.old decoder.new }
     {
-        // For the proof: brings in that the message is octets and the index is at most its length.
-        let _start = decoder.index();
-        own_each!(record_type, decoder, length,
-            RecordType::ZERO => return Ok(()),
-            RecordType::ANY | RecordType::AXFR | RecordType::IXFR => {
-                return Err(DecodeError::UnknownRecordTypeValue(record_type.into()));
-            };
-            {
-                let data = NULL::read_data(decoder, length);
-                return without_value(data);
-            }
-        )
+        RDataRef::own_result(decoder, record_type, length)
     }
 
     /// Appends the RDATA with names uncompressed and case preserved, whatever the mode of the encoder, so the octets
@@ -355,17 +344,6 @@ impl RData {
             (RData::ZERO, RData::ZERO) => true;
             false
         )
-    }
-}
-
-// The result without its value.
-#[inline]
-fn without_value<T: Drop>(outcome: Result<T, DecodeError>) -> Result<(), DecodeError>
-    ensures { result ≡ without outcome }
-{
-    match outcome {
-        Ok(_) => Ok(()),
-        Err(error) => Err(error),
     }
 }
 

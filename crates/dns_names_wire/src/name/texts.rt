@@ -6,8 +6,8 @@ ghost use Rattle.dns_labels.specs.Text.{IsNameText, HasOctets, name_text};
 ghost use Rattle.dns_names_wire.specs.NameValues.{IsTextError};
 
 use crate::name::Name;
+use dns_labels::NameTextError;
 use dns_labels::text::{NameText, parse_octets};
-use dns_labels::{NameOctets, NameTextError};
 use dns_types::{ProtoError, ProtoResult};
 use std::alloc::{AllocError, Global};
 use std::fmt;
@@ -32,7 +32,7 @@ impl Name {
             MatchResult result (λ n. n ≡ x) (λ e. e ≡ ProtoError.Memory) }
     {
         match parse_octets(alloc, text.as_bytes()) {
-            Ok((octets, is_fqdn)) => Ok(Name::from_octets(NameOctets::from_vec(octets), is_fqdn)),
+            Ok((octets, is_fqdn)) => Ok(Name::from_octets(octets, is_fqdn)),
             Err(NameTextError::Memory) => Err(ProtoError::Memory),
             Err(NameTextError::Invalid(why)) => Err(ProtoError::Message(why)),
         }
