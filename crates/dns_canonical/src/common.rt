@@ -32,6 +32,7 @@ pub(crate) fn common_beginning(a: &[u8], b: &[u8]) -> usize
 }
 
 // How many octets both begin with, found by sixteen at once and then one by one.
+#[tactic(auto, using(crate::proofs::Sharing::more_same))]
 fn common_in_blocks(a: &[u8], b: &[u8]) -> usize
     ensures left { result ≤ length a.now }
     ensures right { result ≤ length b.now }

@@ -67,6 +67,7 @@ impl<'a> Run<'a> {
 
     // Takes the octets that the kept ones have in common.
     #[inline]
+    #[tactic(auto, using(crate::proofs::Sharing::heads_share))]
     fn skip_heads(&mut self, other: &mut Run<'_>) -> usize
         ensures few { result ≤ 34 }
         ensures shares { Shares result self.old self.new other.old other.new }

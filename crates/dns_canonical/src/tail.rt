@@ -84,6 +84,7 @@ impl<'a> Tail<'a> {
 
     /// If both are names or neither is, takes octets that are equal at the front of both, and returns how many it took.
     #[inline]
+    #[tactic(auto, using(crate::proofs::Sharing::same_mark, crate::proofs::Sharing::names_share, crate::proofs::Sharing::rests_share))]
     pub fn skip_common(&mut self, other: &mut Tail<'_>) -> usize
         ensures shares { Shares result self.old self.new other.old other.new }
         ensures room { result + 34 < 2 ^ 64 }

@@ -41,6 +41,7 @@ pub enum Kind {
 }
 
 /// Laws of reading and writing, for every list of kinds of fields.
+#[tactic(auto, using(crate::proofs::Laws::stands_law, crate::proofs::Laws::one_end, crate::proofs::Laws::canonical_law, crate::proofs::Laws::canonical_stands, crate::proofs::Laws::wrote_stands, crate::proofs::OctetLaws::canonical_octets_are))]
 pub fn fields_hold()
     // Fields at an offset have one value, and it can be emitted.
     ensures stands { StandsLaw }
@@ -57,6 +58,7 @@ pub fn fields_hold()
 {}
 
 /// Laws of equality and order, for every list of kinds of fields.
+#[tactic(auto, using(crate::proofs::EqualLaws::values_decide, crate::proofs::Equivalences::values_equiv, crate::proofs::Orders::values_total, crate::proofs::Orders::values_ties))]
 pub fn comparing_holds()
     // `==` tells whether values are the same, where their names are fully qualified.
     ensures equal { EqualLaw }
@@ -69,6 +71,7 @@ pub fn comparing_holds()
 {}
 
 /// The grammar at work, on octets that were worked out by hand: some hold values, some hold none.
+#[tactic(auto, using(crate::proofs::Examples::string_examples, crate::proofs::Examples::name_examples, crate::proofs::Examples::option_examples, crate::proofs::Examples::parameter_examples, crate::proofs::BitmapExamples::bitmap_examples))]
 pub fn examples_hold()
     // Numbers, octets and strings.
     ensures strings { StringExamples }

@@ -4,6 +4,7 @@
 pub mod laws;
 pub mod lexer;
 pub mod list;
+pub mod plain;
 mod quoted;
 pub mod segments;
 mod spans;
@@ -13,6 +14,7 @@ pub mod words;
 
 pub use lexer::Lexer;
 pub use list::read_item;
+pub use plain::{PlainWords, is_plain};
 pub use segments::next_segment;
 pub use spans::{is_blank, is_line_end};
 pub use token::Token;
