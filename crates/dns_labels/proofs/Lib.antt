@@ -12,4 +12,5 @@ pub mod TextSteps
 pub mod LabelSteps
 pub mod NameTexts
 pub mod NameSteps
+pub mod PlainNames
 pub mod Built

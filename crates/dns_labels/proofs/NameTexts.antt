@@ -1,9 +1,8 @@
 -- A text is that of one name, and what is printed of a name is a text of it.
-use Rattle.std.proofs.Common.{◌≡◌, ℕ, zero, suc, ◌<◌, ◌≤◌, ◌==◌, ◌+◌, not, Bool, true, false, List, [], ◌∷◌, ◌++◌, All, length, take, drop, refl, sym, ◌∙◌, ap, subst, append_assoc, length-take-le, arith}
-use Rattle.std.proofs.lemmas.{Bool.eqb-true, List.Sums.prefix_len-le-length}
-use Rattle.std.specs.List.{prefix_len}
+use Rattle.std.proofs.Common.{◌≡◌, ℕ, zero, suc, ◌<◌, ◌≤◌, Bool, true, false, List, [], ◌∷◌, ◌++◌, All, length, take, drop, refl, sym, ◌∙◌, ap, subst, append_assoc, length-take-le, arith}
 use Rattle.std.proofs.lemmas.List.{Elements.All-head, Elements.All-tail, append-nil, append_cancel_left}
 use Rattle.std.specs.Prelude.{flat_map, if◌then◌else◌}
+use Rattle.dns_fields.proofs.OctetLaws.{AreOctets-take}
 use Rattle.dns_fields.specs.{Labels.DomainName, Labels.AreLabels, Labels.IsName, Octets.AreOctets}
 use Rattle.dns_labels.specs.Text.{OctetText, LabelText, LabelsText, MarkedText, IsNameText, IsLabelEnd, AddsOctets, HasOctets, printed, label_text, joined_text, name_text}
 use Rattle.dns_labels.specs.Text.{MarkedText.root, MarkedText.nothing, MarkedText.labelled, LabelText.no_octet, LabelText.octet, OctetText.plain}
@@ -124,26 +123,16 @@ label_reads [] h = no_octet
 label_reads (c ∷ label) h = octet (printed c) (label_text label) (printed_text c (All-head (λ (x : ℕ). x < 256) c label h))
     (label_reads label (All-tail (λ (x : ℕ). x < 256) c label h)) refl
 
--- a label ends at the first dot, or with the text
-label_ends : (text : List ℕ) → IsLabelEnd (drop (prefix_len (λ c. not (c == 46)) text) text)
-label_ends [] = tt
-label_ends (c ∷ text) = by (c == 46) refl (prefix_len (λ x. not (x == 46)) text) (label_ends text) where
-  by : (dot : Bool) → (c == 46) ≡ dot → (n : ℕ) → IsLabelEnd (drop n text) → IsLabelEnd (drop (if not dot then 1 + n else 0) (c ∷ text))
-  by true e n h = eqb-true c 46 e
-  by false e n h = let same : suc n ≡ 1 + n = omega arith in subst (λ (k : ℕ). IsLabelEnd (drop k (c ∷ text))) same h
-
 -- a label whose octets are written as they are
-pub label_as_is : (text : List ℕ) (n : ℕ) → n ≡ prefix_len (λ c. not (c == 46)) text → label_text (take n text) ≡ take n text → AreOctets (take n text)
+pub label_as_is : (text : List ℕ) (n : ℕ) → n ≤ length text → label_text (take n text) ≡ take n text → AreOctets text → IsLabelEnd (drop n text)
     → (old : List ℕ) → AddsOctets text (length (take n text)) old (old ++ take n text)
-label_as_is text n is same octets old =
-    let within : n ≤ length text = omega (arith, is, prefix_len-le-length (λ c. not (c == 46)) text) in
-    rw (length-take-le n text within) (record {
-      label = take n text;
-      reads = subst (λ (t : List ℕ). LabelText (take n text) t) same (label_reads (take n text) octets);
-      within = within;
-      ends = rw is (label_ends text);
-      octets = refl;
-    })
+label_as_is text n within same octets ends old = rw (length-take-le n text within) (record {
+  label = take n text;
+  reads = subst (λ (t : List ℕ). LabelText (take n text) t) same (label_reads (take n text) (AreOctets-take n text octets));
+  within = within;
+  ends = ends;
+  octets = refl;
+})
 
 labels_read : (label : List ℕ) (labels : List (List ℕ)) (mark : Bool) → All AreOctets (label ∷ labels)
     → LabelsText (label ∷ labels) mark (name_text (record { labels = label ∷ labels; fully_qualified = mark }))

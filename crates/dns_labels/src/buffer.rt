@@ -1,6 +1,6 @@
 //! A name's octets while they are read, without a request for memory.
 
-ghost use Rattle.std.specs.Prelude.{◌≡◌, ◌+◌, ◌<◌, ◌≤◌, [], ◌++◌, ◌∷◌, length, slice_set, ℕ, List};
+ghost use Rattle.std.specs.Prelude.{◌≡◌, ◌+◌, ◌-◌, ◌<◌, ◌≤◌, [], ◌++◌, ◌∷◌, length, take, slice_set, ℕ, List};
 ghost use Rattle.std.specs.Bool.{OnTrue};
 ghost use Rattle.dns_labels.specs.Text.{label_text};
 
@@ -71,6 +71,20 @@ impl NameBuffer {
         ensures { self.new ≡ self.old ++ octet ∷ [] }
     {
         self.octets.push(octet);
+    }
+
+    /// Takes all octets away.
+    pub(crate) fn clear(&mut self)
+        ensures { self.new ≡ [] }
+    {
+        self.octets.clear();
+    }
+
+    /// Takes the last octet away.
+    pub(crate) fn pop(&mut self)
+        ensures { self.new ≡ take (length self.old - 1) self.old }
+    {
+        let _ = self.octets.pop();
     }
 
     /// Sets the octet at an index.

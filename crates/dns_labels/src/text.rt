@@ -1,7 +1,7 @@
 //! Texts of names (RFC 1035, 5.1).
 
-ghost use Rattle.std.specs.Prelude.{◌≡◌, ℕ, ◌+◌, ◌<◌, ◌≤◌, List, [], ◌∷◌, ◌++◌, ◌==◌, not, length, take, drop, ◌⊎◌, IfSome, IfNone, IfOk, IfErr, MatchResult, Some};
-ghost use Rattle.std.specs.{Fmt.DisplaysOnOk, Bool.OnTrue, List.prefix_len};
+ghost use Rattle.std.specs.Prelude.{◌≡◌, ℕ, ◌+◌, ◌<◌, ◌≤◌, List, [], ◌∷◌, ◌++◌, length, take, drop, ◌⊎◌, IfSome, IfNone, IfOk, IfErr, MatchResult, Some};
+ghost use Rattle.std.specs.{Fmt.DisplaysOnOk, Bool.OnTrue};
 ghost use Rattle.dns_fields.specs.{Labels.DomainName, Labels.IsLabel, Labels.IsName, Octets.AreOctets};
 ghost use Rattle.dns_labels.specs.{Text.printed, Text.label_text, Text.name_text, Labels.AreNameOctets, Labels.name_of};
 ghost use Rattle.dns_labels.specs.declared.error.NameTextError.TheVariants as text_error;
@@ -68,32 +68,10 @@ fn read_octet(text: &[u8]) -> Option<(u8, usize)>
     Some((value as u8, 4))
 }
 
-// How many octets precede the first dot; all of them if there is none.
-#[inline]
-fn dot_index(text: &[u8]) -> usize
-    ensures value { result ≡ prefix_len (λ c. not (c == 46)) text.now }
-    ensures within { result ≤ length text.now }
-{
-    text.iter().take_while(|octet| **octet != 46).count()
-}
-
-// The label up to a dot or the end of the text, if each of its octets is written as it is.
-#[inline]
-fn plain_label(text: &[u8]) -> Option<&[u8]>
-    ensures { IfSome result (λ label. (old : List ℕ) → AddsOctets text.now (length label.now) old (old ++ label.now)) }
-{
-    let label = &text[..dot_index(text)];
-    if is_plain_label(label) {
-        Some(label)
-    } else {
-        None
-    }
-}
-
-// Reads the octets of a label one by one, up to a dot or the end of the text, and returns how many characters they take,
-// or why it is not a label.
+/// Reads the octets of a label up to a dot or the end of the text, and returns how many characters they take, or why it
+/// is not a label.
 #[tactic(auto, using(crate::proofs::LabelSteps::label_none))]
-fn read_each_octet(text: &[u8], octets: &mut NameBuffer) -> Result<usize, &'static str>
+fn read_octets(text: &[u8], octets: &mut NameBuffer) -> Result<usize, &'static str>
     ensures some { IfOk result (λ taken. AddsOctets text.now taken octets.old octets.new) }
     ensures short { length octets.new ≤ length octets.old + 63 }
     ensures room { length octets.new ≤ 254 }
@@ -121,23 +99,6 @@ fn read_each_octet(text: &[u8], octets: &mut NameBuffer) -> Result<usize, &'stat
     Ok(at)
 }
 
-// The same. A label without escapes is copied as a whole.
-fn read_octets(text: &[u8], octets: &mut NameBuffer) -> Result<usize, &'static str>
-    ensures some { IfOk result (λ taken. AddsOctets text.now taken octets.old octets.new) }
-    ensures short { length octets.new ≤ length octets.old + 63 }
-    ensures room { length octets.new ≤ 254 }
-    ensures none { IfErr result (λ _. (label t rest : List ℕ) → IsLabelText label t → text.now ≡ t ++ rest →
-        IsLabelEnd rest → length label ≤ 63 → length octets.old + length label ≤ 254 → ⊥) }
-{
-    if let Some(label) = plain_label(text)
-        && label.len() <= MAX_LABEL.min(MAX_OCTETS - octets.len())
-    {
-        octets.extend(label);
-        return Ok(label.len());
-    }
-    read_each_octet(text, octets)
-}
-
 /// Reads a label up to a dot or the end of the text, with its length octet, and returns how many characters it takes,
 /// or why it is not a label.
 #[tactic(auto, using(crate::proofs::NameSteps::label_set, crate::proofs::NameSteps::label_empty))]
@@ -161,9 +122,9 @@ fn read_label(text: &[u8], octets: &mut NameBuffer) -> Result<usize, &'static st
     Ok(taken)
 }
 
-/// Reads the octets of a name, and returns whether it is fully qualified, or why the text is not a name.
+// Reads the octets of a name label by label, and returns whether it is fully qualified, or why the text is not a name.
 #[tactic(auto, using(crate::proofs::NameSteps::name_none, crate::proofs::NameSteps::reads_nothing, crate::proofs::NameSteps::reads_root))]
-fn read_name(text: &[u8], octets: &mut NameBuffer) -> Result<bool, &'static str>
+fn read_each_label(text: &[u8], octets: &mut NameBuffer) -> Result<bool, &'static str>
     requires { octets.old ≡ [] }
     ensures some { IfOk result (λ mark. AreNameOctets octets.new × IsNameText (name_of octets.new mark) text.now) }
     ensures none { IfErr result (λ _. (name : DomainName) → IsNameText name text.now → ⊥) }
@@ -186,6 +147,64 @@ fn read_name(text: &[u8], octets: &mut NameBuffer) -> Result<bool, &'static str>
             return Ok(true);
         }
     }
+}
+
+// The label up to a dot or the end of the text, if each of its octets is written as it is.
+#[inline]
+fn plain_label(text: &[u8]) -> Option<&[u8]>
+    ensures within { IfSome result (λ label. length label.now ≤ length text.now) }
+    ensures front { IfSome result (λ label. label.now ≡ take (length label.now) text.now) }
+    ensures label { IfSome result (λ label. (old : List ℕ) → AddsOctets text.now (length label.now) old (old ++ label.now)) }
+{
+    let len = plain_len(text);
+    if len < text.len() && text[len] != 46 {
+        return None;
+    }
+    Some(&text[..len])
+}
+
+// Reads a name without escapes, and returns whether it is fully qualified. The text is copied as a whole, and then each
+// label's length takes the place of the dot before it. `None` says nothing of the text.
+fn read_plain_name(text: &[u8], octets: &mut NameBuffer) -> Option<bool>
+    requires { octets.old ≡ [] }
+    ensures { IfSome result (λ mark. AreNameOctets octets.new × IsNameText (name_of octets.new mark) text.now) }
+{
+    if text.len() == 0 || text.len() >= MAX_OCTETS {
+        return None;
+    }
+    octets.push(0);
+    octets.extend(text);
+    let mut at = 0usize;
+    'labels: loop {
+        let label = plain_label(&text[at..])?;
+        let count = label.len();
+        if count == 0 || count > MAX_LABEL {
+            return None;
+        }
+        octets.set(at, count as u8);
+        at += count;
+        if at == text.len() {
+            return Some(false);
+        }
+        at += 1;
+        if at == text.len() {
+            octets.pop();
+            return Some(true);
+        }
+    }
+}
+
+// Reads the octets of a name, and returns whether it is fully qualified, or why the text is not a name.
+fn read_name(text: &[u8], octets: &mut NameBuffer) -> Result<bool, &'static str>
+    requires { octets.old ≡ [] }
+    ensures some { IfOk result (λ mark. AreNameOctets octets.new × IsNameText (name_of octets.new mark) text.now) }
+    ensures none { IfErr result (λ _. (name : DomainName) → IsNameText name text.now → ⊥) }
+{
+    if let Some(is_fqdn) = read_plain_name(text, octets) {
+        return Ok(is_fqdn);
+    }
+    octets.clear();
+    read_each_label(text, octets)
 }
 
 /// Reads a name from its text, and returns its octets and whether it is fully qualified.
@@ -221,18 +240,26 @@ pub(crate) fn is_plain(octet: u8) -> bool
     33 <= octet && octet <= 126 && octet != 46 && octet != 92
 }
 
+// How many octets in front are written as they are in a label's text.
+#[inline]
+fn plain_len(text: &[u8]) -> usize
+    ensures within { result ≤ length text.now }
+    ensures plain { label_text (take result text.now) ≡ take result text.now }
+    ensures octets { AreOctets text.now }
+{
+    let mut len = 0usize;
+    'octets: while len < text.len() && is_plain(text[len]) {
+        len += 1;
+    }
+    len
+}
+
 /// Returns whether each of a label's octets is written as it is in its text.
 #[inline]
 pub(crate) fn is_plain_label(label: &[u8]) -> bool
-    ensures plain { OnTrue result (label_text label.now ≡ label.now) }
-    ensures octets { AreOctets label.now }
+    ensures { OnTrue result (label_text label.now ≡ label.now) }
 {
-    for octet in label {
-        if !is_plain(*octet) {
-            return false;
-        }
-    }
-    true
+    plain_len(label) == label.len()
 }
 
 /// A label's octets, as they are printed.

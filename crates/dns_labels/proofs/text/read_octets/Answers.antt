@@ -1,7 +1,7 @@
 use Rattle.std.proofs.{lemmas.List.take_rest, lemmas.List.drop_all, Common.arith, Common.length-append}
 use Rattle.dns_labels.proofs.LabelSteps.{label_done, label_refused, label_more, label_full, at_dot}
-use Rattle.dns_labels.proofs.text.read_each_octet.Goals.{then-octets-test+else-text-at-ne46, else-octets-test}
-use Rattle.dns_labels.proofs.text.read_each_octet.Goals as goal
+use Rattle.dns_labels.proofs.text.read_octets.Goals.{then-octets-test+else-text-at-ne46, else-octets-test}
+use Rattle.dns_labels.proofs.text.read_octets.Goals as goal
 
 pub returns-then-left-eq0-clause-none : goal.returns-then-left-eq0-clause-none
 returns-then-left-eq0-clause-none c = λ label t rest lt e end short room.

@@ -1,7 +1,7 @@
 use Rattle.std.proofs.{Common.arith, Common.length, Common.length-drop, Common.◌+◌, Common.◌<◌, lemmas.List.take_rest}
-use Rattle.dns_labels.proofs.text.read_name.Goals.{else-text-eq1-via-then-text-eq1+else-text-eq46, else-text-eq1-via-else-text-eq1}
+use Rattle.dns_labels.proofs.text.read_each_label.Goals.{else-text-eq1-via-then-text-eq1+else-text-eq46, else-text-eq1-via-else-text-eq1}
 use Rattle.dns_labels.proofs.NameSteps.{name_ends, name_dotted, name_more, name_refused, said_of_err}
-use Rattle.dns_labels.proofs.text.read_name.Goals as goal
+use Rattle.dns_labels.proofs.text.read_each_label.Goals as goal
 
 pub returns-in_err-taken-clause-none : goal.returns-in_err-taken-clause-none
 returns-in_err-taken-clause-none c = said_of_err c.from_residual.result c.from_residual.ensures.0 (λ name n.
