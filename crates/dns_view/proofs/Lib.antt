@@ -12,6 +12,7 @@ pub mod PutLoop
 pub mod Forms
 pub mod RowOrder
 pub mod NamesPut
+pub mod NameOrders
 pub mod FieldAt
 pub mod Tagged
 pub mod Bitmaps

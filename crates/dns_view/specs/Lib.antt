@@ -21,3 +21,4 @@ pub mod LabelList
 pub mod NamesShown
 pub mod NameFields
 pub mod TypeList
+pub mod RowOrder

@@ -14,6 +14,7 @@ pub mod check;
 pub mod coded_order;
 pub mod field;
 pub mod label_list;
+pub mod name_order;
 pub mod name_ref;
 pub mod names;
 pub mod option_order;

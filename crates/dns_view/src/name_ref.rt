@@ -3,12 +3,11 @@
 ghost use Rattle.std.specs.Prelude.{◌≡◌, ◌+◌, ◌≤◌, ℕ, true, false, length, take, drop, IfOk, IfSome};
 ghost use Rattle.std.specs.{Cmp.Lexicographic.slice_cmp, Ordering.nat_cmp};
 ghost use Rattle.dns_fields.specs.{Labels.DomainName, Labels.lowname, Names.IsNameIn};
-ghost use Rattle.dns_view.specs.{NameEnds.NameEnds, NameEnds.IsPlainName, NameEnds.IsNamed, Putting.Put, Putting.name_form, LabelList.low_octets};
+ghost use Rattle.dns_view.specs.{NameEnds.IsNamed, Putting.Put, Putting.name_form, LabelList.low_octets};
 
 use crate::label_list::Labels;
-use crate::names::skip_run;
+use crate::name_order::compare_names;
 use crate::put::put_name;
-use dns_labels::comparing::compare_lowered;
 use dns_names_wire::{BinDecodable, BinDecoder, Name};
 use std::alloc::{AllocError, Global};
 use std::cmp::Ordering;
@@ -49,51 +48,6 @@ fn low_octets_of(message: &[u8], offset: usize, out: &mut [u8; 255]) -> usize
     ensures few { result ≤ 255 }
 {
     lowered_octets(message, offset, out)
-}
-
-// The octets of a name without the 0 at its end, or `None` if a compression pointer ends its labels.
-#[inline]
-fn plain_octets(message: &[u8], offset: usize) -> Option<&[u8]>
-    requires { offset ≤ length message.now }
-    ensures { IfSome result (λ s. IsPlainName message.now offset s.now) }
-{
-    match skip_run(message, offset, 0) {
-        Some(run) => match run.next {
-            None => Some(&message[offset..offset + run.octets]),
-            Some(_) => None,
-        },
-        None => None,
-    }
-}
-
-/// Orders two names in messages by their uncompressed octets in lower case. Allocates nothing.
-pub fn compare_names(a: &[u8], x: usize, b: &[u8], y: usize) -> Ordering
-    requires left { x ≤ length a.now }
-    requires right { y ≤ length b.now }
-    ensures { (u : DomainName) (q : ℕ) (v : DomainName) (r : ℕ) → IsNameIn a.now x u q → IsNameIn b.now y v r →
-        result ≡ slice_cmp nat_cmp (lowname u) (lowname v) }
-{
-    match plain_octets(a, x) {
-        Some(first) => match plain_octets(b, y) {
-            Some(second) => compare_lowered(first, second),
-            None => compare_any_names(a, x, b, y),
-        },
-        None => compare_any_names(a, x, b, y),
-    }
-}
-
-// The same for names that compression pointers may end.
-fn compare_any_names(a: &[u8], x: usize, b: &[u8], y: usize) -> Ordering
-    requires left { x ≤ length a.now }
-    requires right { y ≤ length b.now }
-    ensures { (u : DomainName) (q : ℕ) (v : DomainName) (r : ℕ) → IsNameIn a.now x u q → IsNameIn b.now y v r →
-        result ≡ slice_cmp nat_cmp (lowname u) (lowname v) }
-{
-    let mut left = [0; NAME_OCTETS];
-    let mut right = [0; NAME_OCTETS];
-    let long = lowered_octets(a, x, &mut left);
-    let other = lowered_octets(b, y, &mut right);
-    left[..long].cmp(&right[..other])
 }
 
 impl<'a> NameRef<'a> {

@@ -1,18 +1,19 @@
 //! The order of RDATA by canonical octets, this library's own form and not that of DNSSEC.
 
-ghost use Rattle.std.specs.Prelude.{◌≡◌, ◌+◌, ◌-◌, ◌<◌, ◌≤◌, length};
+ghost use Rattle.std.specs.Prelude.{◌≡◌, ◌+◌, ◌-◌, ◌<◌, ◌≤◌, ◌↔◌, IsTrue, ℕ, true, false, length, take, drop, IfSome, IfNone};
 ghost use Rattle.std.specs.{Cmp.Lexicographic.slice_cmp, Ordering.nat_cmp};
 ghost use Rattle.dns_fields.specs.{Fields.canonical, Fields.field_octets, Fields.Field, Fields.Value, declared.Kind.TheVariants.Options};
 ghost use Rattle.dns_rows.specs.Table.{kinds_of};
-ghost use Rattle.dns_view.specs.Rows.{IsRowChecked, HasRow};
+ghost use Rattle.dns_view.specs.Parts.{Reaches};
+ghost use Rattle.dns_view.specs.{Putting.IsCopied, Putting.IsRecoded, Rows.IsRowChecked, Rows.HasRow, RowOrder.IsPlain, RowOrder.ArePlain, RowOrder.Sized};
 
 use crate::coded_order::{compare_bitmaps, compare_parameters};
-use crate::name_ref::compare_names;
+use crate::name_order::order_names;
 use crate::option_order::compare_options;
-use crate::skip::skip_field;
-use crate::walk::Walk;
+use dns_canonical::order::octets_cmp;
 use dns_fields::Kind;
 use dns_rows::Part;
+use dns_types::comparing::same_octets;
 use std::cmp::Ordering;
 
 /// Orders RDATA of two records of one row by canonical octets: field by field, in the messages. Allocates
@@ -34,51 +35,150 @@ pub fn compare_rows(
     ensures { (h : HasRow a.now x row.now (x + long)) (k : HasRow b.now y row.now (y + other)) →
         result ≡ slice_cmp nat_cmp (canonical (kinds_of row.now) h.values) (canonical (kinds_of row.now) k.values) }
 {
-    let mut left = Walk::at(a, x);
-    let mut right = Walk::at(b, y);
-    'fields: for part in row {
-        let i = left.index();
-        let j = right.index();
-        match skip_field(&mut left, part.kind, part.rule, x, long) {
-            Ok(first) => {}
-            Err(first_error) => return Ordering::Equal,
-        }
-        match skip_field(&mut right, part.kind, part.rule, y, other) {
-            Ok(second) => {}
-            Err(second_error) => return Ordering::Equal,
-        }
-        let order = compare_fields(part.kind, a, i, left.index(), b, j, right.index());
-        match order {
-            Ordering::Equal => {}
-            other => return other,
+    let end = x + long;
+    let stop = y + other;
+    if a.len() < end || b.len() < stop {
+        // Unreachable: the RDATA is inside the messages.
+        return Ordering::Equal;
+    }
+    // What is encoded before the offsets `from` and `to` is equal. Octets of the first message from there to `at` are
+    // canonical as they are encoded, and are compared at once, before the next name or at the end.
+    let mut from = x;
+    let mut to = y;
+    let mut at = x;
+    'fields: for index in 0..fields_to_visit(row) {
+        let kind = row[index].kind;
+        if is_plain(kind) {
+            match plain_end(a, at, kind, end) {
+                Some(next) => at = next,
+                // Unreachable: the field is there.
+                None => return Ordering::Equal,
+            }
+        } else {
+            if !begins_with(&b[to..stop], &a[from..at]) {
+                return octets_cmp(&a[from..end], &b[to..stop]);
+            }
+            to += at - from;
+            match kind {
+                Kind::Name => {
+                    let names = order_names(a, at, b, to);
+                    match names.order {
+                        Ordering::Equal => {}
+                        order => return order,
+                    }
+                    if end < names.left || stop < names.right {
+                        // Unreachable: the names are inside the RDATA.
+                        return Ordering::Equal;
+                    }
+                    from = names.left;
+                    at = from;
+                    to = names.right;
+                }
+                _ => return compare_recoded(kind, &a[at..end], &b[to..stop]),
+            }
         }
     }
-    Ordering::Equal
+    octets_cmp(&a[from..end], &b[to..stop])
 }
 
-// Orders two fields of one kind by canonical octets; the fields are given by the offsets of their beginning and end.
+// Returns whether the octets of a field are canonical as they are encoded.
 #[inline]
-fn compare_fields(
-    kind: Kind,
-    a: &[u8],
-    i: usize,
-    p: usize,
-    b: &[u8],
-    j: usize,
-    q: usize,
-) -> Ordering
-    requires left { (i ≤ p) × (p ≤ length a.now) }
-    requires right { (j ≤ q) × (q ≤ length b.now) }
-    requires short_left { kind ≡ Options → p - i < 65536 }
-    requires short_right { kind ≡ Options → q - j < 65536 }
-    ensures { (u : Value kind) (v : Value kind) → Field a.now i kind u p → Field b.now j kind v q →
-        result ≡ slice_cmp nat_cmp (field_octets kind u) (field_octets kind v) }
+fn is_plain(kind: Kind) -> bool
+    ensures yes { result ≡ true → IsPlain kind }
+    ensures no { result ≡ false → IsPlain kind → ⊥ }
 {
     match kind {
-        Kind::Name => compare_names(a, i, b, j),
-        Kind::Options => compare_options(&a[i..p], &b[j..q]),
-        Kind::Parameters => compare_parameters(&a[i..p], &b[j..q]),
-        Kind::Bitmap => compare_bitmaps(&a[i..p], &b[j..q]),
-        _ => a[i..p].cmp(&b[j..q]),
+        Kind::Name => false,
+        Kind::Options => false,
+        Kind::Parameters => false,
+        Kind::Bitmap => false,
+        _ => true,
+    }
+}
+
+// Returns how many fields there are up to the last one whose octets are not canonical as they are encoded.
+#[inline]
+fn fields_to_visit(row: &[Part]) -> usize
+    ensures within { result ≤ length row.now }
+    ensures plain { ArePlain (drop result row.now) }
+{
+    let mut count = row.len();
+    while count > 0 {
+        if !is_plain(row[count - 1].kind) {
+            return count;
+        }
+        count -= 1;
+    }
+    0
+}
+
+// Returns how many octets a field has whose octets are canonical as they are encoded, by its kind and its first octet.
+#[inline]
+#[tactic(auto, using(crate::proofs::RowOrder::number_sized, crate::proofs::RowOrder::octets_sized, crate::proofs::RowOrder::string_sized, crate::proofs::RowOrder::rest_sized))]
+fn plain_size(message: &[u8], at: usize, kind: Kind, end: usize) -> Option<usize>
+    requires within { at ≤ end }
+    requires inside { end ≤ length message.now }
+    ensures some { IfSome result (λ size. Sized message.now at kind end size) }
+    ensures none { IfNone result ((v : Value kind) (q : ℕ) → IsPlain kind → Field message.now at kind v q → Reaches kind end q → ⊥) }
+{
+    match kind {
+        Kind::Number(width) => Some(width as usize),
+        Kind::Octets(count) => Some(count as usize),
+        Kind::CharacterString => {
+            if at == end {
+                return None;
+            }
+            Some(message[at] as usize + 1)
+        }
+        _ => Some(end - at),
+    }
+}
+
+// Returns the offset after a field whose octets are canonical as they are encoded, if it ends within the RDATA.
+#[inline]
+#[tactic(auto, using(crate::proofs::RowOrder::sized_past))]
+fn plain_end(message: &[u8], at: usize, kind: Kind, end: usize) -> Option<usize>
+    requires within { at ≤ end }
+    requires inside { end ≤ length message.now }
+    ensures some { IfSome result (λ next. (v : Value kind) (q : ℕ) → IsPlain kind → Field message.now at kind v q → Reaches kind end q → q ≡ next) }
+    ensures range { IfSome result (λ next. (at ≤ next) × (next ≤ end)) }
+    ensures none { IfNone result ((v : Value kind) (q : ℕ) → IsPlain kind → Field message.now at kind v q → Reaches kind end q → ⊥) }
+{
+    let size = plain_size(message, at, kind, end)?;
+    if end - at < size {
+        return None;
+    }
+    Some(at + size)
+}
+
+// Returns whether the first octets are these.
+#[inline]
+fn begins_with(octets: &[u8], front: &[u8]) -> bool
+    ensures { IsTrue result ↔ (take (length front.now) octets.now ≡ front.now) }
+{
+    let count = front.len();
+    if octets.len() < count {
+        return false;
+    }
+    same_octets(&octets[..count], front)
+}
+
+// Orders two fields of one kind whose canonical octets are made anew, given by their octets.
+#[inline]
+fn compare_recoded(kind: Kind, a: &[u8], b: &[u8]) -> Ordering
+    requires short_left { length a.now < 65536 }
+    requires short_right { length b.now < 65536 }
+    ensures { IsRecoded kind → (u : Value kind) (v : Value kind) → Field a.now 0 kind u (length a.now) → Field b.now 0 kind v (length b.now) →
+        result ≡ slice_cmp nat_cmp (field_octets kind u) (field_octets kind v) }
+{
+    if same_octets(a, b) {
+        return Ordering::Equal;
+    }
+    match kind {
+        Kind::Options => compare_options(a, b),
+        Kind::Parameters => compare_parameters(a, b),
+        Kind::Bitmap => compare_bitmaps(a, b),
+        // Unreachable: all other kinds are compared as they are, or are names.
+        _ => Ordering::Equal,
     }
 }
