@@ -1,6 +1,6 @@
 //! Fields that are checked, one after the other.
 
-ghost use Rattle.std.specs.Prelude.{◌≡◌, ◌<◌, ◌+◌, ◌≤◌, ℕ, false, take, length, get_or, IfSome, Ok};
+ghost use Rattle.std.specs.Prelude.{◌≡◌, ◌<◌, ◌+◌, ◌≤◌, ℕ, false, take, length, get_or, IfSome, IfNone, Ok};
 ghost use Rattle.std.specs.{Char.is_ascii_alphanumeric, List.list_all};
 ghost use Rattle.dns_fields.specs.declared.Kind.TheVariants.{Number, Octets, Name, CharacterString, CharacterStrings, Rest, Bitmap};
 ghost use Rattle.dns_rows.specs.Rules.{AreLetters};
@@ -9,6 +9,7 @@ ghost use Rattle.dns_view.specs.Rows.{IsRowChecked, SkipsRow, asked_length as ro
 ghost use Rattle.dns_view.specs.{Pointers.Leaves, RowPointers.FieldPointers, RowPointers.RowPointers};
 
 use crate::blocks::check_blocks;
+use crate::names::near_name;
 use crate::options::skip_options;
 use crate::parameters::skip_parameters;
 use crate::walk::Walk;
@@ -101,6 +102,29 @@ fn field_end(walk: &Walk<'_>, kind: Kind, rule: Rule, start: usize, len: usize) 
     }
 }
 
+// The same for a field that may be a name. It takes off `left` how many compression pointers the name has, down to 0, but only
+// if it is there.
+#[inline]
+fn near_end(
+    walk: &Walk<'_>,
+    kind: Kind,
+    rule: Rule,
+    start: usize,
+    len: usize,
+    left: &mut usize,
+) -> Option<usize>
+    requires short { len < 65536 }
+    requires before { start ≤ walk.now.index }
+    ensures skips { IfSome result (λ end. Skips rule kind start len (Ok tt) walk.now (moved walk.now end)) }
+    ensures pointers { IfSome result (λ end. Leaves (FieldPointers kind walk.now) left.old left.new) }
+    ensures none { IfNone result (left.new ≡ left.old) }
+{
+    match kind {
+        Kind::Name => near_name(walk.message(), walk.index(), left),
+        _ => field_end(walk, kind, rule, start, len),
+    }
+}
+
 /// Takes a field as [`skip_field`] does, and takes off `left` how many compression pointers are followed, down to 0: those
 /// of a name, whether it is there or not.
 #[inline]
@@ -118,16 +142,9 @@ pub fn pass_field(
     ensures skips { Skips rule kind start len result walk.old walk.new }
     ensures pointers { Leaves (FieldPointers kind walk.old) left.old left.new }
 {
-    // A `Result` is passed in memory, and most fields need none. The calls below take the other fields and make the errors.
-    match field_end(walk, kind, rule, start, len) {
-        Some(end) => {
-            walk.move_to(end);
-            Ok(())
-        }
-        None => match kind {
-            Kind::Name => pass_one_name(walk, rule, start, len, left),
-            _ => skip_field(walk, kind, rule, start, len),
-        },
+    match kind {
+        Kind::Name => pass_one_name(walk, rule, start, len, left),
+        _ => skip_field(walk, kind, rule, start, len),
     }
 }
 
@@ -422,10 +439,21 @@ pub fn skip_row(
         });
     }
     let start = walk.index();
+    // Most fields are taken without a `Result`, which is passed in memory, and without a call. The call takes the others, and
+    // makes the errors.
+    let mut near = Walk::at(walk.message(), start);
     'fields: for part in row {
-        if let Err(e) = pass_field(walk, part.kind, part.rule, start, len, left) {
-            return Err(e);
+        match near_end(&near, part.kind, part.rule, start, len, left) {
+            Some(end) => near.move_to(end),
+            None => {
+                walk.move_to(near.index());
+                if let Err(e) = pass_field(walk, part.kind, part.rule, start, len, left) {
+                    return Err(e);
+                }
+                near.move_to(walk.index());
+            }
         }
     }
+    walk.move_to(near.index());
     Ok(())
 }
