@@ -20,7 +20,7 @@ if_some : {P Q : ℕ → Type 0} (r : Option ℕ) → ((end : ℕ) → P end →
 if_some None f h = tt
 if_some (Some end) f h = f end h
 
-octets_there : (d : Reading) (size end : ℕ) → EndsAfter d size end → TookField d (Octets size) (take size (drop d.index d.message)) (moved d end)
+pub octets_there : (d : Reading) (size end : ℕ) → EndsAfter d size end → TookField d (Octets size) (take size (drop d.index d.message)) (moved d end)
 octets_there d size end e =
     let s = drop d.index d.message in
     let n : length (take size s) ≡ size = length-take-le size s (omega (arith, e, length-drop d.index d.message)) in
@@ -99,9 +99,9 @@ pub name_near : (rule : Rule) {k : Kind} (start n : ℕ) {d : Reading} {m : List
     → IfSome r (λ end. NameEnds m p end) → IfSome r (λ end. Skips rule k start n (Ok tt) d (moved d end))
 name_near rule {k} start n {d} {m} {p} r is message index there =
     if_some {P = λ (end : ℕ). NameEnds m p end} r (λ end e.
-        let found : IsNameIn d.message d.index e.name end = subst (λ (i : ℕ). IsNameIn d.message i e.name end) index
-            (subst (λ (t : List ℕ). IsNameIn t p e.name end) message e.is) in
-        skips_as (name_skips (record { value = e.name; took = record { message = refl; field = record { is = found } } })) is) there
+    let found : IsNameIn d.message d.index e.name end = subst (λ (i : ℕ). IsNameIn d.message i e.name end) index
+    (subst (λ (t : List ℕ). IsNameIn t p e.name end) message e.is) in
+    skips_as (name_skips (record { value = e.name; took = record { message = refl; field = record { is = found } } })) is) there
 
 pub skips_inside : {rule : Rule} {k : Kind} {start n end : ℕ} {d : Reading} → Skips rule k start n (Ok tt) d (moved d end) → end ≤ length d.message
 skips_inside s = (field_inside s.is.took.field).1

@@ -128,10 +128,6 @@ row_taken row n old now so = record {
   elsewhere = λ ne. record { none = λ h. ne (so.only h).stands };
 }
 
--- a decoder that goes where another one is, in the same message
-pub moved_to : {m : List ℕ} {near : Reading} {index : ℕ} → m ≡ near.message → index ≡ near.index → record { message = m; index = index } ≡ near
-moved_to {m} {near} {index} e f = rw (e, f) refl
-
 -- ---- by the index in the row
 
 pub record AtPart (row : List Part) (at n : ℕ) (old now : Reading) : Type 0 where

@@ -1,11 +1,11 @@
 //! Fields that are checked, one after the other.
 
-ghost use Rattle.std.specs.Prelude.{◌≡◌, ◌<◌, ◌+◌, ◌≤◌, ℕ, false, take, length, get_or, IfSome, IfNone, Ok};
+ghost use Rattle.std.specs.Prelude.{◌≡◌, ◌<◌, ◌+◌, ◌≤◌, ℕ, true, false, take, length, get_or, IfSome, IfNone, Ok};
 ghost use Rattle.std.specs.{Char.is_ascii_alphanumeric, List.list_all};
 ghost use Rattle.dns_fields.specs.declared.Kind.TheVariants.{Number, Octets, Name, CharacterString, CharacterStrings, Rest, Bitmap};
 ghost use Rattle.dns_rows.specs.Rules.{AreLetters};
 ghost use Rattle.dns_view.specs.{Parts.Skips, Parts.IsCovered, Parts.IsUnasked, Parts.moved, Parts.step_of as octet_step};
-ghost use Rattle.dns_view.specs.Rows.{IsRowChecked, SkipsRow, asked_length as row_asks};
+ghost use Rattle.dns_view.specs.Rows.{IsRowChecked, IsAddress, SkipsRow, asked_length as row_asks};
 ghost use Rattle.dns_view.specs.{Pointers.Leaves, RowPointers.FieldPointers, RowPointers.RowPointers};
 
 use crate::blocks::check_blocks;
@@ -142,9 +142,16 @@ pub fn pass_field(
     ensures skips { Skips rule kind start len result walk.old walk.new }
     ensures pointers { Leaves (FieldPointers kind walk.old) left.old left.new }
 {
-    match kind {
-        Kind::Name => pass_one_name(walk, rule, start, len, left),
-        _ => skip_field(walk, kind, rule, start, len),
+    // A `Result` is passed in memory, and most fields need none. The calls below take the other fields and make the errors.
+    match field_end(walk, kind, rule, start, len) {
+        Some(end) => {
+            walk.move_to(end);
+            Ok(())
+        }
+        None => match kind {
+            Kind::Name => pass_one_name(walk, rule, start, len, left),
+            _ => skip_field(walk, kind, rule, start, len),
+        },
     }
 }
 
@@ -402,6 +409,20 @@ fn skip_bitmap(walk: &mut Walk<'_>, rule: Rule, start: usize, len: usize) -> Res
     }
 }
 
+// Returns whether the row is one field of just so many octets, as that of an address.
+#[inline]
+fn is_address(row: &[Part], len: usize) -> bool
+    ensures { result ≡ true → IsAddress row.now len }
+{
+    if row.len() != 1 {
+        return false;
+    }
+    match row[0].kind {
+        Kind::Octets(count) => count as usize == len,
+        _ => false,
+    }
+}
+
 // Returns how many octets the row asks of the RDATA before anything is read.
 #[inline]
 fn asked_length(row: &[Part]) -> usize
@@ -438,22 +459,47 @@ pub fn skip_row(
             len: asked,
         });
     }
+    if is_address(row, len)
+        && let Some(end) = octets_end(walk, len)
+    {
+        walk.move_to(end);
+        return Ok(());
+    }
+    skip_fields(walk, row, len, left)
+}
+
+// The same for RDATA of as many octets as the row asks.
+#[inline]
+fn skip_fields(
+    walk: &mut Walk<'_>,
+    row: &[Part],
+    len: usize,
+    left: &mut usize,
+) -> Result<(), DecodeError>
+    requires row { IsRowChecked row.now }
+    requires short { len < 65536 }
+    requires asked { row_asks row.now ≤ len }
+    ensures skips { SkipsRow row.now len result walk.old walk.new }
+    ensures pointers { Leaves (RowPointers row.now len walk.old) left.old left.new }
+{
     let start = walk.index();
-    // Most fields are taken without a `Result`, which is passed in memory, and without a call. The call takes the others, and
-    // makes the errors.
+    // Most rows are taken without a `Result`, which is passed in memory, and without a call. What is left after the first loop is
+    // taken by the second one, which makes the errors.
     let mut near = Walk::at(walk.message(), start);
-    'fields: for part in row {
-        match near_end(&near, part.kind, part.rule, start, len, left) {
+    let mut count = 0;
+    'near: while count < row.len() {
+        match near_end(&near, row[count].kind, row[count].rule, start, len, left) {
             Some(end) => near.move_to(end),
-            None => {
-                walk.move_to(near.index());
-                if let Err(e) = pass_field(walk, part.kind, part.rule, start, len, left) {
-                    return Err(e);
-                }
-                near.move_to(walk.index());
-            }
+            None => break,
         }
+        count += 1;
     }
     walk.move_to(near.index());
+    'fields: while count < row.len() {
+        if let Err(e) = pass_field(walk, row[count].kind, row[count].rule, start, len, left) {
+            return Err(e);
+        }
+        count += 1;
+    }
     Ok(())
 }
