@@ -2,7 +2,7 @@
 
 ghost use Rattle.std.specs.Prelude.{◌≡◌, ◌+◌, ◌-◌, ◌<◌, ◌≤◌, ◌↔◌, IsTrue, ℕ, true, false, length, take, drop, IfSome, IfNone};
 ghost use Rattle.std.specs.{Cmp.Lexicographic.slice_cmp, Ordering.nat_cmp};
-ghost use Rattle.dns_fields.specs.{Fields.canonical, Fields.field_octets, Fields.Field, Fields.Value, declared.Kind.TheVariants.Options};
+ghost use Rattle.dns_fields.specs.{Fields.canonical, Fields.field_octets, Fields.Field, Fields.Value};
 ghost use Rattle.dns_rows.specs.Table.{kinds_of};
 ghost use Rattle.dns_view.specs.Parts.{Reaches};
 ghost use Rattle.dns_view.specs.{Putting.IsRecoded, Rows.IsRowChecked, Rows.IsRow, Rows.HasRow, RowOrder.IsPlain, RowOrder.ArePlain, RowOrder.Sized};

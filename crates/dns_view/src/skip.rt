@@ -414,11 +414,11 @@ fn skip_bitmap(walk: &mut Walk<'_>, rule: Rule, start: usize, len: usize) -> Res
 fn is_address(row: &[Part], len: usize) -> bool
     ensures { result ≡ true → IsAddress row.now len }
 {
-    if row.len() != 1 {
+    if row.len() == 0 {
         return false;
     }
     match row[0].kind {
-        Kind::Octets(count) => count as usize == len,
+        Kind::Octets(count) if row.len() == 1 => count as usize == len,
         _ => false,
     }
 }
@@ -452,18 +452,18 @@ pub fn skip_row(
     ensures skips { SkipsRow row.now len result walk.old walk.new }
     ensures pointers { Leaves (RowPointers row.now len walk.old) left.old left.new }
 {
+    if is_address(row, len)
+        && let Some(end) = octets_end(walk, len)
+    {
+        walk.move_to(end);
+        return Ok(());
+    }
     let asked = asked_length(row);
     if len < asked {
         return Err(DecodeError::IncorrectRDataLengthRead {
             read: len,
             len: asked,
         });
-    }
-    if is_address(row, len)
-        && let Some(end) = octets_end(walk, len)
-    {
-        walk.move_to(end);
-        return Ok(());
     }
     skip_fields(walk, row, len, left)
 }
