@@ -19,7 +19,8 @@ one_field (p ∷ (l ∷ row)) n c d one kind same = absurd (omega arith)
 abbrev one_part : Rule → ℕ → Part
 one_part rule n = record { kind = Octets n; rule = rule }
 
-module _ {row : List Part} {n : ℕ} (old : Reading) {end : ℕ} (a : IsAddress row n) (checked : IsRowChecked row) (there : (end ≡ old.index + n) × (end ≤ length old.message)) where
+module _ {row : List Part} {n : ℕ} (old : Reading) {end : ℕ} (a : IsAddress row n) (checked : IsRowChecked row)
+    (there : (end ≡ old.index + n) × (end ≤ length old.message)) where
   skips : (p : ℕ) → Skips a.rule (Octets n) p n (Ok tt) old (moved old end)
   skips p = octets_skip (octets_there old n end there)
 
@@ -31,5 +32,6 @@ module _ {row : List Part} {n : ℕ} (old : Reading) {end : ℕ} (a : IsAddress 
   address_pointers before =
       let least = subst IsRowChecked a.is checked in
       subst (λ (r : List Part). Leaves (RowPointers r n old) before before) (sym a.is)
-      (counted_last (counted_next before (one_part a.rule n) (counted_first {row = one_part a.rule n ∷ []} old.index n before) (omega arith) (0, refl, omega arith) (skips old.index))
+      (counted_last (counted_next before (one_part a.rule n) (counted_first {row = one_part a.rule n ∷ []} old.index n before) (omega arith)
+      (0, refl, omega arith) (skips old.index))
       (omega arith) refl (omega (arith, least.least)))

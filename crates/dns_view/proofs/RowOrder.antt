@@ -19,7 +19,8 @@ use Rattle.dns_canonical.proofs.{Comparing.then_kept, Comparing.then_assoc, Comp
 use Rattle.dns_rows.specs.declared.row.{Part.Part, Rule.Rule}
 use Rattle.dns_rows.specs.declared.row.Rule.TheVariants.{Free}
 use Rattle.dns_rows.specs.{Table.kinds_of, Rules.MeetsRow}
-use Rattle.dns_view.specs.{NameEnds.OrdersNames, Parts.Reaches, Parts.Skips, Putting.IsRecoded, Putting.Put, Rows.IsRow, Rows.HasRow, RowOrder.IsPlain, RowOrder.ArePlain, RowOrder.Sized}
+use Rattle.dns_view.specs.{NameEnds.OrdersNames, Parts.Reaches, Parts.Skips, Putting.IsRecoded, Putting.Put, Rows.IsRow, Rows.HasRow}
+use Rattle.dns_view.specs.RowOrder.{IsPlain, ArePlain, Sized}
 use Rattle.dns_view.proofs.{Alone.between_is, Alone.recoded_alone, Asked.asks_split, PutLoop.stood_skipped, Puts.put_fits, RowLoop.behind_row}
 use Rattle.dns_view.proofs.{RowLoop.field_reaches}
 
@@ -295,7 +296,8 @@ module _ (a : List ℕ) (from at : ℕ) (b : List ℕ) (to : ℕ) (part : Part) 
       let s_is = between_is w.s_at in
       let apart : w.s ≡ w.t → ⊥ = λ same. ne (ap (take (length (take (at - from) (drop from a)))) (l ∙ ap (λ (z : List ℕ). z ++ y) (sym same))
       ∙ take_at w.s y (length (take (at - from) (drop from a))) (sym (ap length s_is)) ∙ sym s_is) in
-      w.order ∙ parted_differ w.s w.t (canonical (kinds_of (part ∷ left)) w.first.values) (canonical (kinds_of (part ∷ left)) w.second.values) x y w.parted apart
+      w.order ∙ parted_differ w.s w.t (canonical (kinds_of (part ∷ left)) w.first.values) (canonical (kinds_of (part ∷ left)) w.second.values)
+      x y w.parted apart
       ∙ ap (λ (z : List ℕ). slice_cmp nat_cmp z (w.t ++ y)) (sym k) ∙ ap (λ (z : List ℕ). slice_cmp nat_cmp (take (e - from) (drop from a)) z) (sym l)
 
   -- they are the same

@@ -9,6 +9,7 @@ ghost use Rattle.dns_fields.specs.Tlvs.{ParameterValue, ParameterHeld, IsTlv, tl
 use crate::put_bitmap::put_bitmap;
 use crate::put_params::has_surplus;
 use crate::tlv::end_of;
+use dns_canonical::order::octets_cmp;
 use std::cmp::Ordering;
 
 // The most octets of the shortest bitmap of a set of types: 256 windows of 34 octets.
@@ -91,11 +92,11 @@ pub fn compare_parameters(a: &[u8], b: &[u8]) -> Ordering
         };
         let first = &a[i..p];
         let second = &b[j..q];
-        match head_of(first).cmp(&head_of(second)) {
+        match octets_cmp(&head_of(first), &head_of(second)) {
             Ordering::Equal => {}
             order => return order,
         }
-        match body_of(first).cmp(body_of(second)) {
+        match octets_cmp(body_of(first), body_of(second)) {
             Ordering::Equal => {}
             other => return other,
         }

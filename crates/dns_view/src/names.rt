@@ -149,8 +149,8 @@ pub fn pass_name(message: &[u8], start: usize, left: &mut usize) -> Option<usize
     followed.end
 }
 
-/// Returns where the encoding of a name ends, and takes off `left` how many compression pointers are followed, down to 0. If
-/// no name is encoded there, it returns `None` and leaves `left` as it is.
+/// Returns where the encoding of a name ends, and takes off `left` how many compression pointers are followed, down to 0.
+/// If no name is encoded there, it returns `None` and leaves `left` as it is.
 #[inline]
 pub(crate) fn near_name(message: &[u8], start: usize, left: &mut usize) -> Option<usize>
     requires { start ≤ length message.now }

@@ -1,11 +1,13 @@
 //! The order of RDATA by canonical octets, this library's own form and not that of DNSSEC.
 
-ghost use Rattle.std.specs.Prelude.{◌≡◌, ◌+◌, ◌-◌, ◌<◌, ◌≤◌, ◌↔◌, IsTrue, ℕ, true, false, length, take, drop, IfSome, IfNone};
+ghost use Rattle.std.specs.Prelude.{◌≡◌, ◌+◌, ◌-◌, ◌<◌, ◌≤◌, ◌↔◌, IsTrue, ℕ, true, false};
+ghost use Rattle.std.specs.Prelude.{length, take, drop, IfSome, IfNone};
 ghost use Rattle.std.specs.{Cmp.Lexicographic.slice_cmp, Ordering.nat_cmp};
 ghost use Rattle.dns_fields.specs.{Fields.canonical, Fields.field_octets, Fields.Field, Fields.Value};
 ghost use Rattle.dns_rows.specs.Table.{kinds_of};
 ghost use Rattle.dns_view.specs.Parts.{Reaches};
-ghost use Rattle.dns_view.specs.{Putting.IsRecoded, Rows.IsRowChecked, Rows.IsRow, Rows.HasRow, RowOrder.IsPlain, RowOrder.ArePlain, RowOrder.Sized};
+ghost use Rattle.dns_view.specs.{Putting.IsRecoded, Rows.IsRowChecked, Rows.IsRow, Rows.HasRow};
+ghost use Rattle.dns_view.specs.RowOrder.{IsPlain, ArePlain, Sized};
 
 use crate::coded_order::{compare_bitmaps, compare_parameters};
 use crate::name_order::order_names;
@@ -147,7 +149,8 @@ fn plain_size(message: &[u8], at: usize, kind: Kind, end: usize) -> Option<usize
     requires within { at ≤ end }
     requires inside { end ≤ length message.now }
     ensures some { IfSome result (λ size. Sized message.now at kind end size) }
-    ensures none { IfNone result ((v : Value kind) (q : ℕ) → IsPlain kind → Field message.now at kind v q → Reaches kind end q → ⊥) }
+    ensures none { IfNone result ((v : Value kind) (q : ℕ) → IsPlain kind → Field message.now at kind v q →
+        Reaches kind end q → ⊥) }
 {
     match kind {
         Kind::Number(width) => Some(width as usize),
@@ -168,9 +171,11 @@ fn plain_size(message: &[u8], at: usize, kind: Kind, end: usize) -> Option<usize
 fn plain_end(message: &[u8], at: usize, kind: Kind, end: usize) -> Option<usize>
     requires within { at ≤ end }
     requires inside { end ≤ length message.now }
-    ensures some { IfSome result (λ next. (v : Value kind) (q : ℕ) → IsPlain kind → Field message.now at kind v q → Reaches kind end q → q ≡ next) }
+    ensures some { IfSome result (λ next. (v : Value kind) (q : ℕ) → IsPlain kind → Field message.now at kind v q →
+        Reaches kind end q → q ≡ next) }
     ensures range { IfSome result (λ next. (at ≤ next) × (next ≤ end)) }
-    ensures none { IfNone result ((v : Value kind) (q : ℕ) → IsPlain kind → Field message.now at kind v q → Reaches kind end q → ⊥) }
+    ensures none { IfNone result ((v : Value kind) (q : ℕ) → IsPlain kind → Field message.now at kind v q →
+        Reaches kind end q → ⊥) }
 {
     let size = plain_size(message, at, kind, end)?;
     if end - at < size {
@@ -196,7 +201,8 @@ fn begins_with(octets: &[u8], front: &[u8]) -> bool
 fn compare_recoded(kind: Kind, a: &[u8], b: &[u8]) -> Ordering
     requires short_left { length a.now < 65536 }
     requires short_right { length b.now < 65536 }
-    ensures { IsRecoded kind → (u : Value kind) (v : Value kind) → Field a.now 0 kind u (length a.now) → Field b.now 0 kind v (length b.now) →
+    ensures { IsRecoded kind → (u : Value kind) (v : Value kind) → Field a.now 0 kind u (length a.now) →
+        Field b.now 0 kind v (length b.now) →
         result ≡ slice_cmp nat_cmp (field_octets kind u) (field_octets kind v) }
 {
     if same_octets(a, b) {

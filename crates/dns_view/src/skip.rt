@@ -102,8 +102,8 @@ fn field_end(walk: &Walk<'_>, kind: Kind, rule: Rule, start: usize, len: usize) 
     }
 }
 
-// The same for a field that may be a name. It takes off `left` how many compression pointers the name has, down to 0, but only
-// if it is there.
+// The same for a field that may be a name. It takes off `left` how many compression pointers the name has, down to 0,
+// but only if it is there.
 #[inline]
 fn near_end(
     walk: &Walk<'_>,
@@ -483,8 +483,8 @@ fn skip_fields(
     ensures pointers { Leaves (RowPointers row.now len walk.old) left.old left.new }
 {
     let start = walk.index();
-    // Most rows are taken without a `Result`, which is passed in memory, and without a call. What is left after the first loop is
-    // taken by the second one, which makes the errors.
+    // Most rows are taken without a `Result`, which is passed in memory, and without a call. What is left after the first
+    // loop is taken by the second one, which makes the errors.
     let mut near = Walk::at(walk.message(), start);
     let mut count = 0;
     'near: while count < row.len() {

@@ -5,7 +5,8 @@ use Rattle.dns_view.proofs.name_order.order_names.Goals as goal
 pub returns-then-same-first-clause-names : goal.returns-then-same-first-clause-names
 returns-then-same-first-clause-names c =
     let first = c.in-Some.ensures.run in
-    let same = whole_same c.args.x c.args.a.now c.args.y c.args.b.now c.in-Some.first c.same_front-same.result c.if-same-first.true c.same_front-same.ensures.same in
+    let same = whole_same c.args.x c.args.a.now c.args.y c.args.b.now c.in-Some.first c.same_front-same.result c.if-same-first.true
+    c.same_front-same.ensures.same in
     record {
       is = λ u i v j is as_is. (
         same_names first c.requires.left c.requires.right same u i v j is as_is,
