@@ -20,6 +20,7 @@ use Rattle.dns_rdata.specs.{declared.record_data.RData.RData, Data.shape, Data.I
 use Rattle.dns_rdata.specs.DataTokens.{StandIn, AreSvcbTokens, HasSvcbTokens, HasHttpsTokens, HasNoTokens, AreDataTokens, TookDataTokens, RefusedDataTokens}
 use Rattle.dns_rdata.specs.DataTokens.{ReadsDataTokens, AnswersDataTokens, ReadsDataTextAt, IsPrinted, PrintsBack}
 use Rattle.dns_rdata.specs.declared.record_data.RData.TheVariants as rdata
+use Rattle.dns_rdata_service.proofs.ItemLists.{unless_is}
 use Rattle.dns_rdata.proofs.DataReads.{IsNone}
 
 -- tokens of a service give its fields
@@ -158,25 +159,17 @@ pub text_read : (origin : Option DomainName) (t : RecordType) (text : List ℕ) 
 text_read origin t text tokens (Ok v) is h = record { tokens = tokens; of_text = is; give = h }
 text_read origin t text tokens (Err y) is h = unless_map y _ _ (λ none. inr (record { tokens = tokens; of_text = is; none = none.none })) h
 
-unless_not : (e : ParseError) {P : Type 0} → (e ≢ parse.Memory → P) → UnlessParseMemory e P
-unless_not parse.Memory f = tt
-unless_not (parse.MissingToken name) f = f (λ h. absurd cc)
-unless_not (parse.Message m) f = f (λ h. absurd cc)
-unless_not (parse.UnsupportedRecordType t) f = f (λ h. absurd cc)
-unless_not parse.AddrParse f = f (λ h. absurd cc)
-unless_not (parse.Proto x) f = f (λ h. absurd cc)
-
 pub no_tokens_read : (origin : Option DomainName) (t : RecordType) (text : List ℕ) (e : ParseError) (r : Result RData ParseError) → IsErrAnd r (λ y. y ≡ e)
     → (e ≢ parse.Memory → NoTextWords text)
     → ReadsDataTextAt origin t r text
 no_tokens_read origin t text e (Ok v) h none = elim h [ ]
-no_tokens_read origin t text e (Err y) h none = rw h (unless_not e (λ n. inl (none n)))
+no_tokens_read origin t text e (Err y) h none = rw h (unless_is e _ (λ n. inl (none n)))
 
 pub refused_early : (t : RecordType) (text : List ℕ) (e : ParseError) (r : Result RData ParseError) → IsErrAnd r (λ y. y ≡ e)
     → (e ≢ parse.Memory → NoTextWords text)
     → IfErr r (λ y. UnlessParseMemory y ((y ≡ parse.UnsupportedRecordType t) ⊎ NoTextWords text))
 refused_early t text e (Ok v) h none = elim h [ ]
-refused_early t text e (Err y) h none = rw h (unless_not e (λ n. inr (none n)))
+refused_early t text e (Err y) h none = rw h (unless_is e _ (λ n. inr (none n)))
 
 pub refused_by_name : (t : RecordType) (text : List ℕ) (r : Result RData ParseError) → r ≡ Err (parse.UnsupportedRecordType t)
     → IfErr r (λ y. UnlessParseMemory y ((y ≡ parse.UnsupportedRecordType t) ⊎ NoTextWords text))

@@ -10,10 +10,8 @@ use Rattle.dns_rdata_base.specs.FieldErrors.{FirstLack}
 use Rattle.dns_rdata_caa_csync.specs as caa_csync
 use Rattle.dns_rdata_service.specs as service
 use Rattle.dns_rows.specs.declared.row.TheConstants as rows
-use Rattle.dns_view.specs.{Tags.IsTagError, Parameters.LacksHead, Parameters.IsParameterError, Parameters.IsParametersError, Values.IsFormError, Values.IsKeyError}
+use Rattle.dns_view.specs.{Tags.IsTagError, Parameters.LacksHead, Parameters.IsParameterError, Parameters.IsParametersError, Values.IsKeyError}
 use Rattle.dns_fields.specs.Bitmaps.{BitmapAt}
-use Rattle.dns_fields.specs.Tlvs.{form_for, ParameterForm, ParameterForm.Keys, ParameterForm.Names, ParameterForm.Nothing, ParameterForm.PortNumber}
-use Rattle.dns_fields.specs.Tlvs.{ParameterForm.Addresses4, ParameterForm.Addresses16, ParameterForm.AnyOctets}
 use Rattle.dns_rdata.proofs.RowErrors.{Faults, Rejects, by_faults}
 
 -- ---- CAA
@@ -141,21 +139,8 @@ csync_rejects = by_faults rows.CSYNC caa_csync.CSYNC.csync_facts.rejects refl cs
 
 -- ---- SVCB
 
-form_error : (form : ParameterForm) (body : List ℕ) (e : DecodeError) → IsFormError form body e → service.SvcParamValue.IsFormError form body e
-form_error Names body e (inl h) = inl h
-form_error Names body e (inr (inl h)) =
-    inr (inl (h.0, record { names = h.1.names; size = h.1.size; octets = h.1.octets; split = h.1.split; truncated = h.1.truncated }))
-form_error Names body e (inr (inr h)) =
-    inr (inr (h.0, record { names = h.1.names; name = h.1.name; rest = h.1.rest; split = h.1.split; wrong = h.1.wrong }))
-form_error Keys body e h = h
-form_error Nothing body e h = h
-form_error PortNumber body e h = h
-form_error Addresses4 body e h = h
-form_error Addresses16 body e h = h
-form_error AnyOctets body e h = h
-
 key_error : (key : ℕ) (body : List ℕ) (e : DecodeError) → IsKeyError key body e → service.SvcParamValue.IsKeyError key body e
-key_error key body e (inl h) = inl (inr (form_error (form_for key) body e h))
+key_error key body e (inl h) = inl (inr h)
 key_error key body e (inr (text, why, wrong)) = inr (text, inr (why, wrong))
 
 head_error : (d : Reading) (e : DecodeError) (new : Reading) → LacksHead d e new → FirstLack (Number 2 ∷ Number 2 ∷ []) d e new
@@ -164,18 +149,14 @@ head_error d e new (inr (key, between, took, l)) = inr (key, between, took, inl 
 
 parameter_error : (d : Reading) (e : DecodeError) (new : Reading) → IsParameterError d e new → service.Parameters.IsParameterError d e new
 parameter_error d e new (inl l) = inl (head_error d e new l)
-parameter_error d e new (inr (inl h)) = inr (inl (record
-    { key = h.key; size = h.size; left = h.left; took = h.took; error = h.error; all = h.all; truncated = h.truncated }))
+parameter_error d e new (inr (inl h)) = inr (inl h)
 parameter_error d e new (inr (inr h)) =
     inr (inr (record { key = h.key; octets = h.octets; took = h.took; refused = key_error h.key h.octets e h.refused }))
 
 parameters_error : (p n : ℕ) (d : Reading) (e : DecodeError) (new : Reading) → IsParametersError p n d e new → service.Parameters.IsParametersError p n d e new
 parameters_error p n d e new (inl h) = inr (inl (record
     { before = h.before; between = h.between; took = h.took; room = h.room; refused = parameter_error h.between e new h.refused }))
-parameters_error p n d e new (inr (inl h)) = inr (inr (inl (record
-    { before = h.before; between = h.between; took = h.took; last = h.last; then = h.then; error = h.error; order = h.order })))
-parameters_error p n d e new (inr (inr h)) =
-    inr (inr (inr (record { taken = h.taken; size = h.size; took = h.took; error = h.error; passed = h.passed; index = h.index })))
+parameters_error p n d e new (inr h) = inr (inr h)
 
 svcb_fault : Faults rows.SVCB service.SVCB.svcb_facts.rejects
 svcb_fault n old e new at (inl f) = inl (inr (inl f))

@@ -1,46 +1,22 @@
 -- Options one after the other.
-use Rattle.std.proofs.lemmas.List.{length-append, take-append-drop, take_at, take-append-le, get_or-drop, length-take, length-drop, map_push, append-nil}
-use Rattle.std.proofs.Common.{append_assoc, zero, suc, add-one, drop-cons, get_or, ◌-◌, Bool, true, map}
-use Rattle.std.proofs.lemmas.{Nat.be_bytes_2, Nat.from_be_bytes-to_be_bytes_2, Grind.flat_map-append}
-use Rattle.std.proofs.Common.{◌≡◌, ℕ, ◌+◌, ◌≤◌, ◌<◌, ◌^◌, ◌⊎◌, inl, inr, ⊎_elim, List, [], ◌∷◌, ◌++◌, length, take, drop, refl, sym, ap, ◌∙◌, arith, subst}
+use Rattle.std.proofs.lemmas.List.{length-append, get_or-drop, map_push, append-nil}
+use Rattle.std.proofs.Common.{suc, get_or, ◌-◌, Bool, true, map}
+use Rattle.std.proofs.lemmas.{Nat.from_be_bytes-to_be_bytes_2, Grind.flat_map-append}
+use Rattle.std.proofs.Common.{◌≡◌, ℕ, ◌+◌, ◌≤◌, ◌<◌, ◌⊎◌, inl, inr, List, [], ◌∷◌, ◌++◌, length, refl, sym, ap, ◌∙◌, arith, subst}
 use Rattle.std.specs.Int.{bytes_high_first, from_be_bytes, w16}
 use Rattle.dns_types.specs.declared.error.DecodeError.{DecodeError}
-use Rattle.dns_fields.specs.Tlvs.{Numbered, tlv, tlvs, IsTlv, AreTlvs, AllHeld, OptionValue, OptionHeld, IsTruncated}
-use Rattle.dns_fields.specs.{declared.Kind.TheVariants.Number, declared.Kind.TheVariants.Octets, Fields.Field, declared.Kind.TheVariants.Options}
+use Rattle.dns_fields.specs.Tlvs.{Numbered, tlv, tlvs, IsTlv, AreTlvs, OptionValue, IsTruncated}
+use Rattle.dns_fields.specs.{declared.Kind.TheVariants.Number, Fields.Field, declared.Kind.TheVariants.Options}
 use Rattle.dns_fields.specs.{Fields.CompleteOptions, Fields.TruncatedOptions, Octets.At}
-use Rattle.dns_fields.proofs.{Tlvs.first_tlv, Tlvs.truncated_tlv, Tlvs.length-tlv, Tlvs.tlv_before, Numbers.length-bytes, FieldLaws.field_same}
-use Rattle.dns_names_wire.specs.{Terms.TookField, Terms.StaysBehind, Terms.UnlessMemory, Terms.Took, Terms.Refused, State.Reading}
+use Rattle.dns_fields.proofs.{Tlvs.length-tlv, Numbers.length-bytes, FieldLaws.field_same}
+use Rattle.dns_names_wire.specs.{Terms.StaysBehind, Terms.UnlessMemory, Terms.Took, Terms.Refused, State.Reading}
 use Rattle.dns_names_wire.proofs.{FieldReads.unless_all, FieldReads.took_number, FieldReads.unless_map, Strings.at_front, Strings.at_rest, Strings.at_then}
 use Rattle.dns_rdata_options.specs.OptionReads.{OptionsLeft, NoneLeft, TookTlv, TookCut, RefusedTlv, NoOptionValue, KeptOption}
 use Rattle.dns_rdata_options.specs.OPT.{IsTlvError, IsNextError, Pair, pair_value, pair_of, opt_shape, IsOptError}
 use Rattle.dns_rdata_options.proofs.Selection.{all_push}
+use Rattle.dns_view.specs.Tlvs.{TlvThere}
+use Rattle.dns_view.proofs.{OptionLists.Begins, OptionLists.begins, OptionLists.prefix, OptionLists.first_left, OptionLists.ReadsOptions, TlvParts.part_there}
 use Rattle.dns_types.specs.declared.error.DecodeError.TheVariants as decode
-
--- ---- what begins the rest
-
--- the two octets of a code, and where more follows, those of a length of at most n
-pub record Begins (m : List ℕ) (n i end : ℕ) : Type 0 where
-  pub code : i + 2 ≤ end
-  pub within : end ≤ length m
-  pub size : i + 2 < end → (l : ℕ) × (l ≤ n) × Field m (i + 2) (Number 2) l (i + 2 + 2) × (i + 2 + 2 ≤ end)
-
-pub begins : {m : List ℕ} {n i end : ℕ} → i < end → end ≤ i + n → OptionsLeft m n i end → Begins m n i end
-begins {m} {n} {i} {end} lt fits h = first h.read h.stub h.at h.fit h.ends where
-  sized : (c l : ℕ) (x : List ℕ) → l < 256 ^ 2 → l ≤ n → At m i (bytes_high_first 2 c ++ (bytes_high_first 2 l ++ x)) end → Begins m n i end
-  sized c l x small most a =
-      let rest : At m (i + 2) (bytes_high_first 2 l ++ x) end = at_rest (bytes_high_first 2 c) (bytes_high_first 2 l ++ x) a in
-      let inside : i + 2 + 2 ≤ end = omega (arith, rest.ends, length-append (bytes_high_first 2 l) x, length-bytes 2 l) in
-      record { code = omega (arith, inside); within = a.within; size = λ _. (l, most, record { is = (small, at_front (bytes_high_first 2 l) x rest) }, inside) }
-
-  first : (read : List (Numbered (List ℕ))) (s : List ℕ) → At m i (tlvs read ++ s) end → AreTlvs read → (s ≡ []) ⊎ IsTruncated n s → Begins m n i end
-  first [] s a f (inl e) = absurd (let k : length s ≡ 0 = ap length e in omega (arith, lt, a.ends, k))
-  first [] s a f (inr (c, small, inl e)) =
-      let k : length s ≡ 2 = ap length e in
-      record { code = omega (arith, a.ends, k); within = a.within; size = λ l. absurd (omega (arith, l, a.ends, k)) }
-  first [] s a f (inr (c, small, inr (l, x, fit, most, short, e))) = sized c l x fit most (subst (λ (o : List ℕ). At m i o end) e a)
-  first (y ∷ ys) s a f e = sized y.0 (length y.1) (y.1 ++ (tlvs ys ++ s)) f.0.1
-      (omega (arith, fits, a.ends, length-append (tlv y ++ tlvs ys) s, length-append (tlv y) (tlvs ys), length-tlv y))
-      (subst (λ (o : List ℕ). At m i o end) (append_assoc (tlv y) (tlvs ys) s ∙ tlv_before y (tlvs ys ++ s)) a)
 
 -- ---- the next option is rejected
 
@@ -73,85 +49,7 @@ pub tlv_refused : {e : DecodeError} {d new : Reading} (start n : ℕ) → start 
     → RefusedHere e d start n new
 tlv_refused {e} start n le lt h = (h.behind, unless_all e (tlv_none start n le lt h), inr (inl h.why))
 
--- ---- what was read
-
--- the octets of two numbers and of what follows
-heads : {d b c : Reading} {v w : ℕ} → TookField d (Number 2) v b → TookField b (Number 2) w c
-    → At d.message d.index (bytes_high_first 2 v ++ bytes_high_first 2 w) c.index
-heads {d} {b} {c} {v} {w} f g = at_then f.field.is.1 (subst (λ (m : List ℕ). At m b.index (bytes_high_first 2 w) c.index) f.message g.field.is.1)
-
-third : {d b c e : Reading} {v w k : ℕ} {x : List ℕ} → TookField d (Number 2) v b → TookField b (Number 2) w c → TookField c (Octets k) x e
-    → At d.message d.index (bytes_high_first 2 v ++ (bytes_high_first 2 w ++ x)) e.index
-third {d} {b} {c} {e} {v} {w} {k} {x} f g h =
-    let back : At d.message c.index x e.index = subst (λ (m : List ℕ). At m c.index x e.index) (g.message ∙ f.message) h.field.is.1 in
-    subst (λ (o : List ℕ). At d.message d.index o e.index) (append_assoc (bytes_high_first 2 v) (bytes_high_first 2 w) x) (at_then (heads f g) back)
-
-pub cut_short : {d b c e : Reading} {v w k n end : ℕ} {x : List ℕ} → TookField d (Number 2) v b → TookField b (Number 2) w c → TookField c (Octets k) x e
-    → c.index + k ≡ end → w ≤ n → k < w → TookCut d n end e
-cut_short {d} {b} {c} {e} {v} {w} {k} {n} {end} {x} f g h there most short =
-    let is : e.index ≡ end = omega (arith, h.field.is.1.ends, h.field.is.0, there) in
-    record {
-      message = h.message ∙ g.message ∙ f.message;
-      stub = bytes_high_first 2 v ++ (bytes_high_first 2 w ++ x);
-      at = subst (λ (q : ℕ). At d.message d.index (bytes_high_first 2 v ++ (bytes_high_first 2 w ++ x)) q) is (third f g h);
-      cut = (v, f.field.is.0, inr (w, x, g.field.is.0, most, omega (arith, h.field.is.0, short), refl));
-      there = is;
-    }
-
-pub tlv_read : {d b c e : Reading} {v w end : ℕ} {x : List ℕ} → TookField d (Number 2) v b → TookField b (Number 2) w c → TookField c (Octets w) x e
-    → c.index + w ≤ end → TookTlv d end (v, x) e
-tlv_read {d} {b} {c} {e} {v} {w} {end} {x} f g h inside = record {
-  message = h.message ∙ g.message ∙ f.message;
-  at = subst (λ (k : ℕ). At d.message d.index (bytes_high_first 2 v ++ (bytes_high_first 2 k ++ x)) e.index) (sym h.field.is.0) (third f g h);
-  fits = (f.field.is.0, subst (λ (k : ℕ). k < 256 ^ 2) (sym h.field.is.0) g.field.is.0);
-  inside = omega (arith, h.field.is.0, h.field.is.1.ends, inside);
-}
-
 -- ---- an option that is encoded is the first of the rest
-
-pub prefix : {m : List ℕ} {p q : ℕ} {x : List ℕ} → At m p x q → x ++ drop (length x) (drop p m) ≡ drop p m
-prefix {m} {p} {q} {x} a = ap (λ (o : List ℕ). o ++ drop (length x) (drop p m)) (sym a.same) ∙ take-append-drop (length x) (drop p m)
-
--- the longer of two beginnings goes on after the shorter
-goes_on : (x s u v : List ℕ) → x ++ u ≡ s ++ v → length x ≤ length s → x ++ drop (length x) s ≡ s
-goes_on x s u v e short = ap (λ (o : List ℕ). o ++ drop (length x) s)
-    (sym (take_at x u (length x) refl) ∙ ap (take (length x)) e ∙ take-append-le (length x) s v short) ∙ take-append-drop (length x) s
-
--- an option that is encoded holds a value, and the rest is left
-abbrev pub GoesOn : List ℕ → ℕ → Numbered (List ℕ) → ℕ → ℕ → Type 0
-GoesOn m n x j end = (value : OptionValue) × OptionHeld x.0 x.1 value × OptionsLeft m n j end
-
-pub first_left : {m : List ℕ} {n i j end : ℕ} {x : Numbered (List ℕ)} → At m i (tlv x) j → IsTlv x → j ≤ end → OptionsLeft m n i end → GoesOn m n x j end
-first_left {m} {n} {i} {j} {end} {x} a f inside h = first h.read h.values h.at h.fit h.held where
-  first : (read : List (Numbered (List ℕ))) (values : List (Numbered OptionValue)) → At m i (tlvs read ++ h.stub) end → AreTlvs read
-      → AllHeld OptionHeld read values → GoesOn m n x j end
-  first [] values b g held = absurd (⊎_elim
-      (λ (e : h.stub ≡ []). let k : length h.stub ≡ 0 = ap length e in omega (arith, b.ends, k, a.ends, length-tlv x))
-      (λ (c : IsTruncated n h.stub).
-      let on = goes_on (tlv x) h.stub _ _ (prefix a ∙ sym (prefix b)) (omega (arith, a.ends, b.ends)) in
-      truncated_tlv n x (drop (length (tlv x)) h.stub) f (subst (IsTruncated n) (sym on) c))
-      h.ends)
-  first (y ∷ ys) [] b g held = absurd held
-  first (y ∷ ys) (v ∷ vs) b g held =
-      let whole : (tlv y ++ tlvs ys) ++ h.stub ≡ tlv y ++ (tlvs ys ++ h.stub) = append_assoc (tlv y) (tlvs ys) h.stub in
-      let b' : At m i (tlv y ++ (tlvs ys ++ h.stub)) end = subst (λ (o : List ℕ). At m i o end) whole b in
-      let front : At m i (tlv y) (i + length (tlv y)) = at_front (tlv y) (tlvs ys ++ h.stub) b' in
-      let rest : At m (i + length (tlv y)) (tlvs ys ++ h.stub) end = at_rest (tlv y) (tlvs ys ++ h.stub) b' in
-      let same : y ≡ x = (first_tlv y x _ _ g.0 f (prefix front ∙ sym (prefix a))).0 in
-      let there : i + length (tlv y) ≡ j = ap (λ (z : Numbered (List ℕ)). i + length (tlv z)) same ∙ sym a.ends in
-      let codes : v.0 ≡ x.0 = sym held.0 ∙ ap (λ (z : Numbered (List ℕ)). z.0) same in (
-        v.1,
-        subst (λ (k : ℕ). OptionHeld k x.1 v.1) codes (subst (λ (o : List ℕ). OptionHeld v.0 o v.1) (ap (λ (z : Numbered (List ℕ)). z.1) same) held.1),
-        record {
-          read = ys;
-          values = vs;
-          stub = h.stub;
-          at = subst (λ (q : ℕ). At m q (tlvs ys ++ h.stub) end) there rest;
-          fit = g.1;
-          held = held.2;
-          ends = h.ends;
-        },
-      )
 
 pub no_value : {d e : Reading} {n end : ℕ} {x : Numbered (List ℕ)} → TookTlv d end x e → NoOptionValue x.0 x.1 → NoneLeft d.message n d.index end
 no_value t l = record { none = λ left. let g = first_left t.at t.fits t.inside left in l.none g.0 g.1 }
@@ -213,24 +111,6 @@ pub record Counted (m : List ℕ) (count offset : ℕ) : Type 0 where
   pub are : AreTlvs read
   pub number : count ≡ length read
 
--- the octets that are there from p on are at p
-at_taken : (m : List ℕ) (p n q : ℕ) → q ≡ p + n → q ≤ length m → At m p (take n (drop p m)) q
-at_taken m p n q e l =
-    let len : length (take n (drop p m)) ≡ n = omega (arith, length-take n (drop p m), length-drop p m, l, e) in
-    record { ends = omega (arith, len, e); within = l; same = ap (λ k. take k (drop p m)) len }
-
--- two octets are those of their number
-number_there : (m : List ℕ) (p : ℕ) → ((i : ℕ) → get_or m i 0 < 256) → p + 2 ≤ length m
-    → take 2 (drop p m) ≡ bytes_high_first 2 (from_be_bytes w16 (get_or m p 0 ∷ get_or m (p + 1) 0 ∷ []))
-number_there m p small l = two ∙ sym (be_bytes_2 (get_or m p 0 ∷ get_or m (p + 1) 0 ∷ []) _ refl bound refl) where
-  two : take 2 (drop p m) ≡ get_or m p 0 ∷ get_or m (p + 1) 0 ∷ []
-  two = rw add-one (ap (take 2) (drop-cons m p 0 (omega (arith, l)) ∙ ap (λ (s : List ℕ). get_or m p 0 ∷ s) (drop-cons m (suc p) 0 (omega (arith, l)))))
-
-  bound : (i : ℕ) → get_or (get_or m p 0 ∷ get_or m (p + 1) 0 ∷ []) i 0 < 256
-  bound zero = small p
-  bound (suc zero) = small (p + 1)
-  bound (suc (suc i)) = omega arith
-
 tlvs_more : (xs : List (Numbered (List ℕ))) (x : Numbered (List ℕ)) → tlvs xs ++ tlv x ≡ tlvs (xs ++ x ∷ [])
 tlvs_more xs x = sym (flat_map-append tlv xs (x ∷ []) ∙ ap (λ (t : List ℕ). tlvs xs ++ t) (append-nil (tlv x)))
 
@@ -238,65 +118,17 @@ tlvs_more xs x = sym (flat_map-append tlv xs (x ∷ []) ∙ ap (λ (t : List ℕ
 pub counted_more : {m : List ℕ} {count offset : ℕ} (f : ℕ) → ((i : ℕ) → get_or m i 0 < 256) → offset + (4 + f) ≤ length m → f < 65536
     → f ≡ from_be_bytes w16 (get_or m (offset + 2) 0 ∷ get_or m (offset + 3) 0 ∷ []) → Counted m count offset → Counted m (count + 1) (offset + (4 + f))
 counted_more {m} {count} {offset} f small l fits is h =
-    let code = from_be_bytes w16 (get_or m offset 0 ∷ get_or m (offset + 1) 0 ∷ []) in
-    let x = take f (drop (offset + 4) m) in
-    let y : Numbered (List ℕ) = (code, x) in
-    let len : length x ≡ f = omega (arith, length-take f (drop (offset + 4) m), length-drop (offset + 4) m, l) in
-    let three : offset + 2 + 1 ≡ offset + 3 = omega arith in
-    let first : take 2 (drop offset m) ≡ bytes_high_first 2 code = number_there m offset small (omega (arith, l)) in
-    let second : take 2 (drop (offset + 2) m) ≡ bytes_high_first 2 (length x) = number_there m (offset + 2) small (omega (arith, l))
-    ∙ ap (λ (k : ℕ). bytes_high_first 2 (from_be_bytes w16 (get_or m (offset + 2) 0 ∷ get_or m k 0 ∷ []))) three
-    ∙ ap (bytes_high_first 2) (sym is ∙ sym len) in
-    let a = at_taken m offset 2 (offset + 2) refl (omega (arith, l)) in
-    let b = at_taken m (offset + 2) 2 (offset + 4) (omega arith) (omega (arith, l)) in
-    let d = at_taken m (offset + 4) f (offset + (4 + f)) (omega arith) l in
-    let here : At m offset (tlv y) (offset + (4 + f)) =
-    subst (λ (o : List ℕ). At m offset (o ++ (bytes_high_first 2 (length x) ++ x)) (offset + (4 + f))) first
-    (at_then a (subst (λ (o : List ℕ). At m (offset + 2) (o ++ x) (offset + (4 + f))) second (at_then b d))) in
+    let same : offset + 4 + f ≡ offset + (4 + f) = omega arith in
+    let one : TlvThere m offset (offset + (4 + f)) = subst (TlvThere m offset) same (part_there m offset f small (omega (arith, l)) is) in
+    let x : Numbered (List ℕ) = (one.key, one.body) in
     record {
-      read = h.read ++ y ∷ [];
-      at = subst (λ (o : List ℕ). At m 0 o (offset + (4 + f))) (tlvs_more h.read y) (at_then h.at here);
-      are = all_push IsTlv h.read y h.are (code_fits (get_or m offset 0) (get_or m (offset + 1) 0) (small offset) (small (offset + 1)), omega (arith, len, fits));
-      number = omega (arith, h.number, length-append h.read (y ∷ []));
+      read = h.read ++ x ∷ [];
+      at = subst (λ (o : List ℕ). At m 0 o (offset + (4 + f))) (tlvs_more h.read x) (at_then h.at one.is.at);
+      are = all_push IsTlv h.read x h.are one.is.fits;
+      number = omega (arith, h.number, length-append h.read (x ∷ []));
     }
-  where
-    code_fits : (a b : ℕ) → a < 256 → b < 256 → from_be_bytes w16 (a ∷ b ∷ []) < 256 ^ 2
-    code_fits a b h k = omega (arith, h, k)
 
 -- ---- options that are read up to the end of a record
-
--- what was read of the options up to the end, and what is left of any way to fill the record
-pub record ReadsOptions (old : Reading) (n end : ℕ) (done : List (Numbered OptionValue)) (d : Reading) : Type 0 where
-  pub message : d.message ≡ old.message
-  pub behind : old.index ≤ d.index
-  pub inside : d.index ≤ end
-  pub took : CompleteOptions old.message old.index done d.index
-  pub rest : OptionsLeft old.message n old.index end → OptionsLeft old.message n d.index end
-
-held_more : (xs : List (Numbered (List ℕ))) (a : List (Numbered OptionValue)) (x : Numbered (List ℕ)) (v : OptionValue) → AllHeld OptionHeld xs a
-    → OptionHeld x.0 x.1 v → AllHeld OptionHeld (xs ++ x ∷ []) (a ++ (x.0, v) ∷ [])
-held_more [] [] x v f h = (refl, h, tt)
-held_more (y ∷ ys) (a ∷ as') x v f h = (f.0, f.1, held_more ys as' x v f.2 h)
-held_more xs a x v f h = absurd f
-
-pub options_more : {old d b : Reading} {n end : ℕ} {done : List (Numbered OptionValue)} {x : Numbered (List ℕ)} (v : OptionValue)
-    → ReadsOptions old n end done d
-    → TookTlv d end x b → OptionHeld x.0 x.1 v → ReadsOptions old n end (done ++ (x.0, v) ∷ []) b
-options_more {old} {d} {b} {n} {end} {done} {x} v r t held =
-    let at : At old.message d.index (tlv x) b.index = subst (λ (m : List ℕ). At m d.index (tlv x) b.index) r.message t.at in
-    record {
-      message = t.message ∙ r.message;
-      behind = omega (arith, r.behind, at.ends);
-      inside = t.inside;
-      took = record {
-        read = r.took.read ++ x ∷ [];
-        at = subst (λ (o : List ℕ). At old.message old.index o b.index) (tlvs_more r.took.read x)
-            (at_then r.took.at at);
-        fit = all_push IsTlv r.took.read x r.took.fit t.fits;
-        held = held_more r.took.read done x v r.took.held held;
-      };
-      rest = λ h. (first_left at t.fits t.inside (r.rest h)).2;
-    }
 
 -- a field of options leaves all of it at its start
 field_left : {m : List ℕ} {p q : ℕ} {v : List (Numbered OptionValue)} → Field m p Options v q → OptionsLeft m (q - p) p q

@@ -3,18 +3,19 @@ use Rattle.std.proofs.{lemmas.Bool.Decides.nat_tests, Common.subst}
 use Rattle.std.proofs.Common.{◌≡◌, ◌≢◌, ◌⊎◌, inl, inr, ℕ, ◌+◌, ◌<◌, ◌==◌, Bool, false, cond, List, [], ◌∷◌, ◌++◌, length, drop, Ok, refl, sym, ap, ◌∙◌, arith}
 use Rattle.std.specs.Int.{bytes_high_first}
 use Rattle.dns_types.specs.declared.error.DecodeError.{DecodeError}
-use Rattle.dns_fields.specs.Tlvs.{Numbered, tlv, OptionValue, Subnet, OpaqueOption, option_octets, OptionHeld, IsEmittableOption}
-use Rattle.dns_fields.specs.Octets.{AreOctets, At}
-use Rattle.dns_fields.proofs.OctetLaws.{AreOctets-at, AreOctets-back, AreOctets-front, AreOctets-same, AreOctets-tail}
+use Rattle.dns_fields.specs.Tlvs.{Numbered, Subnet, OpaqueOption, option_octets, OptionHeld}
+use Rattle.dns_fields.specs.Octets.{AreOctets}
+use Rattle.dns_fields.proofs.OctetLaws.{AreOctets-back, AreOctets-front, AreOctets-same, AreOctets-tail}
 use Rattle.dns_rdata_base.proofs.NumberLaws.{number-numbered_of}
-use Rattle.dns_rdata_options.specs.ClientSubnet.{subnet_value, subnet_of, NoSubnet, ReadsSubnet, IsSubnetError}
+use Rattle.dns_rdata_options.specs.ClientSubnet.{subnet_value, NoSubnet, ReadsSubnet, IsSubnetError}
 use Rattle.dns_rdata_options.specs.EdnsCode.{edns_code_number, named_edns_codes, other_edns_code, edns_code_of}
 use Rattle.dns_rdata_options.specs.{OptionReads.KeptOption, OptionReads.NoOptionValue, OptionReads.NoneLeft, OptionReads.TookTlv, OPT.Pair, OPT.option_of}
 use Rattle.dns_rdata_options.specs.{EdnsOption.option_value, EdnsOption.IsOptionOf, EdnsOption.IsOptionError, declared.opt.subnet.ClientSubnet.ClientSubnet}
 use Rattle.dns_rdata_options.specs.declared.opt.{option.EdnsOption.EdnsOption, code.EdnsCode.EdnsCode}
 use Rattle.dns_names_wire.specs.{Terms.StaysBehind, Terms.UnlessMemory, State.Reading}
 use Rattle.dns_names_wire.proofs.FieldReads.{unless_all}
-use Rattle.dns_rdata_options.proofs.{Subnets.value_back, Subnets.made_read, Subnets.at_zero, Subnets.begun, OptionLists.RefusedHere, OptionLists.no_value}
+use Rattle.dns_view.proofs.Subnets.{subnet_none}
+use Rattle.dns_rdata_options.proofs.{Subnets.begun, OptionLists.RefusedHere, OptionLists.no_value}
 use Rattle.dns_types.specs.declared.error.DecodeError.TheVariants as decode
 use Rattle.dns_rdata_options.specs.declared.opt.code.EdnsCode.TheVariants as codes
 use Rattle.dns_rdata_options.specs.declared.opt.option.EdnsOption.TheVariants as edns
@@ -62,23 +63,10 @@ held_octets n s f source scope a are h = AreOctets-tail scope a (AreOctets-tail 
 
 -- ---- where there is none
 
-no_subnet_value : (s : List ℕ) → AreOctets s → NoSubnet s → (v : OptionValue) → OptionHeld 8 s v → ⊥
-no_subnet_value s are none (Subnet f source scope a) h =
-    let octets : AreOctets a = held_octets 8 s f source scope a are h in
-    let value : subnet_value (subnet_of f source scope a) ≡ Subnet f source scope a = value_back f source scope a h.1 octets in
-    none.none (subnet_of f source scope a) _ (record {
-      fits = subst IsEmittableOption (sym value) h.1;
-      at = subst (λ (v : OptionValue). At s 0 (option_octets v) (length (option_octets (Subnet f source scope a)))) (sym value)
-          (at_zero s (option_octets (Subnet f source scope a)) h.2 h.3);
-      read = made_read f source scope a h.1 octets;
-    })
-no_subnet_value s are none (OpaqueOption t) h = h.0 refl
-
-no_value_code : (code : EdnsCode) (s : List ℕ) (e : DecodeError) → length s < 65536 → AreOctets s → IsOptionError code s e
-    → NoOptionValue (edns_code_number code) s
-no_value_code codes.Subnet s e short are r = record { none = no_subnet_value s are r.0 }
-no_value_code codes.NSID s e short are r = absurd (omega (arith, r.0, short))
-no_value_code code s e short are r = absurd r
+no_value_code : (code : EdnsCode) (s : List ℕ) (e : DecodeError) → length s < 65536 → IsOptionError code s e → NoOptionValue (edns_code_number code) s
+no_value_code codes.Subnet s e short r = subnet_none s e r.1
+no_value_code codes.NSID s e short r = absurd (omega (arith, r.0, short))
+no_value_code code s e short r = absurd r
 
 -- ---- the next option
 
@@ -107,11 +95,6 @@ subnet_tested n s x off is h = record {
 pub plain_tested : {keeps : Bool} {old new : List Pair} (n : ℕ) (s : List ℕ) → keeps ≡ false → n ≢ 8 → KeptOption keeps n s old new
 plain_tested n s off h = record { value = OpaqueOption s; held = (h, refl); pair = λ t. cc (t, off) }
 
-body_octets : {d new : Reading} {end : ℕ} {x : Numbered (List ℕ)} → AreOctets d.message → TookTlv d end x new → AreOctets x.1
-body_octets {d} {new} {end} {x} are t =
-    AreOctets-back (bytes_high_first 2 (length x.1)) x.1
-    (AreOctets-back (bytes_high_first 2 x.0) (bytes_high_first 2 (length x.1) ++ x.1) (AreOctets-at d.message d.index (tlv x) new.index are t.at))
-
 tlv_behind : {d new : Reading} {end : ℕ} {x : Numbered (List ℕ)} → TookTlv d end x new → StaysBehind d new
 tlv_behind t = record { message = t.message; index = omega (arith, t.at.ends) }
 
@@ -119,12 +102,12 @@ pub subnet_refused : (n : ℕ) (s : List ℕ) (e : DecodeError) → n ≡ 8 → 
 subnet_refused n s e is h = subst (λ (c : EdnsCode). IsOptionError c s e) (sym (ap edns_code_of is ∙ of_8)) h
 
 -- an option without a value, or one for which memory ran out
-pub refused_option : {d new : Reading} (start n : ℕ) (x : Numbered (List ℕ)) (e : DecodeError) → AreOctets d.message → TookTlv d (start + n) x new
+pub refused_option : {d new : Reading} (start n : ℕ) (x : Numbered (List ℕ)) (e : DecodeError) → TookTlv d (start + n) x new
     → (e ≡ decode.Memory) ⊎ IsOptionError (edns_code_of x.0) x.1 e → RefusedHere e d start n new
-refused_option {d} start n x e are t (inl m) =
+refused_option {d} start n x e t (inl m) =
     (tlv_behind t, subst (λ (z : DecodeError). UnlessMemory z (NoneLeft d.message n d.index (start + n))) (sym m) tt, inl m)
-refused_option start n x e are t (inr r) = (
+refused_option start n x e t (inr r) = (
   tlv_behind t,
-  unless_all e (no_value t (subst (λ (k : ℕ). NoOptionValue k x.1) (edns_code_number-of x.0) (no_value_code (edns_code_of x.0) x.1 e (omega (arith, t.fits.1)) (body_octets are t) r))),
+  unless_all e (no_value t (subst (λ (k : ℕ). NoOptionValue k x.1) (edns_code_number-of x.0) (no_value_code (edns_code_of x.0) x.1 e (omega (arith, t.fits.1)) r))),
   inr (inr (record { code = x.0; body = x.1; at = t.at; fits = t.fits; inside = t.inside; refused = r })),
 )

@@ -1,39 +1,16 @@
 -- The subnet that begins octets, and why none does.
 use Rattle.std.proofs.lemmas.List.{length-append, length-take-le, length-drop, length-replicate, take-append-drop, take_at}
 use Rattle.std.proofs.{Common.refl, Common.sym, Common.ap, Common.◌∙◌, Common.arith, Common.subst, Common.append_assoc, lemmas.Bool.Decides.nat_tests}
-use Rattle.std.proofs.lemmas.Nat.{be_bytes_2}
-use Rattle.std.proofs.Common.{◌≡◌, ◌⊎◌, inl, inr, ℕ, zero, suc, ◌+◌, ◌-◌, ◌<◌, ◌≤◌, List, [], ◌∷◌, ◌++◌, length, take, drop, replicate, get_or, false, ◌==◌}
+use Rattle.std.proofs.Common.{◌≡◌, ◌⊎◌, inl, inr, ℕ, zero, suc, ◌+◌, ◌-◌, ◌≤◌, List, [], ◌∷◌, ◌++◌, length, take, drop, replicate, get_or, false, ◌==◌}
 use Rattle.std.specs.{Int.w16, Int.from_be_bytes, Int.bytes_high_first, Net.Addr.segments_of, Net.Addr.ipv6_segments, declared.net.ipv6_addr.Ipv6Addr.Ipv6Addr}
 use Rattle.std.specs.declared.net.ip_addr.IpAddr.TheVariants.{V6}
 use Rattle.dns_fields.specs.{Tlvs.OptionValue, Tlvs.Subnet, Tlvs.option_octets, Tlvs.IsAddress, Tlvs.IsEmittableOption, Octets.At, Octets.AreOctets}
 use Rattle.dns_fields.proofs.OctetLaws.{AreOctets-nil, AreOctets-cons, AreOctets-append, AreOctets-take, AreOctets-drop}
 use Rattle.dns_fields.proofs.Numbers.{length-bytes}
 use Rattle.dns_rdata_base.proofs.Addresses.{octets_of-segments}
-use Rattle.dns_rdata_options.specs.ClientSubnet.{IsReadSubnet, SubnetAt, IsFamily, SubnetHead, family_of, address_octets, prefix_octets, family_octets, padded}
+use Rattle.dns_rdata_options.specs.ClientSubnet.{IsReadSubnet, SubnetAt, IsFamily, family_of, address_octets, prefix_octets, family_octets, padded}
 use Rattle.dns_rdata_options.specs.{declared.opt.subnet.ClientSubnet.ClientSubnet, ClientSubnet.address_of, ClientSubnet.subnet_of, ClientSubnet.subnet_value}
-
--- octets as numbers of eight bits, as code knows them
-abbrev pub Eights : List ℕ → Type 0
-Eights s = (i : ℕ) → get_or s i 0 < 256
-
-pair_small : (p q : ℕ) → p < 256 → q < 256 → Eights (p ∷ q ∷ [])
-pair_small p q a b zero = a
-pair_small p q a b (suc zero) = b
-pair_small p q a b (suc (suc i)) = omega arith
-
--- the family, and what follows
-pub family_first : (s : List ℕ) (f : ℕ) → f ≡ from_be_bytes w16 (get_or s 0 0 ∷ get_or s 1 0 ∷ []) → 2 ≤ length s → Eights s
-    → s ≡ bytes_high_first 2 f ++ drop 2 s
-family_first (p ∷ q ∷ s) f e n b = ap (λ (o : List ℕ). o ++ s) (sym (be_bytes_2 (p ∷ q ∷ []) f refl (pair_small p q (b 0) (b 1)) e))
-family_first s f e n b = absurd (omega arith)
-
-heads : (s : List ℕ) → 4 ≤ length s → drop 2 s ≡ get_or s 2 0 ∷ get_or s 3 0 ∷ drop 4 s
-heads (p ∷ q ∷ r ∷ t ∷ s) n = refl
-heads s n = absurd (omega arith)
-
-pub head_first : (s : List ℕ) (f : ℕ) → f ≡ from_be_bytes w16 (get_or s 0 0 ∷ get_or s 1 0 ∷ []) → 4 ≤ length s → Eights s → IsFamily f
-    → SubnetHead s f (get_or s 2 0) (get_or s 3 0) (drop 4 s)
-head_first s f e n b known = record { octets = family_first s f e (omega arith) b ∙ ap (λ (o : List ℕ). bytes_high_first 2 f ++ o) (heads s n); known = known }
+use Rattle.dns_view.proofs.Subnets.{Eights, head_first}
 
 -- ---- a subnet that is encoded
 

@@ -1,7 +1,6 @@
 pub mod Splits
 pub mod ParameterTokens
 pub mod ValueReads
-pub mod ParameterLists
 pub mod EachEmits
 pub mod ParameterReads
 pub mod SvcbValues

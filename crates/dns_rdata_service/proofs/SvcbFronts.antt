@@ -10,7 +10,7 @@ use Rattle.dns_fields.specs.{Tlvs.string, Tlvs.Alpn, Tlvs.Opaque, Tlvs.Port, Equ
 use Rattle.dns_fields.specs.{declared.Kind.TheVariants.Number, declared.Kind.TheVariants.Name, Fields.field_octets, Labels.AreLabels, Labels.lowname}
 use Rattle.dns_fields.proofs.Numbers.{number_cmp, length-bytes, same_number}
 use Rattle.dns_canonical.specs.Fronts.{canonical_cmp, field_cmp}
-use Rattle.dns_canonical.proofs.{Comparing.cmp_shared, Comparing.then_kept, Comparing.then_equal, Fronts.fields_decide, Fronts.front_then}
+use Rattle.dns_canonical.proofs.{Comparing.cmp_shared, Comparing.then_kept, Comparing.then_equal, Comparing.both_equal, Fronts.fields_decide, Fronts.front_then}
 use Rattle.dns_rdata_service.proofs.OwnValues.{value_given}
 use Rattle.dns_rdata_service.specs.{ParameterOrder.OrderFirst, ParameterOrder.joined, ParameterOrder.behind_length, Steps.parameters_from}
 use Rattle.dns_rdata_service.specs.SvcParamValue.{value_key, value_of, sized, key_numbers, value_rank, Differ}
@@ -58,13 +58,8 @@ lengths_first r c o n m s t e f p q g h k = rw (e, f, g, p, q) (sized_first s t 
 
 -- ---- orders that tie
 
-both_tie : (o p : Ordering) → ordering_then o p ≡ Equal → (o ≡ Equal) × (p ≡ Equal)
-both_tie Less p e = cc e
-both_tie Equal p e = (refl, e)
-both_tie Greater p e = cc e
-
 pub then_ties : (r o p : Ordering) → r ≡ ordering_then o p → r ≡ Equal → p ≡ Equal
-then_ties r o p e f = (both_tie o p (sym e ∙ f)).1
+then_ties r o p e f = (both_equal o p (sym e ∙ f)).1
 
 pub ne_no : (o : Ordering) → is_ne o ≡ false → o ≡ Equal
 ne_no Less h = absurd (true≢false h)
@@ -170,9 +165,9 @@ pub all_alike : (a b : SVCB) (o : Ordering)
 unfolding field_octets
 all_alike a b o e tie p q marks same =
     let fronts =
-    both_tie (ordering_then Equal (field_cmp (Number 2) a.svc_priority b.svc_priority)) (field_cmp Name a.target_name b.target_name) (sym e ∙ tie) in
+    both_equal (ordering_then Equal (field_cmp (Number 2) a.svc_priority b.svc_priority)) (field_cmp Name a.target_name b.target_name) (sym e ∙ tie) in
     let priority : a.svc_priority ≡ b.svc_priority =
-    same_number 2 a.svc_priority b.svc_priority p q (octets_tie (field_cmp (Number 2) a.svc_priority b.svc_priority) (bytes_high_first 2 a.svc_priority) (bytes_high_first 2 b.svc_priority) refl (both_tie Equal _ fronts.0).1) in
+    same_number 2 a.svc_priority b.svc_priority p q (octets_tie (field_cmp (Number 2) a.svc_priority b.svc_priority) (bytes_high_first 2 a.svc_priority) (bytes_high_first 2 b.svc_priority) refl (both_equal Equal _ fronts.0).1) in
     let target : lowname a.target_name ≡ lowname b.target_name =
     octets_tie (field_cmp Name a.target_name b.target_name) (lowname a.target_name) (lowname b.target_name) refl fronts.1 in
     let numbers : nat_eq a.svc_priority b.svc_priority ≡ true = (unsigned_Decides a.svc_priority b.svc_priority).1 priority in

@@ -19,7 +19,8 @@ use Rattle.dns_rdata_service.specs.SvcParamValue.{IsValueError, IsFormError, IsK
 use Rattle.dns_rdata_service.specs.{Hints.StandEach, Hints.StopsBefore, Hints.StandToEnd, Hints.ReadsEach, Hints.EmitsEach, declared.svcb.ip_hint.IpHint.IpHint}
 use Rattle.dns_rdata_service.specs.{declared.svcb.mandatory.Mandatory.Mandatory as MandatoryKeys, SvcParamKey.key_number, SvcParamKey.key_of}
 use Rattle.dns_rdata_service.specs.{declared.svcb.key.SvcParamKey.SvcParamKey, declared.svcb.alpn.Alpn.Alpn as Protocols}
-use Rattle.dns_rdata_service.proofs.Splits.{at_split, octet_split, length_numbers, string_first, strings_prefix, all_behind, stays_then}
+use Rattle.dns_rdata_service.proofs.Splits.{octet_split}
+use Rattle.dns_view.proofs.Splits.{at_split, length_numbers, string_first, strings_prefix, all_behind, stays_then}
 use Rattle.dns_rdata_service.proofs.EachEmits.{emits_all, emits_as, all_pass}
 use Rattle.dns_fields.proofs.{OctetLaws.AreOctets-at, Numbers.length-bytes}
 use Rattle.dns_rdata_base.proofs.Addresses.{octets_of-segments}

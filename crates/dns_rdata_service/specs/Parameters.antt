@@ -1,17 +1,17 @@
 -- The parameters of a service as fields, and why they are rejected (RFC 9460, 2.2).
-use Rattle.std.specs.Prelude.{◌≡◌, ◌⊎◌, ℕ, ◌+◌, ◌<◌, ◌≤◌, false, List, [], ◌∷◌, ◌++◌, length, map, Option, Some, None, Result}
-use Rattle.std.specs.List.{AllByRecursion}
+use Rattle.std.specs.Prelude.{◌≡◌, ◌⊎◌, ℕ, ◌+◌, ◌<◌, ◌≤◌, false, List, [], ◌∷◌, length, map, Result}
 use Rattle.dns_types.specs.{declared.error.DecodeError.DecodeError, declared.error.ProtoError.ProtoError}
 use Rattle.dns_types.specs.declared.error.DecodeError.TheVariants as decode
 use Rattle.dns_fields.specs.Fields.{Values}
 use Rattle.dns_fields.specs.declared.Kind.{TheVariants.Number, TheVariants.Rest, TheVariants.Parameters}
-use Rattle.dns_fields.specs.Tlvs.{Numbered, ParameterValue, Alpn, ParameterFits, tlv, as_tlv, parameter_octets, Rising}
+use Rattle.dns_fields.specs.Tlvs.{Numbered, ParameterValue, Alpn, ParameterFits, tlv, as_tlv, parameter_octets}
 use Rattle.dns_rows.specs.Rules.{HaveTexts}
 use Rattle.dns_names_wire.specs.{State.Reading, State.Writing, Terms.Took, Terms.TookField, Terms.EmitsOctets}
 use Rattle.dns_rdata_base.specs.FieldErrors.{FirstLack}
 use Rattle.dns_rdata_service.specs.{declared.svcb.key.SvcParamKey.SvcParamKey, declared.svcb.value.SvcParamValue.SvcParamValue}
 use Rattle.dns_rdata_service.specs.SvcParamKey.{key_number, key_variant, key_of}
 use Rattle.dns_rdata_service.specs.SvcParamValue.{value_of, value_from, value_key, IsKeyError, fits_value}
+pub use Rattle.dns_view.specs.Parameters.{IsAbove, TruncatedValue, WrongOrder, PassedParameters}
 
 -- a key and its value
 abbrev pub Parameter : Type 0
@@ -44,27 +44,12 @@ pub record TookParameters (p n : ℕ) (old : Reading) (ps : List Parameter) (new
   pub within : new.index ≤ p + n
   pub left : p + n < new.index + 4
 
--- a key's number is greater than the last one
-abbrev pub IsAbove : Option ℕ → ℕ → Type 0
-IsAbove None key = Unit {0}
-IsAbove (Some last) key = last < key
-
 -- appends a key's number, the length of a value and the value
 abbrev pub EmitsParameter : Numbered ParameterValue → Result (Unit {0}) ProtoError → Writing → Writing → Type 0
 EmitsParameter x r old new =
     EmitsOctets (ParameterFits x) (fits_value x.1 ≡ false) (tlv (as_tlv parameter_octets x)) r old new
 
 -- ---- errors
-
--- key and length are read, and fewer octets are left
-pub record TruncatedValue (old : Reading) (e : DecodeError) (new : Reading) : Type 0 where
-  pub key : ℕ
-  pub size : ℕ
-  pub left : ℕ
-  pub took : Took old (Number 2 ∷ Number 2 ∷ []) (key, (size, tt)) new
-  pub error : e ≡ decode.IncorrectRDataLengthRead left size
-  pub all : new.index + left ≡ length new.message
-  pub truncated : left < size
 
 -- key, length and the octets of the value are read, and they are no value of the key
 pub record RefusedValue (old : Reading) (e : DecodeError) (new : Reading) : Type 0 where
@@ -85,25 +70,6 @@ pub record RefusedParameter (end : ℕ) (old : Reading) (e : DecodeError) (new :
   pub took : TookField old Parameters before between
   pub room : between.index + 4 ≤ end
   pub refused : IsParameterError between e new
-
--- after parameters that are read, one is read whose key is not greater than theirs
-pub record WrongOrder (old : Reading) (e : DecodeError) (new : Reading) : Type 0 where
-  pub before : List (Numbered ParameterValue)
-  pub between : Reading
-  pub took : TookField old Parameters before between
-  pub last : Numbered ParameterValue
-  pub then : TookField between Parameters (last ∷ []) new
-  pub error : e ≡ decode.SvcParamsOutOfOrder
-  pub order : Rising (before ++ last ∷ []) → ⊥
-
--- parameters are read beyond the n octets of RDATA from the offset p
-pub record PassedParameters (p n : ℕ) (old : Reading) (e : DecodeError) (new : Reading) : Type 0 where
-  pub taken : List (Numbered ParameterValue)
-  pub size : ℕ
-  pub took : TookField old Parameters taken new
-  pub error : e ≡ decode.IncorrectRDataLengthRead size n
-  pub passed : n < size
-  pub index : new.index ≡ p + size
 
 -- parameters to the end of n octets of RDATA from p
 abbrev pub IsParametersError : ℕ → ℕ → Reading → DecodeError → Reading → Type 0

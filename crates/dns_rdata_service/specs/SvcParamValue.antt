@@ -1,12 +1,12 @@
 -- The values of service parameters: what each holds, the octets that it is read from, and its text (RFC 9460, 7 and 8;
 -- RFC 9461, 5).
-use Rattle.std.specs.Prelude.{◌≡◌, ◌≢◌, ◌⊎◌, ℕ, ◌%◌, ◌^◌, ◌<◌, ◌&&◌, nat_le, Bool, true, false, Option, Some, None, List, [], ◌∷◌, ◌++◌, length, drop, map, codes}
+use Rattle.std.specs.Prelude.{◌≡◌, ◌⊎◌, ℕ, ◌^◌, ◌<◌, ◌&&◌, nat_le, Bool, true, false, Option, Some, None, List, [], ◌∷◌, ◌++◌, length, drop, map, codes}
 use Rattle.std.specs.{Net.Addr.ipv4_octets, Net.Addr.ipv6_octets, Net.Addr.segments_of, Prelude.decimal, Prelude.IsUtf8, Prelude.Result}
 use Rattle.std.specs.{Int.bytes_high_first, List.flat_map}
 use Rattle.base64.specs.{GeneralPurpose.encode_of, Engines.standard}
 use Rattle.dns_types.specs.{declared.error.DecodeError.DecodeError, declared.error.ProtoError.ProtoError}
-use Rattle.dns_fields.specs.Tlvs.{string, ParameterValue, Mandatory, Alpn, NoDefaultAlpn, Port, Ipv4Hint, Ipv6Hint, Opaque, ParameterForm, Keys, Names}
-use Rattle.dns_fields.specs.Tlvs.{Nothing, PortNumber, Addresses4, Addresses16, AnyOctets, IsEmittable, IsBody, ParameterHeld, form_for}
+use Rattle.dns_fields.specs.Tlvs.{ParameterValue, Mandatory, Alpn, NoDefaultAlpn, Port, Ipv4Hint, Ipv6Hint, Opaque, ParameterForm}
+use Rattle.dns_fields.specs.Tlvs.{IsEmittable, IsBody, ParameterHeld, form_for}
 use Rattle.dns_fields.specs.Tlvs.{parameter_octets, parameter_emittable}
 use Rattle.dns_rows.specs.Rules.{is_text_key, HasText}
 use Rattle.dns_names_wire.specs.{State.Writing, Terms.EmitsOctets}
@@ -19,6 +19,7 @@ use Rattle.dns_rdata_service.specs.{declared.svcb.alpn.Alpn.Alpn as Protocols, d
 use Rattle.dns_types.specs.declared.error.DecodeError.TheVariants as decode
 use Rattle.dns_rdata_service.specs.declared.svcb.key.SvcParamKey.TheVariants as keys
 use Rattle.dns_rdata_service.specs.declared.svcb.value.SvcParamValue.TheVariants as variants
+pub use Rattle.dns_view.specs.Values.{TruncatedName, WrongName, IsFormError}
 
 -- ---- as values of the grammar
 
@@ -168,34 +169,6 @@ DohPathAt m p x q = ToEnd m p (doh_path_value x) q × IsUtf8 x.0
 
 abbrev pub UnknownAt : List ℕ → ℕ → Other → ℕ → Type 0
 UnknownAt m p x q = ToEnd m p (unknown_value x) q
-
--- names of protocols, and after them an octet of length and fewer octets than it says
-pub record TruncatedName (body : List ℕ) : Type 0 where
-  pub names : List (List ℕ)
-  pub size : ℕ
-  pub octets : List ℕ
-  pub split : body ≡ flat_map string names ++ size ∷ octets
-  pub truncated : length octets < size
-
--- names of protocols, and after them one that is not UTF-8
-pub record WrongName (body : List ℕ) : Type 0 where
-  pub names : List (List ℕ)
-  pub name : List ℕ
-  pub rest : List ℕ
-  pub split : body ≡ flat_map string names ++ (string name ++ rest)
-  pub wrong : IsUtf8 name → ⊥
-
--- why octets are no value of a format
-abbrev pub IsFormError : ParameterForm → List ℕ → DecodeError → Type 0
-IsFormError Keys body e =
-    ((e ≡ decode.SvcParamMissingValue) × (body ≡ [])) ⊎ ((e ≡ decode.InsufficientBytes) × (length body % 2 ≡ 1))
-IsFormError Names body e = ((e ≡ decode.SvcParamMissingValue) × (body ≡ []))
-    ⊎ (((e ≡ decode.InsufficientBytes) × TruncatedName body) ⊎ ((e ≡ decode.Utf8) × WrongName body))
-IsFormError Nothing body e = (e ≡ decode.IncorrectRDataLengthRead (length body) 0) × (body ≢ [])
-IsFormError PortNumber body e = (e ≡ decode.InsufficientBytes) × (length body < 2)
-IsFormError Addresses4 body e = (e ≡ decode.InsufficientBytes) × (length body % 4 ≢ 0)
-IsFormError Addresses16 body e = (e ≡ decode.InsufficientBytes) × (length body % 16 ≢ 0)
-IsFormError AnyOctets body e = ⊥
 
 -- or memory runs out
 abbrev pub IsValueError : ParameterForm → List ℕ → DecodeError → Type 0

@@ -1,16 +1,16 @@
 -- The offset after a field, by a few comparisons.
-use Rattle.std.proofs.Common.{◌≡◌, ℕ, suc, ◌+◌, ◌-◌, ◌≤◌, ◌<◌, ◌∷◌, length, length-drop, take, drop, drop-cons, get_or, refl, sym, ap, ◌∙◌, arith, subst}
+use Rattle.std.proofs.Common.{◌≡◌, ℕ, suc, ◌+◌, ◌-◌, ◌≤◌, ◌<◌, List, ◌∷◌, length, length-drop, take, drop, drop-cons, get_or, refl, sym, ap, ◌∙◌, arith, subst}
 use Rattle.std.proofs.Common.{Ok, Option, Some, None, IfSome}
 use Rattle.std.proofs.lemmas.List.{length-take-le}
 use Rattle.dns_fields.specs.declared.Kind.{Kind}
-use Rattle.dns_fields.specs.declared.Kind.TheVariants.{Number, Octets, CharacterString, Rest}
-use Rattle.dns_fields.specs.Octets.{AreOctets}
+use Rattle.dns_fields.specs.declared.Kind.TheVariants.{Number, Octets, Name, CharacterString, Rest}
+use Rattle.dns_fields.specs.{Octets.AreOctets, Names.IsNameIn}
 use Rattle.dns_fields.proofs.{FieldLaws.field_inside, OctetLaws.AreOctets-same, OctetLaws.AreOctets-head, OctetLaws.AreOctets-drop}
 use Rattle.dns_names_wire.specs.{State.Reading, Terms.TookField}
 use Rattle.dns_rows.specs.declared.row.{Rule.Rule}
 use Rattle.dns_rows.specs.declared.row.Rule.TheVariants as rules
-use Rattle.dns_view.specs.{Parts.IsUnasked, Parts.Skips, Parts.moved, RowPointers.FieldPointers}
-use Rattle.dns_view.proofs.Skips.{skips_as, number_skips, octets_skip, string_skips, rest_skips}
+use Rattle.dns_view.specs.{NameEnds.NameEnds, Parts.IsUnasked, Parts.Skips, Parts.moved, RowPointers.FieldPointers}
+use Rattle.dns_view.proofs.Skips.{skips_as, number_skips, octets_skip, name_skips, string_skips, rest_skips}
 
 -- the offset after so many octets, which the message has
 abbrev EndsAfter : Reading → ℕ → ℕ → Type 0
@@ -20,7 +20,7 @@ if_some : {P Q : ℕ → Type 0} (r : Option ℕ) → ((end : ℕ) → P end →
 if_some None f h = tt
 if_some (Some end) f h = f end h
 
-octets_there : (d : Reading) (size end : ℕ) → EndsAfter d size end → TookField d (Octets size) (take size (drop d.index d.message)) (moved d end)
+pub octets_there : (d : Reading) (size end : ℕ) → EndsAfter d size end → TookField d (Octets size) (take size (drop d.index d.message)) (moved d end)
 octets_there d size end e =
     let s = drop d.index d.message in
     let n : length (take size s) ≡ size = length-take-le size s (omega (arith, e, length-drop d.index d.message)) in
@@ -93,6 +93,15 @@ module _ (rule : Rule) (k : Kind) (start n : ℕ) (d : Reading) (r : Option ℕ)
       let size : start + n - p ≡ n - (d.index - start) = omega (arith, before, some, at) in
       rest_skips (octets_there d (n - (d.index - start)) end (subst (λ (i : ℕ). EndsAfter d i end) size e)) before
       (omega (arith, before, some, at)) (λ e. omega (arith, before, some, at)))
+
+-- a name that is encoded there
+pub name_near : (rule : Rule) {k : Kind} (start n : ℕ) {d : Reading} {m : List ℕ} {p : ℕ} (r : Option ℕ) → k ≡ Name → m ≡ d.message → p ≡ d.index
+    → IfSome r (λ end. NameEnds m p end) → IfSome r (λ end. Skips rule k start n (Ok tt) d (moved d end))
+name_near rule {k} start n {d} {m} {p} r is message index there =
+    if_some {P = λ (end : ℕ). NameEnds m p end} r (λ end e.
+    let found : IsNameIn d.message d.index e.name end = subst (λ (i : ℕ). IsNameIn d.message i e.name end) index
+    (subst (λ (t : List ℕ). IsNameIn t p e.name end) message e.is) in
+    skips_as (name_skips (record { value = e.name; took = record { message = refl; field = record { is = found } } })) is) there
 
 pub skips_inside : {rule : Rule} {k : Kind} {start n end : ℕ} {d : Reading} → Skips rule k start n (Ok tt) d (moved d end) → end ≤ length d.message
 skips_inside s = (field_inside s.is.took.field).1

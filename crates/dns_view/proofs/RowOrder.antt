@@ -8,7 +8,7 @@ use Rattle.std.specs.{FinMap.slice_cmp-IsAntisymmetric, FinMap.nat_cmp-IsAntisym
 use Rattle.std.specs.declared.cmp.Ordering.TheVariants.{Equal}
 use Rattle.dns_fields.specs.declared.Kind.{Kind}
 use Rattle.dns_fields.specs.declared.Kind.TheVariants.{Number, Octets, Name, CharacterString, CharacterStrings, Rest, Options, Parameters, Bitmap}
-use Rattle.dns_fields.specs.{Octets.At, Labels.DomainName, Labels.lowname, Names.IsNameIn, Fields.Value, Fields.Values, Fields.Field, Fields.Stands}
+use Rattle.dns_fields.specs.{Octets.At, Fields.Value, Fields.Values, Fields.Field, Fields.Stands}
 use Rattle.dns_fields.specs.{Fields.EndsItself, Fields.field_octets, Fields.canonical}
 use Rattle.dns_fields.proofs.{FieldLaws.field_inside, FieldLaws.field_same, Numbers.length-bytes, Stays.labels_stand}
 use Rattle.dns_names_wire.specs.State.{Reading}
@@ -19,7 +19,8 @@ use Rattle.dns_canonical.proofs.{Comparing.then_kept, Comparing.then_assoc, Comp
 use Rattle.dns_rows.specs.declared.row.{Part.Part, Rule.Rule}
 use Rattle.dns_rows.specs.declared.row.Rule.TheVariants.{Free}
 use Rattle.dns_rows.specs.{Table.kinds_of, Rules.MeetsRow}
-use Rattle.dns_view.specs.{Parts.Reaches, Parts.Skips, Putting.IsRecoded, Putting.Put, Rows.IsRow, Rows.HasRow, RowOrder.IsPlain, RowOrder.ArePlain, RowOrder.Sized}
+use Rattle.dns_view.specs.{NameEnds.OrdersNames, Parts.Reaches, Parts.Skips, Putting.IsRecoded, Putting.Put, Rows.IsRow, Rows.HasRow}
+use Rattle.dns_view.specs.RowOrder.{IsPlain, ArePlain, Sized}
 use Rattle.dns_view.proofs.{Alone.between_is, Alone.recoded_alone, Asked.asks_split, PutLoop.stood_skipped, Puts.put_fits, RowLoop.behind_row}
 use Rattle.dns_view.proofs.{RowLoop.field_reaches}
 
@@ -295,7 +296,8 @@ module _ (a : List ℕ) (from at : ℕ) (b : List ℕ) (to : ℕ) (part : Part) 
       let s_is = between_is w.s_at in
       let apart : w.s ≡ w.t → ⊥ = λ same. ne (ap (take (length (take (at - from) (drop from a)))) (l ∙ ap (λ (z : List ℕ). z ++ y) (sym same))
       ∙ take_at w.s y (length (take (at - from) (drop from a))) (sym (ap length s_is)) ∙ sym s_is) in
-      w.order ∙ parted_differ w.s w.t (canonical (kinds_of (part ∷ left)) w.first.values) (canonical (kinds_of (part ∷ left)) w.second.values) x y w.parted apart
+      w.order ∙ parted_differ w.s w.t (canonical (kinds_of (part ∷ left)) w.first.values) (canonical (kinds_of (part ∷ left)) w.second.values)
+      x y w.parted apart
       ∙ ap (λ (z : List ℕ). slice_cmp nat_cmp z (w.t ++ y)) (sym k) ∙ ap (λ (z : List ℕ). slice_cmp nat_cmp (take (e - from) (drop from a)) z) (sym l)
 
   -- they are the same
@@ -331,28 +333,28 @@ all_wait a from at b to left e f o plain inside within w =
 -- ---- by the index in the row
 
 -- the fields before the index were gone over
-pub record Compared (a : List ℕ) (x long : ℕ) (b : List ℕ) (y other : ℕ) (row : List Part) (index from at to : ℕ) : Type 0 where
+pub record Compared (a : List ℕ) (x e : ℕ) (b : List ℕ) (y f : ℕ) (row : List Part) (index from at to : ℕ) : Type 0 where
   pub ordered : IsRow (drop index row)
-  pub only : (h : HasRow a x row (x + long)) (k : HasRow b y row (y + other))
-      → Waiting a from at b to (drop index row) (x + long) (y + other) (canonical_cmp (kinds_of row) h.values k.values)
+  pub only : (h : HasRow a x row e) (k : HasRow b y row f)
+      → Waiting a from at b to (drop index row) e f (canonical_cmp (kinds_of row) h.values k.values)
 
-pub compared_none : {a : List ℕ} {x : ℕ} (long : ℕ) {b : List ℕ} {y : ℕ} (other : ℕ) {row : List Part} → IsRow row → x ≤ length a → y ≤ length b
-    → Compared a x long b y other row 0 x x y
-compared_none {a} {x} long {b} {y} other {row} ordered inside within = record {
+pub compared_none : {a : List ℕ} {x : ℕ} (e : ℕ) {b : List ℕ} {y : ℕ} (f : ℕ) {row : List Part} → IsRow row → x ≤ length a → y ≤ length b
+    → Compared a x e b y f row 0 x x y
+compared_none {a} {x} e {b} {y} f {row} ordered inside within = record {
   ordered = ordered;
-  only = λ h k. none_waits a x b y row (x + long) (y + other) (canonical_cmp (kinds_of row) h.values k.values) inside within
+  only = λ h k. none_waits a x b y row e f (canonical_cmp (kinds_of row) h.values k.values) inside within
       (record { first = h; second = k; order = refl });
 }
 
-pub compared_all : {a : List ℕ} {x long : ℕ} {b : List ℕ} {y other : ℕ} {row : List Part} {index from at to : ℕ} {o : Ordering}
-    → Compared a x long b y other row index from at to → ArePlain (drop index row) → x + long ≤ length a → y + other ≤ length b
-    → o ≡ slice_cmp nat_cmp (take (x + long - from) (drop from a)) (take (y + other - to) (drop to b))
-    → (h : HasRow a x row (x + long)) (k : HasRow b y row (y + other)) → o ≡ canonical_cmp (kinds_of row) h.values k.values
-compared_all {a} {x} {long} {b} {y} {other} {row} {index} {from} {at} {to} so plain inside within is h k =
-    is ∙ sym (all_wait a from at b to (drop index row) (x + long) (y + other) (canonical_cmp (kinds_of row) h.values k.values) plain inside within (so.only h k))
+pub compared_all : {a : List ℕ} {x e : ℕ} {b : List ℕ} {y f : ℕ} {row : List Part} {index from at to : ℕ} {o : Ordering}
+    → Compared a x e b y f row index from at to → ArePlain (drop index row) → e ≤ length a → f ≤ length b
+    → o ≡ slice_cmp nat_cmp (take (e - from) (drop from a)) (take (f - to) (drop to b))
+    → (h : HasRow a x row e) (k : HasRow b y row f) → o ≡ canonical_cmp (kinds_of row) h.values k.values
+compared_all {a} {x} {e} {b} {y} {f} {row} {index} {from} {at} {to} so plain inside within is h k =
+    is ∙ sym (all_wait a from at b to (drop index row) e f (canonical_cmp (kinds_of row) h.values k.values) plain inside within (so.only h k))
 
-module _ {a : List ℕ} {x long : ℕ} {b : List ℕ} {y other : ℕ} {row : List Part} {index from at to : ℕ} (part d : Part)
-    (so : Compared a x long b y other row index from at to) (below : index < length row) (is : part ≡ get_or row index d) where
+module _ {a : List ℕ} {x e : ℕ} {b : List ℕ} {y f : ℕ} {row : List Part} {index from at to : ℕ} (part d : Part)
+    (so : Compared a x e b y f row index from at to) (below : index < length row) (is : part ≡ get_or row index d) where
   here : drop index row ≡ part ∷ drop (index + 1) row
   here =
       let more : suc index ≡ index + 1 = omega arith in
@@ -361,58 +363,55 @@ module _ {a : List ℕ} {x long : ℕ} {b : List ℕ} {y other : ℕ} {row : Lis
   order_here : IsRow (part ∷ drop (index + 1) row)
   order_here = subst IsRow here so.ordered
 
-  waiting_here : (h : HasRow a x row (x + long)) (k : HasRow b y row (y + other))
-      → Waiting a from at b to (part ∷ drop (index + 1) row) (x + long) (y + other) (canonical_cmp (kinds_of row) h.values k.values)
-  waiting_here h k = subst (λ (left : List Part). Waiting a from at b to left (x + long) (y + other) (canonical_cmp (kinds_of row) h.values k.values)) here (so.only h k)
+  waiting_here : (h : HasRow a x row e) (k : HasRow b y row f)
+      → Waiting a from at b to (part ∷ drop (index + 1) row) e f (canonical_cmp (kinds_of row) h.values k.values)
+  waiting_here h k = subst (λ (left : List Part). Waiting a from at b to left e f (canonical_cmp (kinds_of row) h.values k.values)) here (so.only h k)
 
   -- a field that waits
   pub plain_waits : {next : ℕ} → IsPlain part.kind
-      → ((v : Value part.kind) (q : ℕ) → IsPlain part.kind → Field a at part.kind v q → Reaches part.kind (x + long) q → q ≡ next)
-      → Compared a x long b y other row (index + 1) from next to
+      → ((v : Value part.kind) (q : ℕ) → IsPlain part.kind → Field a at part.kind v q → Reaches part.kind e q → q ≡ next)
+      → Compared a x e b y f row (index + 1) from next to
   plain_waits {next} plain ends = record {
     ordered = behind_row part (drop (index + 1) row) order_here;
-    only = λ h k. field_waits a from at next b to part (drop (index + 1) row) (x + long) (y + other) (canonical_cmp (kinds_of row) h.values k.values) order_here plain
+    only = λ h k. field_waits a from at next b to part (drop (index + 1) row) e f (canonical_cmp (kinds_of row) h.values k.values) order_here plain
         ends (waiting_here h k);
   }
 
-  pub no_plain : IsPlain part.kind → ((v : Value part.kind) (q : ℕ) → IsPlain part.kind → Field a at part.kind v q → Reaches part.kind (x + long) q → ⊥)
-      → HasRow a x row (x + long) → HasRow b y row (y + other) → ⊥
+  pub no_plain : IsPlain part.kind → ((v : Value part.kind) (q : ℕ) → IsPlain part.kind → Field a at part.kind v q → Reaches part.kind e q → ⊥)
+      → HasRow a x row e → HasRow b y row f → ⊥
   no_plain plain none h k =
       let g = (waiting_here h k).first in
-      none g.values.0 g.stands.0 plain g.stands.1 (field_reaches a part (drop (index + 1) row) g.stands.0 (x + long) g.values.1 order_here g.stands.2)
+      none g.values.0 g.stands.0 plain g.stands.1 (field_reaches a part (drop (index + 1) row) g.stands.0 e g.values.1 order_here g.stands.2)
 
   abbrev pub BeginsAlike : Type 0
-  BeginsAlike = take (length (take (at - from) (drop from a))) (take (y + other - to) (drop to b)) ≡ take (at - from) (drop from a)
+  BeginsAlike = take (length (take (at - from) (drop from a))) (take (f - to) (drop to b)) ≡ take (at - from) (drop from a)
 
   -- the octets that waited differ
   waited_here : {o : Ordering} → (BeginsAlike → ⊥)
-      → o ≡ slice_cmp nat_cmp (take (x + long - from) (drop from a)) (take (y + other - to) (drop to b))
-      → (h : HasRow a x row (x + long)) (k : HasRow b y row (y + other)) → o ≡ canonical_cmp (kinds_of row) h.values k.values
+      → o ≡ slice_cmp nat_cmp (take (e - from) (drop from a)) (take (f - to) (drop to b))
+      → (h : HasRow a x row e) (k : HasRow b y row f) → o ≡ canonical_cmp (kinds_of row) h.values k.values
   unfolding begins
-  waited_here {o} ne same h k = same ∙ sym (waits_differ a from at b to part (drop (index + 1) row) (x + long) (y + other)
+  waited_here {o} ne same h k = same ∙ sym (waits_differ a from at b to part (drop (index + 1) row) e f
       (canonical_cmp (kinds_of row) h.values k.values) (waiting_here h k) ne)
 
   module _ (alike : BeginsAlike) where
-    met : (h : HasRow a x row (x + long)) (k : HasRow b y row (y + other))
-        → Met a at b (to + (at - from)) (part ∷ drop (index + 1) row) (x + long) (y + other) (canonical_cmp (kinds_of row) h.values k.values)
+    met : (h : HasRow a x row e) (k : HasRow b y row f)
+        → Met a at b (to + (at - from)) (part ∷ drop (index + 1) row) e f (canonical_cmp (kinds_of row) h.values k.values)
     unfolding begins
-    met h k = waits_same a from at b to part (drop (index + 1) row) (x + long) (y + other) (canonical_cmp (kinds_of row) h.values k.values) (waiting_here h k) alike
+    met h k = waits_same a from at b to part (drop (index + 1) row) e f (canonical_cmp (kinds_of row) h.values k.values) (waiting_here h k) alike
 
     -- two names
     module _ {o : Ordering} {p q : ℕ} (kind : part.kind ≡ Name)
-        (order : (u : DomainName) (i : ℕ) (v : DomainName) (j : ℕ) → IsNameIn a at u i → IsNameIn b (to + (at - from)) v j
-        → o ≡ slice_cmp nat_cmp (lowname u) (lowname v))
-        (left : (u : DomainName) (i : ℕ) (v : DomainName) (j : ℕ) → IsNameIn a at u i → IsNameIn b (to + (at - from)) v j → p ≡ i)
-        (right : (u : DomainName) (i : ℕ) (v : DomainName) (j : ℕ) → IsNameIn a at u i → IsNameIn b (to + (at - from)) v j → q ≡ j) where
+        (names : OrdersNames a at b (to + (at - from)) o p q) where
       abbrev Names : Kind → Type 0
       Names k = (u v : Value k) (i j : ℕ) → Field a at k u i → Field b (to + (at - from)) k v j → (o ≡ field_cmp k u v) × (p ≡ i) × (q ≡ j)
 
       are_names : Names part.kind
       unfolding field_octets
-      are_names = subst Names (sym kind) (λ u v i j f g. (order u i v j f.is g.is, left u i v j f.is g.is, right u i v j f.is g.is))
+      are_names = subst Names (sym kind) (λ u v i j f g. names.is u i v j f.is g.is)
 
-      module _ (h : HasRow a x row (x + long)) (k : HasRow b y row (y + other)) where
-        named : (m : Met a at b (to + (at - from)) (part ∷ drop (index + 1) row) (x + long) (y + other) (canonical_cmp (kinds_of row) h.values k.values))
+      module _ (h : HasRow a x row e) (k : HasRow b y row f) where
+        named : (m : Met a at b (to + (at - from)) (part ∷ drop (index + 1) row) e f (canonical_cmp (kinds_of row) h.values k.values))
             → (o ≡ field_cmp part.kind m.first.values.0 m.second.values.0) × (p ≡ m.first.stands.0) × (q ≡ m.second.stands.0)
         named m = are_names m.first.values.0 m.second.values.0 m.first.stands.0 m.second.stands.0 m.first.stands.1 m.second.stands.1
 
@@ -422,17 +421,17 @@ module _ {a : List ℕ} {x long : ℕ} {b : List ℕ} {y other : ℕ} {row : Lis
             let left = drop (index + 1) row in
             let rest = canonical_cmp (kinds_of left) m.first.values.1 m.second.values.1 in
             then_kept o rest ne ∙ ap (λ (r : Ordering). ordering_then r rest) (named m).0
-            ∙ sym (met_order a at b (to + (at - from)) part left (x + long) (y + other) (canonical_cmp (kinds_of row) h.values k.values) order_here m)
+            ∙ sym (met_order a at b (to + (at - from)) part left e f (canonical_cmp (kinds_of row) h.values k.values) order_here m)
 
-        pub names_inside : (p ≤ x + long) × (q ≤ y + other)
+        pub names_inside : (p ≤ e) × (q ≤ f)
         names_inside =
             let m = met h k in
             let left = drop (index + 1) row in
-            let i = stands_inside a m.first.stands.0 (kinds_of left) m.first.values.1 (x + long) m.first.stands.2 in
-            let j = stands_inside b m.second.stands.0 (kinds_of left) m.second.values.1 (y + other) m.second.stands.2 in
+            let i = stands_inside a m.first.stands.0 (kinds_of left) m.first.values.1 e m.first.stands.2 in
+            let j = stands_inside b m.second.stands.0 (kinds_of left) m.second.values.1 f m.second.stands.2 in
             (omega (arith, i, (named m).1), omega (arith, j, (named m).2))
 
-      pub names_tied : o ≡ Equal → p ≤ length a → q ≤ length b → Compared a x long b y other row (index + 1) p p q
+      pub names_tied : o ≡ Equal → p ≤ length a → q ≤ length b → Compared a x e b y f row (index + 1) p p q
       names_tied tie inside within = record {
         ordered = behind_row part (drop (index + 1) row) order_here;
         only = λ h k.
@@ -441,22 +440,22 @@ module _ {a : List ℕ} {x long : ℕ} {b : List ℕ} {y other : ℕ} {row : Lis
             let all = canonical_cmp (kinds_of row) h.values k.values in
             let rest = canonical_cmp (kinds_of left) m.first.values.1 m.second.values.1 in
             let z = named h k m in
-            none_waits a p b q left (x + long) (y + other) all inside within
-            (subst (λ (j : ℕ). Met a p b j left (x + long) (y + other) all) (sym z.2)
-            (subst (λ (i : ℕ). Met a i b m.second.stands.0 left (x + long) (y + other) all) (sym z.1) (record {
-              first = behind_first a at (x + long) part left m.first;
-              second = behind_first b (to + (at - from)) (y + other) part left m.second;
-              order = met_order a at b (to + (at - from)) part left (x + long) (y + other) all order_here m
+            none_waits a p b q left e f all inside within
+            (subst (λ (j : ℕ). Met a p b j left e f all) (sym z.2)
+            (subst (λ (i : ℕ). Met a i b m.second.stands.0 left e f all) (sym z.1) (record {
+              first = behind_first a at e part left m.first;
+              second = behind_first b (to + (at - from)) f part left m.second;
+              order = met_order a at b (to + (at - from)) part left e f all order_here m
                   ∙ ap (λ (r : Ordering). ordering_then r rest) (sym z.0 ∙ tie);
             })));
       }
 
     -- two fields whose octets are made anew: the last ones
     pub recoded_last : {o : Ordering} → IsRecoded part.kind
-        → ((u v : Value part.kind) → Field (take (x + long - at) (drop at a)) 0 part.kind u (length (take (x + long - at) (drop at a)))
-        → Field (take (y + other - (to + (at - from))) (drop (to + (at - from)) b)) 0 part.kind v
-        (length (take (y + other - (to + (at - from))) (drop (to + (at - from)) b))) → o ≡ field_cmp part.kind u v)
-        → (h : HasRow a x row (x + long)) (k : HasRow b y row (y + other)) → o ≡ canonical_cmp (kinds_of row) h.values k.values
+        → ((u v : Value part.kind) → Field (take (e - at) (drop at a)) 0 part.kind u (length (take (e - at) (drop at a)))
+        → Field (take (f - (to + (at - from))) (drop (to + (at - from)) b)) 0 part.kind v
+        (length (take (f - (to + (at - from))) (drop (to + (at - from)) b))) → o ≡ field_cmp part.kind u v)
+        → (h : HasRow a x row e) (k : HasRow b y row f) → o ≡ canonical_cmp (kinds_of row) h.values k.values
     recoded_last {o} coded order h k = last (drop (index + 1) row) order_here (met h k)
       where
         all : Ordering
@@ -468,7 +467,7 @@ module _ {a : List ℕ} {x long : ℕ} {b : List ℕ} {y other : ℕ} {row : Lis
         no_more Bitmap r e = e
         no_more k r e = r
 
-        last : (left : List Part) → IsRow (part ∷ left) → Met a at b (to + (at - from)) (part ∷ left) (x + long) (y + other) all → o ≡ all
+        last : (left : List Part) → IsRow (part ∷ left) → Met a at b (to + (at - from)) (part ∷ left) e f all → o ≡ all
         last [] ordered m =
             let g = m.first in
             let k = m.second in
@@ -478,11 +477,11 @@ module _ {a : List ℕ} {x long : ℕ} {b : List ℕ} {y other : ℕ} {row : Lis
             ∙ alone part.kind g.values.0 k.values.0 ∙ sym m.order
         last (l ∷ left) ordered m = absurd (no_more part.kind coded ordered.0)
 
-pub waited_differ : {a : List ℕ} {x long : ℕ} {b : List ℕ} {y other : ℕ} {row : List Part} {index from at to : ℕ} {o : Ordering}
-    → Compared a x long b y other row index from at to → index < length row
-    → (take (length (take (at - from) (drop from a))) (take (y + other - to) (drop to b)) ≡ take (at - from) (drop from a) → ⊥)
-    → o ≡ slice_cmp nat_cmp (take (x + long - from) (drop from a)) (take (y + other - to) (drop to b))
-    → (h : HasRow a x row (x + long)) (k : HasRow b y row (y + other)) → o ≡ canonical_cmp (kinds_of row) h.values k.values
+pub waited_differ : {a : List ℕ} {x e : ℕ} {b : List ℕ} {y f : ℕ} {row : List Part} {index from at to : ℕ} {o : Ordering}
+    → Compared a x e b y f row index from at to → index < length row
+    → (take (length (take (at - from) (drop from a))) (take (f - to) (drop to b)) ≡ take (at - from) (drop from a) → ⊥)
+    → o ≡ slice_cmp nat_cmp (take (e - from) (drop from a)) (take (f - to) (drop to b))
+    → (h : HasRow a x row e) (k : HasRow b y row f) → o ≡ canonical_cmp (kinds_of row) h.values k.values
 waited_differ {row = row} {index} so below ne same h k = waited_here (get_or row index any) any so below refl ne same h k
   where
     any : Part

@@ -52,6 +52,11 @@ pub record IsRowChecked (row : List Part) : Type 0 where
   pub few : length row ≤ 64
   pub least : asked_length row ≤ fewest row
 
+-- one field of just n octets, as that of an address
+pub record IsAddress (row : List Part) (n : ℕ) : Type 0 where
+  pub rule : Rule
+  pub is : row ≡ record { kind = Octets n; rule = rule } ∷ []
+
 -- the same as a test
 
 abbrev pub is_width : ℕ → Bool

@@ -3,7 +3,7 @@
 ghost use Rattle.std.specs.Prelude.{◌≡◌, ◌+◌, ◌≤◌, ℕ, None, length, take, IfSome};
 ghost use Rattle.std.specs.{Cmp.Lexicographic.slice_cmp, Ordering.nat_cmp};
 ghost use Rattle.dns_fields.specs.{Labels.DomainName, Labels.lowname, Names.IsNameIn};
-ghost use Rattle.dns_view.specs.NameEnds.{SkipsRun};
+ghost use Rattle.dns_view.specs.NameEnds.{SkipsRun, OrdersNames};
 
 use crate::names::skip_run;
 use crate::put::put_name;
@@ -76,10 +76,7 @@ pub fn compare_names(a: &[u8], x: usize, b: &[u8], y: usize) -> Ordering
 pub(crate) fn order_names(a: &[u8], x: usize, b: &[u8], y: usize) -> NameOrder
     requires left { x ≤ length a.now }
     requires right { y ≤ length b.now }
-    ensures order { (u : DomainName) (q : ℕ) (v : DomainName) (r : ℕ) → IsNameIn a.now x u q → IsNameIn b.now y v r →
-        result.order ≡ slice_cmp nat_cmp (lowname u) (lowname v) }
-    ensures left_end { (u : DomainName) (q : ℕ) (v : DomainName) (r : ℕ) → IsNameIn a.now x u q → IsNameIn b.now y v r → result.left ≡ q }
-    ensures right_end { (u : DomainName) (q : ℕ) (v : DomainName) (r : ℕ) → IsNameIn a.now x u q → IsNameIn b.now y v r → result.right ≡ r }
+    ensures names { OrdersNames a.now x b.now y result.order result.left result.right }
     ensures behind { (x ≤ result.left) × (y ≤ result.right) }
 {
     let first = match uncompressed_len(a, x) {
@@ -113,10 +110,7 @@ pub(crate) fn order_names(a: &[u8], x: usize, b: &[u8], y: usize) -> NameOrder
 fn order_any_names(a: &[u8], x: usize, b: &[u8], y: usize) -> NameOrder
     requires left { x ≤ length a.now }
     requires right { y ≤ length b.now }
-    ensures order { (u : DomainName) (q : ℕ) (v : DomainName) (r : ℕ) → IsNameIn a.now x u q → IsNameIn b.now y v r →
-        result.order ≡ slice_cmp nat_cmp (lowname u) (lowname v) }
-    ensures left_end { (u : DomainName) (q : ℕ) (v : DomainName) (r : ℕ) → IsNameIn a.now x u q → IsNameIn b.now y v r → result.left ≡ q }
-    ensures right_end { (u : DomainName) (q : ℕ) (v : DomainName) (r : ℕ) → IsNameIn a.now x u q → IsNameIn b.now y v r → result.right ≡ r }
+    ensures names { OrdersNames a.now x b.now y result.order result.left result.right }
     ensures behind { (x ≤ result.left) × (y ≤ result.right) }
 {
     let mut first = [0; NAME_OCTETS];

@@ -1,6 +1,6 @@
 //! Names in a message: where they end (RFC 1035, 3.1 and 4.1.4).
 
-ghost use Rattle.std.specs.Prelude.{ℕ, ◌+◌, ◌≤◌, List, length, IfSome, IfNone, Option};
+ghost use Rattle.std.specs.Prelude.{◌≡◌, ℕ, ◌+◌, ◌≤◌, List, length, IfSome, IfNone, Option};
 ghost use Rattle.dns_fields.specs.{Labels.DomainName, Labels.wire, Names.IsNameIn};
 ghost use Rattle.dns_labels.specs.Reading.{IsRun};
 ghost use Rattle.dns_view.specs.NameEnds.{NameEnds, SkipsRun};
@@ -147,6 +147,21 @@ pub fn pass_name(message: &[u8], start: usize, left: &mut usize) -> Option<usize
     let followed = follow_name(message, start);
     *left = left.saturating_sub(followed.pointers);
     followed.end
+}
+
+/// Returns where the encoding of a name ends, and takes off `left` how many compression pointers are followed, down to 0.
+/// If no name is encoded there, it returns `None` and leaves `left` as it is.
+#[inline]
+pub(crate) fn near_name(message: &[u8], start: usize, left: &mut usize) -> Option<usize>
+    requires { start ≤ length message.now }
+    ensures some { IfSome result (λ end. NameEnds message.now start end) }
+    ensures pointers { IfSome result (λ end. Leaves (NamePointers message.now start) left.old left.new) }
+    ensures none { IfNone result (left.new ≡ left.old) }
+{
+    let followed = follow_name(message, start);
+    let end = followed.end?;
+    *left = left.saturating_sub(followed.pointers);
+    Some(end)
 }
 
 /// The compression pointers of a name are one number; and examples: none, one and two pointers, one to damage, and one

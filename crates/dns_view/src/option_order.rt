@@ -9,6 +9,11 @@ use crate::option_parts::compare_at;
 use crate::put_options::{FEW, FEW_OCTETS, MOST, SOME, SOME_OCTETS, list_options, sort_options};
 use std::cmp::Ordering;
 
+// As many options as most records have, and the octets that hold no more.
+const FEWEST: usize = 16;
+
+const FEWEST_OCTETS: usize = 68;
+
 // Compares options one by one, by their canonical octets; a list that ends first comes first.
 fn compare_each(a: &[u8], left: &[u16], b: &[u8], right: &[u16]) -> Ordering
     ensures { result ≡ slice_cmp (slice_cmp nat_cmp) (map (own_at a.now) left.now) (map (own_at b.now) right.now) }
@@ -58,6 +63,9 @@ pub fn compare_options(a: &[u8], b: &[u8]) -> Ordering
     ensures { (u : Value Options) (v : Value Options) → Field a.now 0 Options u (length a.now) →
         Field b.now 0 Options v (length b.now) → result ≡ slice_cmp nat_cmp (field_octets Options u) (field_octets Options v) }
 {
+    if a.len() < FEWEST_OCTETS && b.len() < FEWEST_OCTETS {
+        return compare_within::<FEWEST>(a, b);
+    }
     if a.len() < FEW_OCTETS && b.len() < FEW_OCTETS {
         return compare_within::<FEW>(a, b);
     }

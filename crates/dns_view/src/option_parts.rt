@@ -6,6 +6,7 @@ ghost use Rattle.dns_view.specs.{Putting.Put, OptionOctets.option_at as octets_a
 ghost use Rattle.dns_view.specs.OptionOctets.{own_at};
 
 use crate::put::put_octets;
+use dns_canonical::order::octets_cmp;
 use std::cmp::Ordering;
 
 /// The octets of the option at an offset: code, length and value; none if the octets end inside it.
@@ -63,8 +64,8 @@ fn compare_parts(a: &[u8], b: &[u8]) -> Ordering
     }
     let (head, body) = parts_of(a);
     let (other, others) = parts_of(b);
-    match head.cmp(&other) {
-        Ordering::Equal => body.cmp(others),
+    match octets_cmp(&head, &other) {
+        Ordering::Equal => octets_cmp(body, others),
         order => order,
     }
 }

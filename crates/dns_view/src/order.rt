@@ -1,11 +1,13 @@
 //! The order of RDATA by canonical octets, this library's own form and not that of DNSSEC.
 
-ghost use Rattle.std.specs.Prelude.{◌≡◌, ◌+◌, ◌-◌, ◌<◌, ◌≤◌, ◌↔◌, IsTrue, ℕ, true, false, length, take, drop, IfSome, IfNone};
+ghost use Rattle.std.specs.Prelude.{◌≡◌, ◌+◌, ◌-◌, ◌<◌, ◌≤◌, ◌↔◌, IsTrue, ℕ, true, false};
+ghost use Rattle.std.specs.Prelude.{length, take, drop, IfSome, IfNone};
 ghost use Rattle.std.specs.{Cmp.Lexicographic.slice_cmp, Ordering.nat_cmp};
-ghost use Rattle.dns_fields.specs.{Fields.canonical, Fields.field_octets, Fields.Field, Fields.Value, declared.Kind.TheVariants.Options};
+ghost use Rattle.dns_fields.specs.{Fields.canonical, Fields.field_octets, Fields.Field, Fields.Value};
 ghost use Rattle.dns_rows.specs.Table.{kinds_of};
 ghost use Rattle.dns_view.specs.Parts.{Reaches};
-ghost use Rattle.dns_view.specs.{Putting.IsCopied, Putting.IsRecoded, Rows.IsRowChecked, Rows.HasRow, RowOrder.IsPlain, RowOrder.ArePlain, RowOrder.Sized};
+ghost use Rattle.dns_view.specs.{Putting.IsRecoded, Rows.IsRowChecked, Rows.IsRow, Rows.HasRow};
+ghost use Rattle.dns_view.specs.RowOrder.{IsPlain, ArePlain, Sized};
 
 use crate::coded_order::{compare_bitmaps, compare_parameters};
 use crate::name_order::order_names;
@@ -41,12 +43,40 @@ pub fn compare_rows(
         // Unreachable: the RDATA is inside the messages.
         return Ordering::Equal;
     }
+    let count = fields_to_visit(row);
+    if count == 0 {
+        return octets_cmp(&a[x..end], &b[y..stop]);
+    }
+    compare_fields(a, x, end, b, y, stop, row, count)
+}
+
+// The same for RDATA up to two ends. So many fields are gone over; those behind them are canonical as they are encoded.
+fn compare_fields(
+    a: &[u8],
+    x: usize,
+    end: usize,
+    b: &[u8],
+    y: usize,
+    stop: usize,
+    row: &[Part],
+    count: usize,
+) -> Ordering
+    requires left { (x ≤ end) × (end ≤ length a.now) }
+    requires right { (y ≤ stop) × (stop ≤ length b.now) }
+    requires row { IsRow row.now }
+    requires count { count ≤ length row.now }
+    requires plain { ArePlain (drop count row.now) }
+    requires short_left { end - x < 65536 }
+    requires short_right { stop - y < 65536 }
+    ensures { (h : HasRow a.now x row.now end) (k : HasRow b.now y row.now stop) →
+        result ≡ slice_cmp nat_cmp (canonical (kinds_of row.now) h.values) (canonical (kinds_of row.now) k.values) }
+{
     // What is encoded before the offsets `from` and `to` is equal. Octets of the first message from there to `at` are
     // canonical as they are encoded, and are compared at once, before the next name or at the end.
     let mut from = x;
     let mut to = y;
     let mut at = x;
-    'fields: for index in 0..fields_to_visit(row) {
+    'fields: for index in 0..count {
         let kind = row[index].kind;
         if is_plain(kind) {
             match plain_end(a, at, kind, end) {
@@ -119,7 +149,8 @@ fn plain_size(message: &[u8], at: usize, kind: Kind, end: usize) -> Option<usize
     requires within { at ≤ end }
     requires inside { end ≤ length message.now }
     ensures some { IfSome result (λ size. Sized message.now at kind end size) }
-    ensures none { IfNone result ((v : Value kind) (q : ℕ) → IsPlain kind → Field message.now at kind v q → Reaches kind end q → ⊥) }
+    ensures none { IfNone result ((v : Value kind) (q : ℕ) → IsPlain kind → Field message.now at kind v q →
+        Reaches kind end q → ⊥) }
 {
     match kind {
         Kind::Number(width) => Some(width as usize),
@@ -140,9 +171,11 @@ fn plain_size(message: &[u8], at: usize, kind: Kind, end: usize) -> Option<usize
 fn plain_end(message: &[u8], at: usize, kind: Kind, end: usize) -> Option<usize>
     requires within { at ≤ end }
     requires inside { end ≤ length message.now }
-    ensures some { IfSome result (λ next. (v : Value kind) (q : ℕ) → IsPlain kind → Field message.now at kind v q → Reaches kind end q → q ≡ next) }
+    ensures some { IfSome result (λ next. (v : Value kind) (q : ℕ) → IsPlain kind → Field message.now at kind v q →
+        Reaches kind end q → q ≡ next) }
     ensures range { IfSome result (λ next. (at ≤ next) × (next ≤ end)) }
-    ensures none { IfNone result ((v : Value kind) (q : ℕ) → IsPlain kind → Field message.now at kind v q → Reaches kind end q → ⊥) }
+    ensures none { IfNone result ((v : Value kind) (q : ℕ) → IsPlain kind → Field message.now at kind v q →
+        Reaches kind end q → ⊥) }
 {
     let size = plain_size(message, at, kind, end)?;
     if end - at < size {
@@ -168,7 +201,8 @@ fn begins_with(octets: &[u8], front: &[u8]) -> bool
 fn compare_recoded(kind: Kind, a: &[u8], b: &[u8]) -> Ordering
     requires short_left { length a.now < 65536 }
     requires short_right { length b.now < 65536 }
-    ensures { IsRecoded kind → (u : Value kind) (v : Value kind) → Field a.now 0 kind u (length a.now) → Field b.now 0 kind v (length b.now) →
+    ensures { IsRecoded kind → (u : Value kind) (v : Value kind) → Field a.now 0 kind u (length a.now) →
+        Field b.now 0 kind v (length b.now) →
         result ≡ slice_cmp nat_cmp (field_octets kind u) (field_octets kind v) }
 {
     if same_octets(a, b) {

@@ -1,14 +1,15 @@
 //! Fields that are checked, one after the other.
 
-ghost use Rattle.std.specs.Prelude.{◌≡◌, ◌<◌, ◌+◌, ◌≤◌, ℕ, false, take, length, get_or, IfSome, Ok};
+ghost use Rattle.std.specs.Prelude.{◌≡◌, ◌<◌, ◌+◌, ◌≤◌, ℕ, true, false, take, length, get_or, IfSome, IfNone, Ok};
 ghost use Rattle.std.specs.{Char.is_ascii_alphanumeric, List.list_all};
 ghost use Rattle.dns_fields.specs.declared.Kind.TheVariants.{Number, Octets, Name, CharacterString, CharacterStrings, Rest, Bitmap};
 ghost use Rattle.dns_rows.specs.Rules.{AreLetters};
 ghost use Rattle.dns_view.specs.{Parts.Skips, Parts.IsCovered, Parts.IsUnasked, Parts.moved, Parts.step_of as octet_step};
-ghost use Rattle.dns_view.specs.Rows.{IsRowChecked, SkipsRow, asked_length as row_asks};
+ghost use Rattle.dns_view.specs.Rows.{IsRowChecked, IsAddress, SkipsRow, asked_length as row_asks};
 ghost use Rattle.dns_view.specs.{Pointers.Leaves, RowPointers.FieldPointers, RowPointers.RowPointers};
 
 use crate::blocks::check_blocks;
+use crate::names::near_name;
 use crate::options::skip_options;
 use crate::parameters::skip_parameters;
 use crate::walk::Walk;
@@ -98,6 +99,29 @@ fn field_end(walk: &Walk<'_>, kind: Kind, rule: Rule, start: usize, len: usize) 
         },
         Kind::Rest if at < start + len => octets_end(walk, start + len - at),
         _ => None,
+    }
+}
+
+// The same for a field that may be a name. It takes off `left` how many compression pointers the name has, down to 0,
+// but only if it is there.
+#[inline]
+fn near_end(
+    walk: &Walk<'_>,
+    kind: Kind,
+    rule: Rule,
+    start: usize,
+    len: usize,
+    left: &mut usize,
+) -> Option<usize>
+    requires short { len < 65536 }
+    requires before { start ≤ walk.now.index }
+    ensures skips { IfSome result (λ end. Skips rule kind start len (Ok tt) walk.now (moved walk.now end)) }
+    ensures pointers { IfSome result (λ end. Leaves (FieldPointers kind walk.now) left.old left.new) }
+    ensures none { IfNone result (left.new ≡ left.old) }
+{
+    match kind {
+        Kind::Name => near_name(walk.message(), walk.index(), left),
+        _ => field_end(walk, kind, rule, start, len),
     }
 }
 
@@ -385,6 +409,20 @@ fn skip_bitmap(walk: &mut Walk<'_>, rule: Rule, start: usize, len: usize) -> Res
     }
 }
 
+// Returns whether the row is one field of just so many octets, as that of an address.
+#[inline]
+fn is_address(row: &[Part], len: usize) -> bool
+    ensures { result ≡ true → IsAddress row.now len }
+{
+    if row.len() == 0 {
+        return false;
+    }
+    match row[0].kind {
+        Kind::Octets(count) if row.len() == 1 => count as usize == len,
+        _ => false,
+    }
+}
+
 // Returns how many octets the row asks of the RDATA before anything is read.
 #[inline]
 fn asked_length(row: &[Part]) -> usize
@@ -414,6 +452,12 @@ pub fn skip_row(
     ensures skips { SkipsRow row.now len result walk.old walk.new }
     ensures pointers { Leaves (RowPointers row.now len walk.old) left.old left.new }
 {
+    if is_address(row, len)
+        && let Some(end) = octets_end(walk, len)
+    {
+        walk.move_to(end);
+        return Ok(());
+    }
     let asked = asked_length(row);
     if len < asked {
         return Err(DecodeError::IncorrectRDataLengthRead {
@@ -421,11 +465,41 @@ pub fn skip_row(
             len: asked,
         });
     }
+    skip_fields(walk, row, len, left)
+}
+
+// The same for RDATA of as many octets as the row asks.
+#[inline]
+fn skip_fields(
+    walk: &mut Walk<'_>,
+    row: &[Part],
+    len: usize,
+    left: &mut usize,
+) -> Result<(), DecodeError>
+    requires row { IsRowChecked row.now }
+    requires short { len < 65536 }
+    requires asked { row_asks row.now ≤ len }
+    ensures skips { SkipsRow row.now len result walk.old walk.new }
+    ensures pointers { Leaves (RowPointers row.now len walk.old) left.old left.new }
+{
     let start = walk.index();
-    'fields: for part in row {
-        if let Err(e) = pass_field(walk, part.kind, part.rule, start, len, left) {
+    // Most rows are taken without a `Result`, which is passed in memory, and without a call. What is left after the first
+    // loop is taken by the second one, which makes the errors.
+    let mut near = Walk::at(walk.message(), start);
+    let mut count = 0;
+    'near: while count < row.len() {
+        match near_end(&near, row[count].kind, row[count].rule, start, len, left) {
+            Some(end) => near.move_to(end),
+            None => break,
+        }
+        count += 1;
+    }
+    walk.move_to(near.index());
+    'fields: while count < row.len() {
+        if let Err(e) = pass_field(walk, row[count].kind, row[count].rule, start, len, left) {
             return Err(e);
         }
+        count += 1;
     }
     Ok(())
 }

@@ -1,6 +1,5 @@
 pub mod FieldNames
 pub mod Adding
-pub mod NearRows
 pub mod Once
 pub mod RowLoop
 pub mod TokenFaults

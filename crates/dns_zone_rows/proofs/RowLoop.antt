@@ -1,7 +1,7 @@
 -- Fields taken one after the other.
 use Rattle.std.proofs.Common.{◌≡◌, ℕ, suc, ◌+◌, ◌<◌, List, [], ◌∷◌, ◌++◌, length, map, drop, get_or, Option, Result, Ok, refl, sym, subst, ap, ◌∙◌, inl, inr}
-use Rattle.std.proofs.{Math.Seq.drop-cons, lemmas.List.drop_all, Common.◌⊎◌, Common.◌≤◌, Common.append_assoc, Common.add-one}
-use Rattle.std.specs.{Prelude.IfErr, Result.IsErrAnd}
+use Rattle.std.proofs.{Math.Seq.drop-cons, lemmas.List.drop_all, lemmas.List.append-nil, Common.◌⊎◌, Common.◌≤◌, Common.append_assoc, Common.add-one}
+use Rattle.std.specs.{Borrow.Bor, Prelude.IfErr, Result.IsErrAnd}
 use Rattle.dns_fields.specs.Labels.{DomainName}
 use Rattle.dns_types.specs.declared.error.ParseError.{ParseError}
 use Rattle.dns_types.specs.declared.error.ParseError.TheVariants as parse
@@ -10,7 +10,9 @@ use Rattle.dns_zone_tokens.specs.Remaining.{TookAll, NoneOfAll, ReadsAll, PutAll
 use Rattle.dns_zone_tokens.specs.Tokens.{Token, Cursor, tokens_at, with_token}
 use Rattle.dns_tokens.proofs.Steps.{unless_map}
 use Rattle.dns_zone_tokens.proofs.{FirstSteps.exit_fault, FirstSteps.exit_with, FirstSteps.or_then, RemainingSteps.token_ok}
-use Rattle.dns_zone_rows.specs.{RowSteps.AddedFirst, RowSteps.NoFirstGives, Rows.FieldGives, Rows.RestGives, Rows.FieldsGive, Rows.RowGives}
+use Rattle.dns_zone_rows.specs.{RowSteps.AddedFirst, RowSteps.NoFirstGives, RowSteps.PutField, Rows.FieldGives, Rows.RestGives, Rows.FieldsGive, Rows.RowGives, Rows.RowShape}
+use Rattle.dns_zone_rows.specs.Rows.{NoToken}
+use Rattle.dns_zone_rows.specs.declared.zone_row.ZoneRest.TheVariants as rest
 use Rattle.dns_zone_rows.specs.{declared.zone_row.ZoneField.ZoneField, declared.zone_row.ZoneRest.ZoneRest, declared.zone_row.ZoneRow.ZoneRow}
 use Rattle.dns_zone_rows.specs.RowFaults.{kind_of, rest_kind_of, row_value, FieldFault, RestFault, FieldsFault, RowFault}
 
@@ -68,38 +70,41 @@ field_taken origin fields field left rest old now new before after so a = record
 
 -- ---- by the index in the zone row
 
--- the fields before an index were taken
-pub record RowSoFar (origin : Option DomainName) (zone_row : ZoneRow) (at : ℕ) (old now : Cursor) (octets : List ℕ) : Type 0 where
-  pub so : FieldsSoFar origin zone_row.fields.now (drop at zone_row.fields.now) zone_row.rest old now octets
+abbrev shape_of : List ZoneField → ZoneRest → RowShape
+shape_of fields rest = record { fields = map kind_of fields; rest = rest_kind_of rest }
 
-pub row_so : (origin : Option DomainName) (zone_row : ZoneRow) (cursor : Cursor) (octets : List ℕ) → octets ≡ []
-    → RowSoFar origin zone_row 0 cursor cursor octets
-row_so origin zone_row cursor octets e = record {
-  so = subst (FieldsSoFar origin zone_row.fields.now zone_row.fields.now zone_row.rest cursor cursor) (sym e) (none_so origin zone_row.fields.now zone_row.rest cursor);
+-- the fields before an index were taken
+pub record RowSoFar (origin : Option DomainName) (fields : List ZoneField) (rest : ZoneRest) (at : ℕ) (old now : Cursor) (octets : List ℕ) : Type 0 where
+  pub so : FieldsSoFar origin fields (drop at fields) rest old now octets
+
+pub row_so : (origin : Option DomainName) (fields : List ZoneField) (rest : ZoneRest) (cursor : Cursor) (octets : List ℕ) → octets ≡ []
+    → RowSoFar origin fields rest 0 cursor cursor octets
+row_so origin fields rest cursor octets e = record {
+  so = subst (FieldsSoFar origin fields fields rest cursor cursor) (sym e) (none_so origin fields rest cursor);
 }
 
 -- the field at the index, and those after it
-here : (origin : Option DomainName) (zone_row : ZoneRow) (at : ℕ) (old now : Cursor) (octets : List ℕ) (d : ZoneField) → at < length zone_row.fields.now
-    → RowSoFar origin zone_row at old now octets
-    → FieldsSoFar origin zone_row.fields.now (get_or zone_row.fields.now at d ∷ drop (suc at) zone_row.fields.now) zone_row.rest old now octets
-here origin zone_row at old now octets d l so =
-    subst (λ (left : List ZoneField). FieldsSoFar origin zone_row.fields.now left zone_row.rest old now octets) (drop-cons zone_row.fields.now at d l) so.so
+here : (origin : Option DomainName) (fields : List ZoneField) (rest : ZoneRest) (at : ℕ) (old now : Cursor) (octets : List ℕ) (d : ZoneField)
+    → at < length fields → RowSoFar origin fields rest at old now octets
+    → FieldsSoFar origin fields (get_or fields at d ∷ drop (suc at) fields) rest old now octets
+here origin fields rest at old now octets d l so =
+    subst (λ (left : List ZoneField). FieldsSoFar origin fields left rest old now octets) (drop-cons fields at d l) so.so
 
 -- none is left
-over : (origin : Option DomainName) (zone_row : ZoneRow) (at : ℕ) (old now : Cursor) (octets : List ℕ) → length zone_row.fields.now ≤ at
-    → RowSoFar origin zone_row at old now octets
-    → FieldsSoFar origin zone_row.fields.now [] zone_row.rest old now octets
-over origin zone_row at old now octets l so =
-    subst (λ (left : List ZoneField). FieldsSoFar origin zone_row.fields.now left zone_row.rest old now octets) (drop_all at zone_row.fields.now l) so.so
+over : (origin : Option DomainName) (fields : List ZoneField) (rest : ZoneRest) (at : ℕ) (old now : Cursor) (octets : List ℕ) → length fields ≤ at
+    → RowSoFar origin fields rest at old now octets
+    → FieldsSoFar origin fields [] rest old now octets
+over origin fields rest at old now octets l so =
+    subst (λ (left : List ZoneField). FieldsSoFar origin fields left rest old now octets) (drop_all at fields l) so.so
 
-pub field_more : (origin : Option DomainName) (zone_row : ZoneRow) (at : ℕ) (old now new : Cursor) (before after : List ℕ) (d : ZoneField)
-    → at < length zone_row.fields.now
-    → RowSoFar origin zone_row at old now before → AddedFirst (FieldGives origin (kind_of (get_or zone_row.fields.now at d))) before after now new
-    → RowSoFar origin zone_row (at + 1) old new after
-field_more origin zone_row at old now new before after d l so a =
-    let next : FieldsSoFar origin zone_row.fields.now (drop (suc at) zone_row.fields.now) zone_row.rest old new after =
-    field_taken origin zone_row.fields.now (get_or zone_row.fields.now at d) (drop (suc at) zone_row.fields.now) zone_row.rest old now new before after
-    (here origin zone_row at old now before d l so) a in
+pub field_more : (origin : Option DomainName) (fields : List ZoneField) (rest : ZoneRest) (at : ℕ) (old now new : Cursor) (before after : List ℕ)
+    (d : ZoneField) → at < length fields
+    → RowSoFar origin fields rest at old now before → AddedFirst (FieldGives origin (kind_of (get_or fields at d))) before after now new
+    → RowSoFar origin fields rest (at + 1) old new after
+field_more origin fields rest at old now new before after d l so a =
+    let next : FieldsSoFar origin fields (drop (suc at) fields) rest old new after =
+    field_taken origin fields (get_or fields at d) (drop (suc at) fields) rest old now new before after
+    (here origin fields rest at old now before d l so) a in
     record { so = rw add-one next }
 
 -- ---- errors
@@ -122,43 +127,62 @@ row_refused {origin} zone_row {old = old} e P so not = unless_map e P (NoneOfAll
     })
 
 -- all were taken
-fields_taken : (origin : Option DomainName) (zone_row : ZoneRow) (old now : Cursor) (before after : List ℕ)
-    → FieldsSoFar origin zone_row.fields.now [] zone_row.rest old now before → PutAll (RestGives (rest_kind_of zone_row.rest)) before after now
-    → TookAll (RowGives origin (row_value zone_row)) after old
-fields_taken origin zone_row old now before after so a =
+fields_taken : (origin : Option DomainName) (fields : List ZoneField) (rest : ZoneRest) (old now : Cursor) (before after : List ℕ)
+    → FieldsSoFar origin fields [] rest old now before → PutAll (RestGives (rest_kind_of rest)) before after now
+    → TookAll (RowGives origin (shape_of fields rest)) after old
+fields_taken origin fields rest old now before after so a =
     let at = so.gives a.octets (record { tokens = a.tokens; divided = a.divided; given = record { is = a.given } }) in
-    record { tokens = at.tokens; divided = at.divided; value = record { fields = subst (λ (s : List ℕ). FieldsGive origin (map kind_of zone_row.fields.now) (rest_kind_of zone_row.rest) s at.tokens) (sym a.same) at.given.is } }
+    let given = subst (λ (s : List ℕ). FieldsGive origin (map kind_of fields) (rest_kind_of rest) s at.tokens) (sym a.same) at.given.is in
+    record { tokens = at.tokens; divided = at.divided; value = record { fields = given } }
 
 -- ---- ways out of the loop
 
 pub exit_field : {T : Type 0} (view : T → List ℕ) (r : Result T ParseError) (origin : Option DomainName) (zone_row : ZoneRow) (at : ℕ) (old now : Cursor) (before : List ℕ)
-    (d : ZoneField) (e : ParseError) → IsErrAnd r (λ y. y ≡ e) → at < length zone_row.fields.now → RowSoFar origin zone_row at old now before
+    (d : ZoneField) (e : ParseError) → IsErrAnd r (λ y. y ≡ e) → at < length zone_row.fields.now → RowSoFar origin zone_row.fields.now zone_row.rest at old now before
     → UnlessParseMemory e (NoFirstGives (FieldGives origin (kind_of (get_or zone_row.fields.now at d))) now)
     → ReadsAll (RowGives origin (row_value zone_row)) view r old
 exit_field view r origin zone_row at old now before d e h l so none = exit_with (λ r. ReadsAll (RowGives origin (row_value zone_row)) view r old) e r h
-    (row_refused zone_row e _ (here origin zone_row at old now before d l so) (λ no octets tokens divided given. no_first octets tokens divided given no) none)
+    (row_refused zone_row e _ (here origin zone_row.fields.now zone_row.rest at old now before d l so)
+    (λ no octets tokens divided given. no_first octets tokens divided given no) none)
 
 pub exit_field_fault : {T : Type 0} (r : Result T ParseError) (origin : Option DomainName) (zone_row : ZoneRow) (at : ℕ) (old now : Cursor) (before : List ℕ)
-    (d : ZoneField) (e : ParseError) → IsErrAnd r (λ y. y ≡ e) → at < length zone_row.fields.now → RowSoFar origin zone_row at old now before
+    (d : ZoneField) (e : ParseError) → IsErrAnd r (λ y. y ≡ e) → at < length zone_row.fields.now → RowSoFar origin zone_row.fields.now zone_row.rest at old now before
     → (e ≡ parse.Memory) ⊎ FieldFault origin (get_or zone_row.fields.now at d) now e → IfErr r (λ y. (y ≡ parse.Memory) ⊎ RowFault origin zone_row old y)
 exit_field_fault r origin zone_row at old now before d e h l so f = exit_fault (λ y. (y ≡ parse.Memory) ⊎ RowFault origin zone_row old y) r e h
-    (or_then (λ fault. record { fault = (here origin zone_row at old now before d l so).fault e (inl fault) }) f)
+    (or_then (λ fault. record { fault = (here origin zone_row.fields.now zone_row.rest at old now before d l so).fault e (inl fault) }) f)
 
 pub exit_rest : {T : Type 0} (view : T → List ℕ) (r : Result T ParseError) (origin : Option DomainName) (zone_row : ZoneRow) (at : ℕ) (old now : Cursor) (before : List ℕ)
-    (e : ParseError) → IsErrAnd r (λ y. y ≡ e) → length zone_row.fields.now ≤ at → RowSoFar origin zone_row at old now before
+    (e : ParseError) → IsErrAnd r (λ y. y ≡ e) → length zone_row.fields.now ≤ at → RowSoFar origin zone_row.fields.now zone_row.rest at old now before
     → UnlessParseMemory e (NoneOfAll (RestGives (rest_kind_of zone_row.rest)) now) → ReadsAll (RowGives origin (row_value zone_row)) view r old
 exit_rest view r origin zone_row at old now before e h l so none = exit_with (λ r. ReadsAll (RowGives origin (row_value zone_row)) view r old) e r h
-    (row_refused zone_row e _ (over origin zone_row at old now before l so) (λ no octets tokens divided given. no.none octets tokens divided given.is) none)
+    (row_refused zone_row e _ (over origin zone_row.fields.now zone_row.rest at old now before l so)
+    (λ no octets tokens divided given. no.none octets tokens divided given.is) none)
 
 pub exit_rest_fault : {T : Type 0} (r : Result T ParseError) (origin : Option DomainName) (zone_row : ZoneRow) (at : ℕ) (old now : Cursor) (before : List ℕ)
-    (e : ParseError) → IsErrAnd r (λ y. y ≡ e) → length zone_row.fields.now ≤ at → RowSoFar origin zone_row at old now before
+    (e : ParseError) → IsErrAnd r (λ y. y ≡ e) → length zone_row.fields.now ≤ at → RowSoFar origin zone_row.fields.now zone_row.rest at old now before
     → (e ≡ parse.Memory) ⊎ RestFault zone_row.rest now e → IfErr r (λ y. (y ≡ parse.Memory) ⊎ RowFault origin zone_row old y)
 exit_rest_fault r origin zone_row at old now before e h l so f = exit_fault (λ y. (y ≡ parse.Memory) ⊎ RowFault origin zone_row old y) r e h
-    (or_then (λ fault. record { fault = (over origin zone_row at old now before l so).fault e fault }) f)
+    (or_then (λ fault. record { fault = (over origin zone_row.fields.now zone_row.rest at old now before l so).fault e fault }) f)
 
-pub row_taken : (origin : Option DomainName) (zone_row : ZoneRow) (at : ℕ) (old now : Cursor) (before after result : List ℕ) → length zone_row.fields.now ≤ at
-    → RowSoFar origin zone_row at old now before → PutAll (RestGives (rest_kind_of zone_row.rest)) before after now → result ≡ after
-    → TookAll (RowGives origin (row_value zone_row)) result old
-row_taken origin zone_row at old now before after result l so a e =
-    subst (λ (s : List ℕ). TookAll (RowGives origin (row_value zone_row)) s old) (sym e)
-    (fields_taken origin zone_row old now before after (over origin zone_row at old now before l so) a)
+pub row_taken : (origin : Option DomainName) (fields : List ZoneField) (rest : ZoneRest) (at : ℕ) (old now : Cursor) (before after result : List ℕ) → length fields ≤ at
+    → RowSoFar origin fields rest at old now before → PutAll (RestGives (rest_kind_of rest)) before after now → result ≡ after
+    → TookAll (RowGives origin (shape_of fields rest)) result old
+row_taken origin fields rest at old now before after result l so a e =
+    subst (λ (s : List ℕ). TookAll (RowGives origin (shape_of fields rest)) s old) (sym e)
+    (fields_taken origin fields rest old now before after (over origin fields rest at old now before l so) a)
+
+-- ---- fields alone
+
+pub put_first : {gives : List ℕ → Token → Type 0} {before after : List ℕ} {token : Token} {now new : Cursor} → tokens_at now ≡ with_token token (tokens_at new)
+    → PutField gives before after token → AddedFirst gives before after now new
+put_first {token = token} first put = record { token = token; first = first; octets = put.octets; given = put.given; same = put.same }
+
+-- no token is left
+pub row_over : (origin : Option DomainName) (fields : List ZoneField) (surplus : Bor (List ℕ)) (at : ℕ) (start old now : Cursor) (octets : List ℕ)
+    → tokens_at old ≡ tokens_at start → length fields ≤ at → RowSoFar origin fields (rest.Nothing surplus) at old now octets → tokens_at now ≡ Ok []
+    → TookAll (RowGives origin (record { fields = map kind_of fields; rest = NoToken })) octets start
+row_over origin fields surplus at start old now octets same l so end =
+    let none : PutAll (RestGives NoToken) octets octets now =
+    record { tokens = []; divided = end; octets = []; given = (refl, refl); same = sym (append-nil octets) } in
+    let all = row_taken origin fields (rest.Nothing surplus) at old now octets octets octets l so none refl in
+    record { tokens = all.tokens; divided = sym same ∙ all.divided; value = all.value }

@@ -9,25 +9,25 @@ returns-in-None c =
     let e : EndsAt c.args.a.now c.tlvs.i c.in-Some.p = record { room = c.in-Some.ensures.some; is = c.in-Some.ensures.is } in
     longer c.tlvs.invariant e c.in-None.ensures.none
 
-pub returns-in_default-cmp : goal.returns-in_default-cmp
-returns-in_default-cmp c =
+pub returns-in_default-octets_cmp : goal.returns-in_default-octets_cmp
+returns-in_default-octets_cmp c =
     let e : EndsAt c.args.a.now c.tlvs.i c.in-Some.p = record { room = c.in-Some.ensures.some; is = c.in-Some.ensures.is } in
     let f : EndsAt c.args.b.now c.tlvs.j c.in-Some-end_of.q = record { room = c.in-Some-end_of.ensures.some; is = c.in-Some-end_of.ensures.is } in
-    heads_differ c.tlvs.invariant e f c.head_of.ensures c.head_of-in-Some.ensures c.cmp.ensures c.in_default-cmp.not-Equal
+    heads_differ c.tlvs.invariant e f c.head_of.ensures c.head_of-in-Some.ensures c.octets_cmp.ensures c.in_default-octets_cmp.not-Equal
 
-pub returns-in_default-cmp-2 : goal.returns-in_default-cmp-2
-returns-in_default-cmp-2 c =
+pub returns-in_default-octets_cmp-2 : goal.returns-in_default-octets_cmp-2
+returns-in_default-octets_cmp-2 c =
     let e : EndsAt c.args.a.now c.tlvs.i c.in-Some.p = record { room = c.in-Some.ensures.some; is = c.in-Some.ensures.is } in
     let f : EndsAt c.args.b.now c.tlvs.j c.in-Some-end_of.q = record { room = c.in-Some-end_of.ensures.some; is = c.in-Some-end_of.ensures.is } in
-    bodies_differ c.tlvs.invariant e f c.head_of.ensures c.head_of-in-Some.ensures c.cmp.ensures c.in-Equal.is c.body_of.ensures c.body_of-in-Some.ensures
-    c.cmp-in-Some.ensures c.in_default-cmp-2.not-Equal
+    bodies_differ c.tlvs.invariant e f c.head_of.ensures c.head_of-in-Some.ensures c.octets_cmp.ensures c.in-Equal.is c.body_of.ensures
+    c.body_of-in-Some.ensures c.octets_cmp-in-Some.ensures c.in_default-octets_cmp-2.not-Equal
 
 pub tlvs-preserved : goal.tlvs-preserved
 tlvs-preserved c =
     let e : EndsAt c.args.a.now c.tlvs.i c.in-Some.p = record { room = c.in-Some.ensures.some; is = c.in-Some.ensures.is } in
     let f : EndsAt c.args.b.now c.tlvs.j c.in-Some-end_of.q = record { room = c.in-Some-end_of.ensures.some; is = c.in-Some-end_of.ensures.is } in
-    both_more c.tlvs.invariant e f c.head_of.ensures c.head_of-in-Some.ensures c.cmp.ensures c.in-Equal.is c.body_of.ensures c.body_of-in-Some.ensures
-    c.cmp-in-Some.ensures c.in-Equal-cmp.is
+    both_more c.tlvs.invariant e f c.head_of.ensures c.head_of-in-Some.ensures c.octets_cmp.ensures c.in-Equal.is c.body_of.ensures c.body_of-in-Some.ensures
+    c.octets_cmp-in-Some.ensures c.in-Equal-octets_cmp.is
 
 pub returns-in-Some-end_of-2 : goal.returns-in-Some-end_of-2
 returns-in-Some-end_of-2 c =

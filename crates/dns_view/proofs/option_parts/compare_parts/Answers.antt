@@ -13,8 +13,8 @@ returns-in-false-true c = second_short c.args.a.now c.args.b.now (omega (arith, 
 
 pub returns-in-Equal : goal.returns-in-Equal
 returns-in-Equal c = by_bodies _ _ _ _ _ _ c.parts_of.ensures.octets c.parts_of-2.ensures.octets (c.parts_of.ensures.head ∙ sym c.parts_of-2.ensures.head) c.in-Equal.ensures
-    c.cmp-in-Equal.ensures
+    c.octets_cmp-in-Equal.ensures
 
 pub returns-in_default : goal.returns-in_default
-returns-in_default c = by_heads _ _ _ _ _ _ c.parts_of.ensures.octets c.parts_of-2.ensures.octets (c.parts_of.ensures.head ∙ sym c.parts_of-2.ensures.head) c.cmp.ensures
-    c.in_default.not-Equal
+returns-in_default c = by_heads _ _ _ _ _ _ c.parts_of.ensures.octets c.parts_of-2.ensures.octets (c.parts_of.ensures.head ∙ sym c.parts_of-2.ensures.head)
+    c.octets_cmp.ensures c.in_default.not-Equal

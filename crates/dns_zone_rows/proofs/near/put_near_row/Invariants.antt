@@ -1,9 +1,10 @@
-use Rattle.std.proofs.Common.{false}
-use Rattle.std.specs.Option.{option_copied}
-use Rattle.dns_zone_rows.proofs.NearRows.{NearSoFar}
+use Rattle.std.proofs.Common.{ℕ, List, false}
+use Rattle.std.specs.{Borrow.Bor, Option.option_copied}
+use Rattle.dns_zone_rows.specs.declared.zone_row.ZoneRest.TheVariants as rest
+use Rattle.dns_zone_rows.proofs.RowLoop.{RowSoFar}
 use Rattle.dns_zone_rows.proofs.near.put_near_row.Given as goal
 
--- the fields so far were taken
+-- the fields so far were taken, whatever the error for a further token says
 abbrev pub invariant-loop-field : goal.invariant-loop-field
 invariant-loop-field l =
-    NearSoFar (option_copied l.origin) l.fields l.field-index (record { depth = 0; joined = false; text = l.text }) l.tokens l.octets.items
+    (surplus : Bor (List ℕ)) → RowSoFar (option_copied l.origin) l.fields (rest.Nothing surplus) l.field-index l.initial.tokens l.tokens l.octets.items

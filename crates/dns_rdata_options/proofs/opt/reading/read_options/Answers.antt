@@ -1,5 +1,6 @@
 use Rattle.std.proofs.{Common.◌++◌, Common.◌∷◌, Common.[], Common.arith, lemmas.Result.err_from_is_err_and}
-use Rattle.dns_rdata_options.proofs.OptionLists.{tlv_refused, options_more, options_refused, options_cut, read_more}
+use Rattle.dns_rdata_options.proofs.OptionLists.{tlv_refused, options_refused, options_cut, read_more}
+use Rattle.dns_view.proofs.OptionLists.{options_more}
 use Rattle.dns_rdata_options.proofs.OptionValues.{refused_option}
 use Rattle.dns_rdata_options.proofs.opt.reading.read_options.Goals as goal
 
@@ -21,7 +22,7 @@ returns-in_err-keep_option-in-Some c =
     let p = err_from_is_err_and c.from_residual-in_err-keep_option-in-Some.result c.from_residual-in_err-keep_option-in-Some.ensures.1 in
     let t = rw c.in-Some.is at c.in_ok-number.ensures in
     rw (p.1, p.2) (options_refused c.index-start.result c.args.length c.index-start.ensures.offset (omega (arith, c.index.ensures.offset, c.tlvs-test.true))
-    c.tlvs.invariant.1 (refused_option _ _ (c.in-Some.number, c.in-Some.octets.now) _ c.index.ensures.octets t c.in_err-keep_option-in-Some.ensures.refused))
+    c.tlvs.invariant.1 (refused_option _ _ (c.in-Some.number, c.in-Some.octets.now) _ t c.in_err-keep_option-in-Some.ensures.refused))
 
 pub returns-in-None-clause-fields : goal.returns-in-None-clause-fields
 returns-in-None-clause-fields c =
