@@ -1,11 +1,11 @@
 -- Tokens of each type.
-use Rattle.std.proofs.Common.{◌↔◌, ◌≡◌, ◌≢◌, ℕ, List, [], ◌∷◌, Option, Result, Ok, Err, IfErr, ◌⊎◌, inl, inr, refl, sym, subst, map, length, arith, ◌∙◌}
+use Rattle.std.proofs.Common.{◌↔◌, ◌≡◌, ◌≢◌, ℕ, List, [], ◌∷◌, Option, Some, None, Result, Ok, Err, IfErr, ◌⊎◌, inl, inr, refl, sym, ap, subst, map, length, arith, ◌∙◌}
 use Rattle.std.specs.{Cow.cow_str_bytes, declared.vec.IntoIter.IntoIter, declared.borrow.CowStr.CowStr, declared.alloc.Global.Global, Result.IsErrAnd}
 use Rattle.std.specs.{Result.IfOk, Result.result_map_both, Vec.Iter.into_iter_steps, Vec.Iter.into_iter_items, Vec.Iter.into_iter_len, Vec.Iter.into_iter_deque}
 use Rattle.dns_types.specs.{declared.record_type.RecordType.RecordType, declared.error.ParseError.ParseError}
 use Rattle.dns_types.specs.declared.record_type.RecordType.TheVariants as types
 use Rattle.dns_types.specs.declared.error.ParseError.TheVariants as parse
-use Rattle.dns_text.specs.TextWords.{TextWords, NoTextWords}
+use Rattle.dns_text.specs.{TextWords.TextWords, TextWords.NoTextWords, Plain.ArePlain, Plain.GivesWord}
 use Rattle.dns_tokens.specs.{Taking.HoldsBehind, Taking.HoldsOfTokens, Forms.TokenRow, Forms.token, Printed.cut}
 use Rattle.dns_tokens.specs.Reads.{UnlessParseMemory, Decides, TookTokens, RefusedTokens, ReadsTokenRow}
 use Rattle.dns_fields.specs.{Labels.DomainName, Fields.Values}
@@ -137,22 +137,42 @@ no_items (x ∷ xs) e = absurd (omega (arith, e))
 ended : (s : IntoIter (CowStr Global) Global) → into_iter_len s ≡ 0 → into_iter_items s ≡ []
 ended s e = no_items (into_iter_items s) (sym e ∙ (into_iter_deque s).ok.0)
 
-of_list : (xs : List (CowStr Global)) (s : IntoIter (CowStr Global) Global) (P : List (List ℕ) → Type 0) → HoldsBehind into_iter_steps cow_str_bytes xs s P
-    → P (map cow_str_bytes (into_iter_items s))
-of_list [] s P (inl all) = all (map cow_str_bytes (into_iter_items s))
-of_list [] s P (inr h) = subst (λ (l : List (CowStr Global)). P (map cow_str_bytes l)) (sym (ended s h.1.0)) h.2
-of_list (x ∷ xs) s P h = subst (λ (l : List (CowStr Global)). P (map cow_str_bytes l)) (sym h.1.0) (of_list xs h.0 (λ tokens. P (cow_str_bytes x ∷ tokens)) h.2)
+-- An iterator of which it is known which tokens are left.
+pub record Exhausts {S I : Type 0} (gives : I → Option S → I → Type 0) (text : S → List ℕ) (Left : List (List ℕ) → I → Type 0) : Type 0 where
+  pub one_more : (s t : I) (x : S) (words : List (List ℕ)) → gives s (Some x) t → Left words s
+      → (later : List (List ℕ)) × (words ≡ text x ∷ later) × Left later t
+  pub over : (s t : I) (words : List (List ℕ)) → gives s None t → Left words s → words ≡ []
 
-holds_of : (s : IntoIter (CowStr Global) Global) (tokens : List (List ℕ)) (P : List (List ℕ) → Type 0) → map cow_str_bytes (into_iter_items s) ≡ tokens
-    → HoldsOfTokens into_iter_steps cow_str_bytes s P → P tokens
-holds_of s tokens P e h = subst P e (of_list h.taken s P h.holds)
+-- a vector's
+abbrev AreItems : List (List ℕ) → IntoIter (CowStr Global) Global → Type 0
+AreItems words s = map cow_str_bytes (into_iter_items s) ≡ words
 
-pub each_read : (origin : Option DomainName) (t : RecordType) (tokens : List (List ℕ)) (s : IntoIter (CowStr Global) Global) (r : Result RData ParseError)
-    → map cow_str_bytes (into_iter_items s) ≡ tokens
-    → ReadsDataTokens into_iter_steps cow_str_bytes origin t r s → Decides (λ v. AreDataTokens origin t v tokens) (λ v. v) r
-each_read origin t tokens s (Ok v) e h = holds_of s tokens (λ l. AreDataTokens origin t v l) e h.tokens
-each_read origin t tokens s (Err y) e h =
-    unless_map y _ _ (λ none. record { none = holds_of s tokens (λ l. (v : RData) → AreDataTokens origin t v l → ⊥) e none }) h.none
+pub items_left : Exhausts into_iter_steps cow_str_bytes AreItems
+items_left = record {
+  one_more = λ s t x words g e. (map cow_str_bytes (into_iter_items t), sym e ∙ ap (map cow_str_bytes) g.0, refl);
+  over = λ s t words g e. sym e ∙ ap (map cow_str_bytes) (ended s g.0);
+}
+
+-- a plain text's
+pub words_left : Exhausts GivesWord (λ x. x.now) (λ words s. ArePlain words s.rest.now)
+words_left = record { one_more = λ s t x words g l. g.only words tt l; over = λ s t words g l. g words l }
+
+module _ {S I : Type 0} {gives : I → Option S → I → Type 0} {text : S → List ℕ} {Left : List (List ℕ) → I → Type 0} (exhausts : Exhausts gives text Left) where
+  of_list : (xs : List S) (s : I) (tokens : List (List ℕ)) (P : List (List ℕ) → Type 0) → Left tokens s → HoldsBehind gives text xs s P → P tokens
+  of_list [] s tokens P l (inl all) = all tokens
+  of_list [] s tokens P l (inr h) = subst P (sym (exhausts.over s h.0 tokens h.1 l)) h.2
+  of_list (x ∷ xs) s tokens P l h =
+      let more = exhausts.one_more s h.0 x tokens h.1 l in
+      subst P (sym more.1) (of_list xs h.0 more.0 (λ later. P (text x ∷ later)) more.2 h.2)
+
+  holds_of : (s : I) (tokens : List (List ℕ)) (P : List (List ℕ) → Type 0) → Left tokens s → HoldsOfTokens gives text s P → P tokens
+  holds_of s tokens P l h = of_list h.taken s tokens P l h.holds
+
+  pub each_read : (origin : Option DomainName) (t : RecordType) (tokens : List (List ℕ)) (s : I) (r : Result RData ParseError) → Left tokens s
+      → ReadsDataTokens gives text origin t r s → Decides (λ v. AreDataTokens origin t v tokens) (λ v. v) r
+  each_read origin t tokens s (Ok v) l h = holds_of s tokens (λ tokens. AreDataTokens origin t v tokens) l h.tokens
+  each_read origin t tokens s (Err y) l h =
+      unless_map y _ _ (λ none. record { none = holds_of s tokens (λ tokens. (v : RData) → AreDataTokens origin t v tokens → ⊥) l none }) h.none
 
 pub text_read : (origin : Option DomainName) (t : RecordType) (text : List ℕ) (tokens : List (List ℕ)) (r : Result RData ParseError) → TextWords tokens text
     → Decides (λ v. AreDataTokens origin t v tokens) (λ v. v) r → ReadsDataTextAt origin t r text

@@ -14,7 +14,7 @@ use crate::{
     SOA, SRV, SSHFP, SVCB, TLSA, TXT,
 };
 use dns_names_wire::{Name, ParseError, RecordType};
-use dns_text::text_words;
+use dns_text::{PlainWords, is_plain, text_words};
 use std::alloc::Global;
 use std::convert::AsStr;
 
@@ -103,6 +103,9 @@ impl RData {
     /// by [`RData::from_tokens`]: a list in parentheses gives its tokens, character data one, blanks and line ends
     /// none.
     ///
+    /// The tokens are read one by one from the text. A list of them is made, which allocates, only if the text has
+    /// parentheses, a comment or quotes with a `\`.
+    ///
     /// # Errors
     ///
     /// [`Message`](ParseError::Message) if the text cannot be divided into such tokens; otherwise those of
@@ -146,6 +149,10 @@ impl RData {
         ensures unsupported { HasNoTokens record_type
             → IfErr result (λ e. UnlessParseMemory e ((e ≡ ParseError.UnsupportedRecordType record_type) ⊎ NoTextWords text.now)) }
     {
+        // Most texts are plain, and need no list of their tokens.
+        if is_plain(text) {
+            return RData::from_tokens(alloc, record_type, PlainWords::new(text), origin);
+        }
         let tokens = text_words(alloc, text)?;
         RData::from_tokens(alloc, record_type, tokens.into_iter(), origin)
     }

@@ -1,5 +1,7 @@
 -- Plain texts: each word is a part of the text, and only blanks and line ends are between the words.
-use Rattle.std.specs.Prelude.{◌≡◌, ◌≢◌, ℕ, not, List, [], ◌∷◌}
+use Rattle.std.specs.Prelude.{◌≡◌, ◌≢◌, ℕ, not, List, [], ◌∷◌, Option, MatchOption}
+use Rattle.std.specs.Borrow.{Bor}
+use Rattle.dns_text.specs.declared.plain.PlainWords.{PlainWords}
 use Rattle.dns_text.specs.{Octets.is_gap, Octets.is_special, Octets.AllOf, Octets.Span, Quoted.First, Tokens.Run}
 
 -- A word at the text's beginning: a run other than a single `@`, or text in quotes without a `\`.
@@ -27,3 +29,8 @@ PlainFirst = First {E = Unit {0}} (λ words text _. ArePlain words text)
 -- if the text is plain, it has no word
 abbrev pub HasNoWord : List ℕ → Type 0
 HasNoWord text = (words : List (List ℕ)) → ArePlain words text → words ≡ []
+
+-- what a call of `next` does
+abbrev pub GivesWord : PlainWords → Option (Bor (List ℕ)) → PlainWords → Type 0
+GivesWord s r t =
+    MatchOption r (HasNoWord s.rest.now) (λ word. PlainFirst (word.now ∷ []) s.rest.now t.rest.now)

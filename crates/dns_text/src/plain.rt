@@ -1,10 +1,10 @@
 //! The words of a plain text, one by one.
 
-ghost use Rattle.std.specs.Prelude.{◌≡◌, ◌∷◌, ◌<◌, [], length, slice_index, IfSome, IfNone, IsUtf8, MatchOption};
+ghost use Rattle.std.specs.Prelude.{◌≡◌, ◌∷◌, ◌<◌, [], length, slice_index, IfSome, IfNone, IsUtf8};
 ghost use Rattle.std.specs.{Bool.OnTrue, Iterator.at_most};
-ghost use Rattle.dns_text.specs.Plain.{IsPlainWord, NoPlainWord, IsPlain, PlainFirst, HasNoWord};
+ghost use Rattle.dns_text.specs.Plain.{IsPlainWord, NoPlainWord, IsPlain, PlainFirst, HasNoWord, GivesWord};
 
-use crate::spans::{behind, octet, split_gaps, split_plain, split_run};
+use crate::spans::{Kind, behind, octet, split};
 
 /// Returns whether a text is plain: between its words are only blanks and line ends, and each word is a part of the
 /// text, either in quotes without a `\` or a run other than a single `@`. Allocates nothing.
@@ -15,7 +15,7 @@ pub fn is_plain(text: &str) -> bool
     'words: while let Some((_word, more)) = next_word(rest) {
         rest = more;
     }
-    let (_gaps, more) = split_gaps(rest);
+    let (_gaps, more) = split(Kind::Gap, rest);
     more.len() == 0
 }
 
@@ -38,7 +38,7 @@ impl<'a> PlainWords<'a> {
 impl<'a> Iterator for PlainWords<'a> {
     type Item = &'a str;
 
-    ghost next_gives = { λ s r t. MatchOption r (HasNoWord s.rest.now) (λ word. PlainFirst (word.now ∷ []) s.rest.now t.rest.now) };
+    ghost next_gives = { GivesWord };
 
     ghost remaining = { λ s. at_most (length s.rest.now) };
 
@@ -59,7 +59,7 @@ fn next_word(text: &str) -> Option<(&str, &str)>
     ensures shorter { IfSome result (λ r. length r.1.now < length text.now) }
     ensures none { IfNone result (HasNoWord text.now) }
 {
-    let (_gaps, text) = split_gaps(text);
+    let (_gaps, text) = split(Kind::Gap, text);
     let (word, rest) = plain_word(text)?;
     Some((word, rest))
 }
@@ -77,7 +77,7 @@ fn plain_word(text: &str) -> Option<(&str, &str)>
     if first == 34 {
         return quoted_word(text);
     }
-    let (word, rest) = split_run(text);
+    let (word, rest) = split(Kind::Run, text);
     if word.len() == 0 || first == 40 || (word.len() == 1 && first == 64) {
         return None;
     }
@@ -92,7 +92,7 @@ fn quoted_word(text: &str) -> Option<(&str, &str)>
     ensures utf8 { IfSome result (λ r. IsUtf8 r.0.now × IsUtf8 r.1.now) }
     ensures none { IfNone result (NoPlainWord text.now) }
 {
-    let (word, more) = split_plain(behind(text, 1));
+    let (word, more) = split(Kind::Plain, behind(text, 1));
     if more.len() == 0 || octet(more, 0) != 34 {
         return None;
     }

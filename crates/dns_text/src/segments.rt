@@ -4,7 +4,7 @@ ghost use Rattle.std.specs.Prelude.{◌≡◌, ◌∷◌, ◌<◌, [], length, I
 ghost use Rattle.std.specs.Cow.{cow_str_bytes};
 ghost use Rattle.dns_text.specs.Lists.{segments_of};
 
-use crate::spans::{behind, octet, split_segment};
+use crate::spans::{Kind, behind, octet, split};
 use std::alloc::{AllocError, Global};
 use std::borrow::CowStr;
 
@@ -20,7 +20,7 @@ pub fn next_segment<'a>(
     ensures utf8 { IfOk result (λ o. IfSome o (λ r. IsUtf8 r.1.now)) }
     ensures shorter { IfOk result (λ o. IfSome o (λ r. length r.1.now < length text.now)) }
 {
-    let (plain, more) = split_segment(text);
+    let (plain, more) = split(Kind::Segment, text);
     if more.len() == 0 {
         if plain.len() == 0 {
             return Ok(None);
@@ -47,7 +47,7 @@ fn escaped_segment<'a>(
     let mut segment = String::new(alloc);
     let mut rest = text;
     'runs: while rest.len() > 0 {
-        let (plain, more) = split_segment(rest);
+        let (plain, more) = split(Kind::Segment, rest);
         segment.push_str(plain)?;
         if more.len() == 0 {
             rest = more;

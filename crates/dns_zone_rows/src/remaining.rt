@@ -8,13 +8,12 @@ ghost use Rattle.dns_zone_tokens.specs.Remaining.{AmongFault, HexFault, Base64Fa
 ghost use Rattle.dns_zone_rows.specs.RowFaults.{rest_kind_of, SurplusFault, RestFault};
 ghost use Rattle.dns_zone_rows.specs.Rows.{NoToken, SomeStrings, SomeHex, SomeBase64, RestGives};
 
-use crate::fields::add_octets;
 use crate::types::add_types;
 use crate::zone_row::ZoneRest;
 use dns_types::ParseError;
 use dns_zone_parameters::put_parameters;
 use dns_zone_tokens::{
-    Field, HexField, StringField, ZoneTokens, all_base64, no_more, put_hex, put_string, some_token,
+    Field, HexField, StringField, ZoneTokens, no_more, put_base64, put_hex, put_string, some_token,
 };
 use std::alloc::Global;
 
@@ -93,8 +92,7 @@ fn add_base64(
     ensures why { IfErr result (λ e. (e ≡ ParseError.Memory) ⊎ LacksFirst (ParseError.MissingToken field.name) tokens.old e ⊎ Base64Fault (ParseError.Message field.wrong) tokens.old e) }
 {
     ask_some(tokens, field.name)?;
-    let data = all_base64(alloc, tokens, field.wrong)?;
-    add_octets(octets, data.as_slice())
+    put_base64(alloc, tokens, field.wrong, octets)
 }
 
 // Fails if no token is left. Takes none.

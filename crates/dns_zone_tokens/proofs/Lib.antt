@@ -1,11 +1,11 @@
 pub mod DecimalSteps
 pub mod FirstSteps
 pub mod HexTokens
+pub mod Base64Tokens
 pub mod LetterSteps
 pub mod NameLabels
 pub mod NamePuts
 pub mod NearNames
-pub mod QuietSteps
 pub mod RemainingSteps
 pub mod TextSteps
 pub mod SpanSteps

@@ -4,7 +4,6 @@ pub mod Letters
 pub mod Mnemonics
 pub mod NameSteps
 pub mod NameTokens
-pub mod Quiet
 pub mod Errors
 pub mod Remaining
 pub mod Spans

@@ -8,7 +8,6 @@ pub mod mnemonics;
 pub mod names;
 pub mod near;
 pub mod numbers;
-mod quiet;
 pub mod remaining;
 pub mod spans;
 pub mod texts;
@@ -24,7 +23,9 @@ pub use mnemonics::{Mnemonic, number_named};
 pub use names::put_name;
 pub use near::{ShortOctets, put_after, put_near_name, put_near_string, put_near_text, put_octets};
 pub use numbers::number_of;
-pub use remaining::{all_base64, all_hex, is_unknown_mark, no_more, put_hex, unknown_data};
+pub use remaining::{
+    all_base64, all_hex, is_unknown_mark, no_more, put_base64, put_hex, unknown_data,
+};
 pub use spans::token_span;
 pub use texts::{ipv4_of, ipv6_of, put_string, put_text, ttl_of, type_of};
 pub use tokens::{ZoneToken, ZoneTokens};

@@ -8,10 +8,10 @@ ghost use Rattle.dns_zone_tokens.specs.NameTokens.{name, name_octets, is_alone, 
 
 use crate::field::NameField;
 use crate::letter::Letters;
-use crate::quiet::quiet_len;
 use crate::tokens::ZoneToken;
 use arrayvec::ArrayVec;
 use dns_names_wire::Name;
+use dns_text::quiet_len;
 use dns_types::ParseError;
 
 /// Reads a name and appends its octets, uncompressed and with its case preserved (RFC 1035, section 3.1). The token is

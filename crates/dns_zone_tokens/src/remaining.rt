@@ -1,9 +1,10 @@
 //! All remaining tokens of a text: base64, hexadecimal digits, and the unknown-data form (RFC 3597, section 5).
 
-ghost use Rattle.std.specs.Prelude.{◌≡◌, ◌≢◌, ◌↔◌, ◌⊎◌, [], Ok, IsTrue, IfErr, OnOk, OnErr, length, take};
+ghost use Rattle.std.specs.Prelude.{◌≡◌, ◌≢◌, ◌↔◌, ◌⊎◌, [], Ok, IsTrue, IfErr, OnOk, OnErr, IfSome, List, ℕ, drop, length, take};
 ghost use Rattle.std.specs.{Bool.OnTrue};
+ghost use Rattle.base64.specs.{Engines.standard, GeneralPurpose.decode_of as base64_of};
 ghost use Rattle.dns_zone_tokens.specs.{Forms.StringFault, Views.token_value, Tokens.tokens_at, ZoneReads.IsUndividedError};
-ghost use Rattle.dns_zone_tokens.specs.Remaining.{AreJoined, AreHex, AreBase64, AreUnknown, AreStrings, IsUnknownMark, PutAll, PutsAll, ReadsAll, AmongFault};
+ghost use Rattle.dns_zone_tokens.specs.Remaining.{AreJoined, AreHex, AreBase64, AreUnknown, AreStrings, IsUnknownMark, PutAll, PutsAll, TookAll, ReadsAll, AmongFault};
 ghost use Rattle.dns_zone_tokens.specs.TokenSteps.{PutHex};
 ghost use Rattle.dns_zone_tokens.specs.Remaining.{QuotesFault, HexFault, Base64Fault, UnknownFault};
 
@@ -118,9 +119,53 @@ pub fn all_base64(
     ensures reads { ReadsAll AreBase64 (λ x. x) result tokens.old }
     ensures why { IfErr result (λ e. (e ≡ ParseError.Memory) ⊎ Base64Fault (ParseError.Message wrong.entry) tokens.old e) }
 {
+    let mut octets = Vec::new(alloc);
+    match put_base64(alloc, tokens, wrong, &mut octets) {
+        Ok(()) => Ok(Octets::from_vec(octets)),
+        Err(e) => Err(e),
+    }
+}
+
+/// Reads all remaining tokens as `all_base64` does, and appends their octets. Allocates as the vector grows; beside that
+/// only for more than one token.
+pub fn put_base64(
+    alloc: Global,
+    tokens: &mut ZoneTokens<'_>,
+    wrong: &'static str,
+    octets: &mut Vec<u8>,
+) -> Result<(), ParseError>
+    ensures puts { PutsAll AreBase64 result octets.old.items octets.new.items tokens.old }
+    ensures why { IfErr result (λ e. (e ≡ ParseError.Memory) ⊎ Base64Fault (ParseError.Message wrong.entry) tokens.old e) }
+{
+    if let Some(digits) = only_token(tokens) {
+        return put_decoded(digits, wrong, octets);
+    }
     let digits = all_joined(alloc, tokens, wrong)?;
-    match STANDARD.decode(alloc, digits.as_slice()) {
-        Ok(octets) => Ok(Octets::from_vec(octets)),
+    put_decoded(digits.as_slice(), wrong, octets)
+}
+
+// The next token, if it is the last one and not in quotes. Takes none.
+fn only_token<'a>(tokens: &ZoneTokens<'a>) -> Option<&'a [u8]>
+    ensures { IfSome result (λ digits. TookAll AreJoined digits.now tokens.now) }
+{
+    let mut rest = tokens.again();
+    match rest.next_token() {
+        Ok(Some(token)) if !token.quoted => match rest.next_token() {
+            Ok(None) => Some(token.raw),
+            _ => None,
+        },
+        _ => None,
+    }
+}
+
+// Appends the octets of base64.
+fn put_decoded(digits: &[u8], wrong: &'static str, octets: &mut Vec<u8>) -> Result<(), ParseError>
+    ensures ok { OnOk result (base64_of standard digits.now ≡ Ok (drop (length octets.old.items) octets.new.items)) }
+    ensures kept { OnOk result (take (length octets.old.items) octets.new.items ≡ octets.old.items) }
+    ensures refused { IfErr result (λ e. (e ≡ ParseError.Memory) ⊎ ((e ≡ ParseError.Message wrong.entry) × ((given : List ℕ) → base64_of standard digits.now ≡ Ok given → ⊥))) }
+{
+    match STANDARD.decode_vec(digits, octets) {
+        Ok(()) => Ok(()),
         Err(DecodeAllocError::OutOfMemory) => Err(ParseError::Memory),
         Err(DecodeAllocError::DecodeError(_)) => Err(ParseError::Message(wrong)),
     }

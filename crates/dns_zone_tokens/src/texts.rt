@@ -10,9 +10,9 @@ ghost use Rattle.dns_zone_tokens.specs.Forms.{bare, string, text, IsType, String
 use crate::field::StringField;
 use crate::letter::first_letter;
 use crate::numbers::decimal;
-use crate::quiet::quiet_len;
 use crate::tokens::ZoneToken;
 use crate::type_names::type_named;
+use dns_text::quiet_len;
 use dns_tokens::texts::ttl_of as ttl_of_text;
 use dns_types::{ParseError, RecordType};
 use std::net::{Ipv4Addr, Ipv6Addr};

@@ -5,4 +5,4 @@ pub words-preserved : goal.words-preserved
 words-preserved c = ((_, first_both c.words.invariant.0.1 c.in-Some.ensures.word), c.in-Some.ensures.utf8.1)
 
 pub returns : goal.returns
-returns c = plain_if _ c.words.invariant.0.1 c.split_gaps.ensures.span
+returns c = plain_if _ c.words.invariant.0.1 c.split.ensures.span

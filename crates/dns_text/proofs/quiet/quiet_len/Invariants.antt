@@ -1,6 +1,6 @@
 use Rattle.std.proofs.Common.{◌≤◌, ◌-◌, length}
-use Rattle.dns_zone_tokens.proofs.QuietSteps.{AreQuiet}
-use Rattle.dns_zone_tokens.proofs.quiet.quiet_len.Given as goal
+use Rattle.dns_text.proofs.QuietSteps.{AreQuiet}
+use Rattle.dns_text.proofs.quiet.quiet_len.Given as goal
 
 -- what is before the index is quiet
 abbrev pub invariant-parts : goal.invariant-parts

@@ -4,7 +4,7 @@ use Rattle.std.proofs.lemmas.Simd.{zip2_splat, zip2_of_maps, map-map, mask_l-mod
 use Rattle.std.proofs.{lemmas.Simd.get_or-chunk, lemmas.List.length-map, lemmas.List.length-take-le, lemmas.Bool.leb-false, lemmas.Bool.eq-eqb}
 use Rattle.std.proofs.{lemmas.Bool.cases_lt, Common.refl, Common.sym, Common.ap, Common.subst, Common.◌∙◌, Common.arith, Common.bit_or, Common.inl, Common.inr}
 use Rattle.std.specs.{Prelude.not, List.prefix_len, Int.trailing_zeros, Int.w64, Simd.Lanes.zip2, Simd.Lanes.mask_l, Simd.Lanes.top}
-use Rattle.dns_zone_tokens.specs.Quiet.{IsQuiet}
+use Rattle.dns_text.specs.Quiet.{IsQuiet}
 
 -- what three comparisons leave of an octet
 abbrev mark : ℕ → ℕ → ℕ → ℕ → ℕ

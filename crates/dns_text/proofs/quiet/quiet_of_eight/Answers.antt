@@ -1,6 +1,6 @@
 use Rattle.std.proofs.Common.{arith}
-use Rattle.dns_zone_tokens.proofs.QuietSteps.{all_quiet, first_quiet}
-use Rattle.dns_zone_tokens.proofs.quiet.quiet_of_eight.Goals as goal
+use Rattle.dns_text.proofs.QuietSteps.{all_quiet, first_quiet}
+use Rattle.dns_text.proofs.quiet.quiet_of_eight.Goals as goal
 
 pub returns-then-marks-eq0-clause-quiet : goal.returns-then-marks-eq0-clause-quiet
 returns-then-marks-eq0-clause-quiet c = all_quiet 8 c.args.most c.args.b c.args.c c.args.text.now (omega arith) c.requires c.if-marks-eq0.true

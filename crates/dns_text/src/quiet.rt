@@ -1,7 +1,7 @@
 //! Octets at which a reader of a text need not stop, sixteen at a time.
 
 ghost use Rattle.std.specs.Prelude.{◌≤◌, ◌<◌, ℕ, length, slice_index};
-ghost use Rattle.dns_zone_tokens.specs.Quiet.{IsQuiet};
+ghost use Rattle.dns_text.specs.Quiet.{IsQuiet};
 
 use std::simd::prelude::*;
 
@@ -9,7 +9,7 @@ use std::simd::prelude::*;
 /// last block has the last sixteen octets, some of which the block before may have, too. A text of fewer octets has blocks
 /// of eight.
 #[inline]
-pub(crate) fn quiet_len(most: u8, b: u8, c: u8, text: &[u8]) -> usize
+pub fn quiet_len(most: u8, b: u8, c: u8, text: &[u8]) -> usize
     ensures within { result ≤ length text.now }
     ensures quiet { (k : ℕ) → k < result → IsQuiet most b c (slice_index text.now k) }
 {
