@@ -7,7 +7,7 @@ pub mod FieldEnds
 pub mod Strings
 pub mod RowLoop
 pub mod PointerRows
-pub mod Addresses
+pub mod OneField
 pub mod Puts
 pub mod PutLoop
 pub mod Forms

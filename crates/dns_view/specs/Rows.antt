@@ -52,10 +52,17 @@ pub record IsRowChecked (row : List Part) : Type 0 where
   pub few : length row ≤ 64
   pub least : asked_length row ≤ fewest row
 
--- one field of just n octets, as that of an address
-pub record IsAddress (row : List Part) (n : ℕ) : Type 0 where
-  pub rule : Rule
-  pub is : row ≡ record { kind = Octets n; rule = rule } ∷ []
+-- a field of this kind takes all of n octets
+abbrev pub TakesAll : Kind → ℕ → Type 0
+TakesAll (Octets c) n = c ≡ n
+TakesAll Rest n = 0 < n
+TakesAll k n = ⊥
+
+-- one field that takes all of n octets
+pub record IsOneField (row : List Part) (n : ℕ) : Type 0 where
+  pub part : Part
+  pub is : row ≡ part ∷ []
+  pub takes : TakesAll part.kind n
 
 -- the same as a test
 

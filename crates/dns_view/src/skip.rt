@@ -5,7 +5,7 @@ ghost use Rattle.std.specs.{Char.is_ascii_alphanumeric, List.list_all};
 ghost use Rattle.dns_fields.specs.declared.Kind.TheVariants.{Number, Octets, Name, CharacterString, CharacterStrings, Rest, Bitmap};
 ghost use Rattle.dns_rows.specs.Rules.{AreLetters};
 ghost use Rattle.dns_view.specs.{Parts.Skips, Parts.IsCovered, Parts.IsUnasked, Parts.moved, Parts.step_of as octet_step};
-ghost use Rattle.dns_view.specs.Rows.{IsRowChecked, IsAddress, SkipsRow, asked_length as row_asks};
+ghost use Rattle.dns_view.specs.Rows.{IsRowChecked, IsOneField, SkipsRow, asked_length as row_asks};
 ghost use Rattle.dns_view.specs.{Pointers.Leaves, RowPointers.FieldPointers, RowPointers.RowPointers};
 
 use crate::blocks::check_blocks;
@@ -409,16 +409,17 @@ fn skip_bitmap(walk: &mut Walk<'_>, rule: Rule, start: usize, len: usize) -> Res
     }
 }
 
-// Returns whether the row is one field of just so many octets, as that of an address.
+// Returns whether the row is one field that takes all of so many octets: that of an address, or octets without a form.
 #[inline]
-fn is_address(row: &[Part], len: usize) -> bool
-    ensures { result ≡ true → IsAddress row.now len }
+fn is_one_field(row: &[Part], len: usize) -> bool
+    ensures { result ≡ true → IsOneField row.now len }
 {
     if row.len() == 0 {
         return false;
     }
     match row[0].kind {
         Kind::Octets(count) if row.len() == 1 => count as usize == len,
+        Kind::Rest if row.len() == 1 => 0 < len,
         _ => false,
     }
 }
@@ -452,7 +453,7 @@ pub fn skip_row(
     ensures skips { SkipsRow row.now len result walk.old walk.new }
     ensures pointers { Leaves (RowPointers row.now len walk.old) left.old left.new }
 {
-    if is_address(row, len)
+    if is_one_field(row, len)
         && let Some(end) = octets_end(walk, len)
     {
         walk.move_to(end);
