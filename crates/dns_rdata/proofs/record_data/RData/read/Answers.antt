@@ -51,52 +51,52 @@ fails : {t u : RecordType} {n : ℕ} {e : DecodeError} {old new : Reading} (r : 
 fails r is err h = let p = err_from_is_err_and r err in clauses (rw (is, p.1, p.2) h)
 
 pub returns-in-A : goal.returns-in-A
-returns-in-A c = gives c.in-A.is (counted_own types.A rdata.A _ c.index-start.ensures.offset c.in_ok-by_length-in-A.ensures (own_a _ c.read_data-data.ensures))
+returns-in-A c = gives c.in-A.is (counted_own types.A rdata.A _ c.index-start.ensures.offset c.in_ok-by_length-in-A.ensures (own_a _ _ _ _ c.read_data-data.ensures))
 
 pub returns-in_err-by_length-in-A : goal.returns-in_err-by_length-in-A
-returns-in_err-by_length-in-A c = fails c.from_residual.result c.in-A.is c.from_residual.ensures.1 (counted_own types.A rdata.A _ c.index-start.ensures.offset c.in_err-by_length-in-A.ensures (own_a _ c.read_data-data.ensures))
+returns-in_err-by_length-in-A c = fails c.from_residual.result c.in-A.is c.from_residual.ensures.1 (counted_own types.A rdata.A _ c.index-start.ensures.offset c.in_err-by_length-in-A.ensures (own_a _ _ _ _ c.read_data-data.ensures))
 
 pub returns-in-AAAA : goal.returns-in-AAAA
-returns-in-AAAA c = gives c.in-AAAA.is (counted_own types.AAAA rdata.AAAA _ c.index-start.ensures.offset c.in_ok-by_length-in-AAAA.ensures (own_aaaa _ c.read_data-data-in-AAAA.ensures))
+returns-in-AAAA c = gives c.in-AAAA.is (counted_own types.AAAA rdata.AAAA _ c.index-start.ensures.offset c.in_ok-by_length-in-AAAA.ensures (own_aaaa _ _ _ _ c.read_data-data-in-AAAA.ensures))
 
 pub returns-in_err-by_length-in-AAAA : goal.returns-in_err-by_length-in-AAAA
-returns-in_err-by_length-in-AAAA c = fails c.from_residual-in_err-by_length-in-AAAA.result c.in-AAAA.is c.from_residual-in_err-by_length-in-AAAA.ensures.1 (counted_own types.AAAA rdata.AAAA _ c.index-start.ensures.offset c.in_err-by_length-in-AAAA.ensures (own_aaaa _ c.read_data-data-in-AAAA.ensures))
+returns-in_err-by_length-in-AAAA c = fails c.from_residual-in_err-by_length-in-AAAA.result c.in-AAAA.is c.from_residual-in_err-by_length-in-AAAA.ensures.1 (counted_own types.AAAA rdata.AAAA _ c.index-start.ensures.offset c.in_err-by_length-in-AAAA.ensures (own_aaaa _ _ _ _ c.read_data-data-in-AAAA.ensures))
 
 pub returns-in-ANAME : goal.returns-in-ANAME
-returns-in-ANAME c = gives c.in-ANAME.is (counted_own types.ANAME rdata.ANAME _ c.index-start.ensures.offset c.in_ok-by_length-in-ANAME.ensures (own_aname _ c.read_data-data-in-ANAME.ensures))
+returns-in-ANAME c = gives c.in-ANAME.is (counted_own types.ANAME rdata.ANAME _ c.index-start.ensures.offset c.in_ok-by_length-in-ANAME.ensures (own_aname _ _ _ _ c.read_data-data-in-ANAME.ensures))
 
 pub returns-in_err-by_length-in-ANAME : goal.returns-in_err-by_length-in-ANAME
-returns-in_err-by_length-in-ANAME c = fails c.from_residual-in_err-by_length-in-ANAME.result c.in-ANAME.is c.from_residual-in_err-by_length-in-ANAME.ensures.1 (counted_own types.ANAME rdata.ANAME _ c.index-start.ensures.offset c.in_err-by_length-in-ANAME.ensures (own_aname _ c.read_data-data-in-ANAME.ensures))
+returns-in_err-by_length-in-ANAME c = fails c.from_residual-in_err-by_length-in-ANAME.result c.in-ANAME.is c.from_residual-in_err-by_length-in-ANAME.ensures.1 (counted_own types.ANAME rdata.ANAME _ c.index-start.ensures.offset c.in_err-by_length-in-ANAME.ensures (own_aname _ _ _ _ c.read_data-data-in-ANAME.ensures))
 
 pub returns-in-CAA : goal.returns-in-CAA
-returns-in-CAA c = gives c.in-CAA.is (counted_own types.CAA rdata.CAA _ c.index-start.ensures.offset c.in_ok-by_length-in-CAA.ensures (own_caa _ c.read_data-data-in-CAA.ensures))
+returns-in-CAA c = gives c.in-CAA.is (counted_own types.CAA rdata.CAA _ c.index-start.ensures.offset c.in_ok-by_length-in-CAA.ensures (own_caa _ _ _ _ c.read_data-data-in-CAA.ensures))
 
 pub returns-in_err-by_length-in-CAA : goal.returns-in_err-by_length-in-CAA
-returns-in_err-by_length-in-CAA c = fails c.from_residual-in_err-by_length-in-CAA.result c.in-CAA.is c.from_residual-in_err-by_length-in-CAA.ensures.1 (counted_own types.CAA rdata.CAA _ c.index-start.ensures.offset c.in_err-by_length-in-CAA.ensures (own_caa _ c.read_data-data-in-CAA.ensures))
+returns-in_err-by_length-in-CAA c = fails c.from_residual-in_err-by_length-in-CAA.result c.in-CAA.is c.from_residual-in_err-by_length-in-CAA.ensures.1 (counted_own types.CAA rdata.CAA _ c.index-start.ensures.offset c.in_err-by_length-in-CAA.ensures (own_caa _ _ _ _ c.read_data-data-in-CAA.ensures))
 
 pub returns-in-CERT : goal.returns-in-CERT
-returns-in-CERT c = gives c.in-CERT.is (counted_own types.CERT rdata.CERT _ c.index-start.ensures.offset c.in_ok-by_length-in-CERT.ensures (own_cert _ c.read_data-data-in-CERT.ensures))
+returns-in-CERT c = gives c.in-CERT.is (counted_own types.CERT rdata.CERT _ c.index-start.ensures.offset c.in_ok-by_length-in-CERT.ensures (own_cert _ _ _ _ c.read_data-data-in-CERT.ensures))
 
 pub returns-in_err-by_length-in-CERT : goal.returns-in_err-by_length-in-CERT
-returns-in_err-by_length-in-CERT c = fails c.from_residual-in_err-by_length-in-CERT.result c.in-CERT.is c.from_residual-in_err-by_length-in-CERT.ensures.1 (counted_own types.CERT rdata.CERT _ c.index-start.ensures.offset c.in_err-by_length-in-CERT.ensures (own_cert _ c.read_data-data-in-CERT.ensures))
+returns-in_err-by_length-in-CERT c = fails c.from_residual-in_err-by_length-in-CERT.result c.in-CERT.is c.from_residual-in_err-by_length-in-CERT.ensures.1 (counted_own types.CERT rdata.CERT _ c.index-start.ensures.offset c.in_err-by_length-in-CERT.ensures (own_cert _ _ _ _ c.read_data-data-in-CERT.ensures))
 
 pub returns-in-CNAME : goal.returns-in-CNAME
-returns-in-CNAME c = gives c.in-CNAME.is (counted_own types.CNAME rdata.CNAME _ c.index-start.ensures.offset c.in_ok-by_length-in-CNAME.ensures (own_cname _ c.read_data-data-in-CNAME.ensures))
+returns-in-CNAME c = gives c.in-CNAME.is (counted_own types.CNAME rdata.CNAME _ c.index-start.ensures.offset c.in_ok-by_length-in-CNAME.ensures (own_cname _ _ _ _ c.read_data-data-in-CNAME.ensures))
 
 pub returns-in_err-by_length-in-CNAME : goal.returns-in_err-by_length-in-CNAME
-returns-in_err-by_length-in-CNAME c = fails c.from_residual-in_err-by_length-in-CNAME.result c.in-CNAME.is c.from_residual-in_err-by_length-in-CNAME.ensures.1 (counted_own types.CNAME rdata.CNAME _ c.index-start.ensures.offset c.in_err-by_length-in-CNAME.ensures (own_cname _ c.read_data-data-in-CNAME.ensures))
+returns-in_err-by_length-in-CNAME c = fails c.from_residual-in_err-by_length-in-CNAME.result c.in-CNAME.is c.from_residual-in_err-by_length-in-CNAME.ensures.1 (counted_own types.CNAME rdata.CNAME _ c.index-start.ensures.offset c.in_err-by_length-in-CNAME.ensures (own_cname _ _ _ _ c.read_data-data-in-CNAME.ensures))
 
 pub returns-in-CSYNC : goal.returns-in-CSYNC
-returns-in-CSYNC c = gives c.in-CSYNC.is (counted_own types.CSYNC rdata.CSYNC _ c.index-start.ensures.offset c.in_ok-by_length-in-CSYNC.ensures (own_csync _ c.read_data-data-in-CSYNC.ensures))
+returns-in-CSYNC c = gives c.in-CSYNC.is (counted_own types.CSYNC rdata.CSYNC _ c.index-start.ensures.offset c.in_ok-by_length-in-CSYNC.ensures (own_csync _ _ _ _ c.read_data-data-in-CSYNC.ensures))
 
 pub returns-in_err-by_length-in-CSYNC : goal.returns-in_err-by_length-in-CSYNC
-returns-in_err-by_length-in-CSYNC c = fails c.from_residual-in_err-by_length-in-CSYNC.result c.in-CSYNC.is c.from_residual-in_err-by_length-in-CSYNC.ensures.1 (counted_own types.CSYNC rdata.CSYNC _ c.index-start.ensures.offset c.in_err-by_length-in-CSYNC.ensures (own_csync _ c.read_data-data-in-CSYNC.ensures))
+returns-in_err-by_length-in-CSYNC c = fails c.from_residual-in_err-by_length-in-CSYNC.result c.in-CSYNC.is c.from_residual-in_err-by_length-in-CSYNC.ensures.1 (counted_own types.CSYNC rdata.CSYNC _ c.index-start.ensures.offset c.in_err-by_length-in-CSYNC.ensures (own_csync _ _ _ _ c.read_data-data-in-CSYNC.ensures))
 
 pub returns-in-HINFO : goal.returns-in-HINFO
-returns-in-HINFO c = gives c.in-HINFO.is (counted_own types.HINFO rdata.HINFO _ c.index-start.ensures.offset c.in_ok-by_length-in-HINFO.ensures (own_hinfo _ c.read_data-data-in-HINFO.ensures))
+returns-in-HINFO c = gives c.in-HINFO.is (counted_own types.HINFO rdata.HINFO _ c.index-start.ensures.offset c.in_ok-by_length-in-HINFO.ensures (own_hinfo _ _ _ _ c.read_data-data-in-HINFO.ensures))
 
 pub returns-in_err-by_length-in-HINFO : goal.returns-in_err-by_length-in-HINFO
-returns-in_err-by_length-in-HINFO c = fails c.from_residual-in_err-by_length-in-HINFO.result c.in-HINFO.is c.from_residual-in_err-by_length-in-HINFO.ensures.1 (counted_own types.HINFO rdata.HINFO _ c.index-start.ensures.offset c.in_err-by_length-in-HINFO.ensures (own_hinfo _ c.read_data-data-in-HINFO.ensures))
+returns-in_err-by_length-in-HINFO c = fails c.from_residual-in_err-by_length-in-HINFO.result c.in-HINFO.is c.from_residual-in_err-by_length-in-HINFO.ensures.1 (counted_own types.HINFO rdata.HINFO _ c.index-start.ensures.offset c.in_err-by_length-in-HINFO.ensures (own_hinfo _ _ _ _ c.read_data-data-in-HINFO.ensures))
 
 pub returns-in-HTTPS : goal.returns-in-HTTPS
 returns-in-HTTPS c = gives c.in-HTTPS.is (counted_own types.HTTPS rdata.HTTPS _ c.index-start.ensures.offset c.in_ok-by_length-in-HTTPS.ensures (own_https _ c.read_data-data-in-HTTPS.ensures))
@@ -106,71 +106,71 @@ returns-in_err-by_length-in-HTTPS c = fails c.from_residual-in_err-by_length-in-
 
 pub returns-in-MX : goal.returns-in-MX
 returns-in-MX c =
-    gives c.in-MX.is (counted_own types.MX rdata.MX _ c.index-start.ensures.offset c.in_ok-by_length-in-MX.ensures (own_mx _ c.read_data-data-in-MX.ensures))
+    gives c.in-MX.is (counted_own types.MX rdata.MX _ c.index-start.ensures.offset c.in_ok-by_length-in-MX.ensures (own_mx _ _ _ _ c.read_data-data-in-MX.ensures))
 
 pub returns-in_err-by_length-in-MX : goal.returns-in_err-by_length-in-MX
-returns-in_err-by_length-in-MX c = fails c.from_residual-in_err-by_length-in-MX.result c.in-MX.is c.from_residual-in_err-by_length-in-MX.ensures.1 (counted_own types.MX rdata.MX _ c.index-start.ensures.offset c.in_err-by_length-in-MX.ensures (own_mx _ c.read_data-data-in-MX.ensures))
+returns-in_err-by_length-in-MX c = fails c.from_residual-in_err-by_length-in-MX.result c.in-MX.is c.from_residual-in_err-by_length-in-MX.ensures.1 (counted_own types.MX rdata.MX _ c.index-start.ensures.offset c.in_err-by_length-in-MX.ensures (own_mx _ _ _ _ c.read_data-data-in-MX.ensures))
 
 pub returns-in-NAPTR : goal.returns-in-NAPTR
-returns-in-NAPTR c = gives c.in-NAPTR.is (counted_own types.NAPTR rdata.NAPTR _ c.index-start.ensures.offset c.in_ok-by_length-in-NAPTR.ensures (own_naptr _ c.read_data-data-in-NAPTR.ensures))
+returns-in-NAPTR c = gives c.in-NAPTR.is (counted_own types.NAPTR rdata.NAPTR _ c.index-start.ensures.offset c.in_ok-by_length-in-NAPTR.ensures (own_naptr _ _ _ _ c.read_data-data-in-NAPTR.ensures))
 
 pub returns-in_err-by_length-in-NAPTR : goal.returns-in_err-by_length-in-NAPTR
-returns-in_err-by_length-in-NAPTR c = fails c.from_residual-in_err-by_length-in-NAPTR.result c.in-NAPTR.is c.from_residual-in_err-by_length-in-NAPTR.ensures.1 (counted_own types.NAPTR rdata.NAPTR _ c.index-start.ensures.offset c.in_err-by_length-in-NAPTR.ensures (own_naptr _ c.read_data-data-in-NAPTR.ensures))
+returns-in_err-by_length-in-NAPTR c = fails c.from_residual-in_err-by_length-in-NAPTR.result c.in-NAPTR.is c.from_residual-in_err-by_length-in-NAPTR.ensures.1 (counted_own types.NAPTR rdata.NAPTR _ c.index-start.ensures.offset c.in_err-by_length-in-NAPTR.ensures (own_naptr _ _ _ _ c.read_data-data-in-NAPTR.ensures))
 
 pub returns-in-NULL : goal.returns-in-NULL
-returns-in-NULL c = gives c.in-NULL.is (counted_own types.NULL rdata.NULL _ c.index-start.ensures.offset c.in_ok-by_length-in-NULL.ensures (own_null _ c.read_data-data-in-NULL.ensures))
+returns-in-NULL c = gives c.in-NULL.is (counted_own types.NULL rdata.NULL _ c.index-start.ensures.offset c.in_ok-by_length-in-NULL.ensures (own_null _ _ _ _ c.read_data-data-in-NULL.ensures))
 
 pub returns-in_err-by_length-in-NULL : goal.returns-in_err-by_length-in-NULL
-returns-in_err-by_length-in-NULL c = fails c.from_residual-in_err-by_length-in-NULL.result c.in-NULL.is c.from_residual-in_err-by_length-in-NULL.ensures.1 (counted_own types.NULL rdata.NULL _ c.index-start.ensures.offset c.in_err-by_length-in-NULL.ensures (own_null _ c.read_data-data-in-NULL.ensures))
+returns-in_err-by_length-in-NULL c = fails c.from_residual-in_err-by_length-in-NULL.result c.in-NULL.is c.from_residual-in_err-by_length-in-NULL.ensures.1 (counted_own types.NULL rdata.NULL _ c.index-start.ensures.offset c.in_err-by_length-in-NULL.ensures (own_null _ _ _ _ c.read_data-data-in-NULL.ensures))
 
 pub returns-in-NS : goal.returns-in-NS
 returns-in-NS c =
-    gives c.in-NS.is (counted_own types.NS rdata.NS _ c.index-start.ensures.offset c.in_ok-by_length-in-NS.ensures (own_ns _ c.read_data-data-in-NS.ensures))
+    gives c.in-NS.is (counted_own types.NS rdata.NS _ c.index-start.ensures.offset c.in_ok-by_length-in-NS.ensures (own_ns _ _ _ _ c.read_data-data-in-NS.ensures))
 
 pub returns-in_err-by_length-in-NS : goal.returns-in_err-by_length-in-NS
-returns-in_err-by_length-in-NS c = fails c.from_residual-in_err-by_length-in-NS.result c.in-NS.is c.from_residual-in_err-by_length-in-NS.ensures.1 (counted_own types.NS rdata.NS _ c.index-start.ensures.offset c.in_err-by_length-in-NS.ensures (own_ns _ c.read_data-data-in-NS.ensures))
+returns-in_err-by_length-in-NS c = fails c.from_residual-in_err-by_length-in-NS.result c.in-NS.is c.from_residual-in_err-by_length-in-NS.ensures.1 (counted_own types.NS rdata.NS _ c.index-start.ensures.offset c.in_err-by_length-in-NS.ensures (own_ns _ _ _ _ c.read_data-data-in-NS.ensures))
 
 pub returns-in-OPENPGPKEY : goal.returns-in-OPENPGPKEY
-returns-in-OPENPGPKEY c = gives c.in-OPENPGPKEY.is (counted_own types.OPENPGPKEY rdata.OPENPGPKEY _ c.index-start.ensures.offset c.in_ok-by_length-in-OPENPGPKEY.ensures (own_openpgpkey _ c.read_data-data-in-OPENPGPKEY.ensures))
+returns-in-OPENPGPKEY c = gives c.in-OPENPGPKEY.is (counted_own types.OPENPGPKEY rdata.OPENPGPKEY _ c.index-start.ensures.offset c.in_ok-by_length-in-OPENPGPKEY.ensures (own_openpgpkey _ _ _ _ c.read_data-data-in-OPENPGPKEY.ensures))
 
 pub returns-in_err-by_length-in-OPENPGPKEY : goal.returns-in_err-by_length-in-OPENPGPKEY
-returns-in_err-by_length-in-OPENPGPKEY c = fails c.from_residual-in_err-by_length-in-OPENPGPKEY.result c.in-OPENPGPKEY.is c.from_residual-in_err-by_length-in-OPENPGPKEY.ensures.1 (counted_own types.OPENPGPKEY rdata.OPENPGPKEY _ c.index-start.ensures.offset c.in_err-by_length-in-OPENPGPKEY.ensures (own_openpgpkey _ c.read_data-data-in-OPENPGPKEY.ensures))
+returns-in_err-by_length-in-OPENPGPKEY c = fails c.from_residual-in_err-by_length-in-OPENPGPKEY.result c.in-OPENPGPKEY.is c.from_residual-in_err-by_length-in-OPENPGPKEY.ensures.1 (counted_own types.OPENPGPKEY rdata.OPENPGPKEY _ c.index-start.ensures.offset c.in_err-by_length-in-OPENPGPKEY.ensures (own_openpgpkey _ _ _ _ c.read_data-data-in-OPENPGPKEY.ensures))
 
 pub returns-in-OPT : goal.returns-in-OPT
-returns-in-OPT c = gives c.in-OPT.is (counted_own types.OPT rdata.OPT _ c.index-start.ensures.offset c.in_ok-by_length-in-OPT.ensures (own_opt _ c.read_data-data-in-OPT.ensures))
+returns-in-OPT c = gives c.in-OPT.is (counted_own types.OPT rdata.OPT _ c.index-start.ensures.offset c.in_ok-by_length-in-OPT.ensures (own_opt _ _ _ _ c.read_data-data-in-OPT.ensures))
 
 pub returns-in_err-by_length-in-OPT : goal.returns-in_err-by_length-in-OPT
-returns-in_err-by_length-in-OPT c = fails c.from_residual-in_err-by_length-in-OPT.result c.in-OPT.is c.from_residual-in_err-by_length-in-OPT.ensures.1 (counted_own types.OPT rdata.OPT _ c.index-start.ensures.offset c.in_err-by_length-in-OPT.ensures (own_opt _ c.read_data-data-in-OPT.ensures))
+returns-in_err-by_length-in-OPT c = fails c.from_residual-in_err-by_length-in-OPT.result c.in-OPT.is c.from_residual-in_err-by_length-in-OPT.ensures.1 (counted_own types.OPT rdata.OPT _ c.index-start.ensures.offset c.in_err-by_length-in-OPT.ensures (own_opt _ _ _ _ c.read_data-data-in-OPT.ensures))
 
 pub returns-in-PTR : goal.returns-in-PTR
-returns-in-PTR c = gives c.in-PTR.is (counted_own types.PTR rdata.PTR _ c.index-start.ensures.offset c.in_ok-by_length-in-PTR.ensures (own_ptr _ c.read_data-data-in-PTR.ensures))
+returns-in-PTR c = gives c.in-PTR.is (counted_own types.PTR rdata.PTR _ c.index-start.ensures.offset c.in_ok-by_length-in-PTR.ensures (own_ptr _ _ _ _ c.read_data-data-in-PTR.ensures))
 
 pub returns-in_err-by_length-in-PTR : goal.returns-in_err-by_length-in-PTR
-returns-in_err-by_length-in-PTR c = fails c.from_residual-in_err-by_length-in-PTR.result c.in-PTR.is c.from_residual-in_err-by_length-in-PTR.ensures.1 (counted_own types.PTR rdata.PTR _ c.index-start.ensures.offset c.in_err-by_length-in-PTR.ensures (own_ptr _ c.read_data-data-in-PTR.ensures))
+returns-in_err-by_length-in-PTR c = fails c.from_residual-in_err-by_length-in-PTR.result c.in-PTR.is c.from_residual-in_err-by_length-in-PTR.ensures.1 (counted_own types.PTR rdata.PTR _ c.index-start.ensures.offset c.in_err-by_length-in-PTR.ensures (own_ptr _ _ _ _ c.read_data-data-in-PTR.ensures))
 
 pub returns-in-SMIMEA : goal.returns-in-SMIMEA
-returns-in-SMIMEA c = gives c.in-SMIMEA.is (counted_own types.SMIMEA rdata.SMIMEA _ c.index-start.ensures.offset c.in_ok-by_length-in-SMIMEA.ensures (own_smimea _ c.read_data-data-in-SMIMEA.ensures))
+returns-in-SMIMEA c = gives c.in-SMIMEA.is (counted_own types.SMIMEA rdata.SMIMEA _ c.index-start.ensures.offset c.in_ok-by_length-in-SMIMEA.ensures (own_smimea _ _ _ _ c.read_data-data-in-SMIMEA.ensures))
 
 pub returns-in_err-by_length-in-SMIMEA : goal.returns-in_err-by_length-in-SMIMEA
-returns-in_err-by_length-in-SMIMEA c = fails c.from_residual-in_err-by_length-in-SMIMEA.result c.in-SMIMEA.is c.from_residual-in_err-by_length-in-SMIMEA.ensures.1 (counted_own types.SMIMEA rdata.SMIMEA _ c.index-start.ensures.offset c.in_err-by_length-in-SMIMEA.ensures (own_smimea _ c.read_data-data-in-SMIMEA.ensures))
+returns-in_err-by_length-in-SMIMEA c = fails c.from_residual-in_err-by_length-in-SMIMEA.result c.in-SMIMEA.is c.from_residual-in_err-by_length-in-SMIMEA.ensures.1 (counted_own types.SMIMEA rdata.SMIMEA _ c.index-start.ensures.offset c.in_err-by_length-in-SMIMEA.ensures (own_smimea _ _ _ _ c.read_data-data-in-SMIMEA.ensures))
 
 pub returns-in-SOA : goal.returns-in-SOA
-returns-in-SOA c = gives c.in-SOA.is (counted_own types.SOA rdata.SOA _ c.index-start.ensures.offset c.in_ok-by_length-in-SOA.ensures (own_soa _ c.read_data-data-in-SOA.ensures))
+returns-in-SOA c = gives c.in-SOA.is (counted_own types.SOA rdata.SOA _ c.index-start.ensures.offset c.in_ok-by_length-in-SOA.ensures (own_soa _ _ _ _ c.read_data-data-in-SOA.ensures))
 
 pub returns-in_err-by_length-in-SOA : goal.returns-in_err-by_length-in-SOA
-returns-in_err-by_length-in-SOA c = fails c.from_residual-in_err-by_length-in-SOA.result c.in-SOA.is c.from_residual-in_err-by_length-in-SOA.ensures.1 (counted_own types.SOA rdata.SOA _ c.index-start.ensures.offset c.in_err-by_length-in-SOA.ensures (own_soa _ c.read_data-data-in-SOA.ensures))
+returns-in_err-by_length-in-SOA c = fails c.from_residual-in_err-by_length-in-SOA.result c.in-SOA.is c.from_residual-in_err-by_length-in-SOA.ensures.1 (counted_own types.SOA rdata.SOA _ c.index-start.ensures.offset c.in_err-by_length-in-SOA.ensures (own_soa _ _ _ _ c.read_data-data-in-SOA.ensures))
 
 pub returns-in-SRV : goal.returns-in-SRV
-returns-in-SRV c = gives c.in-SRV.is (counted_own types.SRV rdata.SRV _ c.index-start.ensures.offset c.in_ok-by_length-in-SRV.ensures (own_srv _ c.read_data-data-in-SRV.ensures))
+returns-in-SRV c = gives c.in-SRV.is (counted_own types.SRV rdata.SRV _ c.index-start.ensures.offset c.in_ok-by_length-in-SRV.ensures (own_srv _ _ _ _ c.read_data-data-in-SRV.ensures))
 
 pub returns-in_err-by_length-in-SRV : goal.returns-in_err-by_length-in-SRV
-returns-in_err-by_length-in-SRV c = fails c.from_residual-in_err-by_length-in-SRV.result c.in-SRV.is c.from_residual-in_err-by_length-in-SRV.ensures.1 (counted_own types.SRV rdata.SRV _ c.index-start.ensures.offset c.in_err-by_length-in-SRV.ensures (own_srv _ c.read_data-data-in-SRV.ensures))
+returns-in_err-by_length-in-SRV c = fails c.from_residual-in_err-by_length-in-SRV.result c.in-SRV.is c.from_residual-in_err-by_length-in-SRV.ensures.1 (counted_own types.SRV rdata.SRV _ c.index-start.ensures.offset c.in_err-by_length-in-SRV.ensures (own_srv _ _ _ _ c.read_data-data-in-SRV.ensures))
 
 pub returns-in-SSHFP : goal.returns-in-SSHFP
-returns-in-SSHFP c = gives c.in-SSHFP.is (counted_own types.SSHFP rdata.SSHFP _ c.index-start.ensures.offset c.in_ok-by_length-in-SSHFP.ensures (own_sshfp _ c.read_data-data-in-SSHFP.ensures))
+returns-in-SSHFP c = gives c.in-SSHFP.is (counted_own types.SSHFP rdata.SSHFP _ c.index-start.ensures.offset c.in_ok-by_length-in-SSHFP.ensures (own_sshfp _ _ _ _ c.read_data-data-in-SSHFP.ensures))
 
 pub returns-in_err-by_length-in-SSHFP : goal.returns-in_err-by_length-in-SSHFP
-returns-in_err-by_length-in-SSHFP c = fails c.from_residual-in_err-by_length-in-SSHFP.result c.in-SSHFP.is c.from_residual-in_err-by_length-in-SSHFP.ensures.1 (counted_own types.SSHFP rdata.SSHFP _ c.index-start.ensures.offset c.in_err-by_length-in-SSHFP.ensures (own_sshfp _ c.read_data-data-in-SSHFP.ensures))
+returns-in_err-by_length-in-SSHFP c = fails c.from_residual-in_err-by_length-in-SSHFP.result c.in-SSHFP.is c.from_residual-in_err-by_length-in-SSHFP.ensures.1 (counted_own types.SSHFP rdata.SSHFP _ c.index-start.ensures.offset c.in_err-by_length-in-SSHFP.ensures (own_sshfp _ _ _ _ c.read_data-data-in-SSHFP.ensures))
 
 pub returns-in-SVCB : goal.returns-in-SVCB
 returns-in-SVCB c = gives c.in-SVCB.is (counted_own types.SVCB rdata.SVCB _ c.index-start.ensures.offset c.in_ok-by_length-in-SVCB.ensures (own_svcb _ c.read_data-data-in-SVCB.ensures))
@@ -179,10 +179,10 @@ pub returns-in_err-by_length-in-SVCB : goal.returns-in_err-by_length-in-SVCB
 returns-in_err-by_length-in-SVCB c = fails c.from_residual-in_err-by_length-in-SVCB.result c.in-SVCB.is c.from_residual-in_err-by_length-in-SVCB.ensures.1 (counted_own types.SVCB rdata.SVCB _ c.index-start.ensures.offset c.in_err-by_length-in-SVCB.ensures (own_svcb _ c.read_data-data-in-SVCB.ensures))
 
 pub returns-in-TLSA : goal.returns-in-TLSA
-returns-in-TLSA c = gives c.in-TLSA.is (counted_own types.TLSA rdata.TLSA _ c.index-start.ensures.offset c.in_ok-by_length-in-TLSA.ensures (own_tlsa _ c.read_data-data-in-TLSA.ensures))
+returns-in-TLSA c = gives c.in-TLSA.is (counted_own types.TLSA rdata.TLSA _ c.index-start.ensures.offset c.in_ok-by_length-in-TLSA.ensures (own_tlsa _ _ _ _ c.read_data-data-in-TLSA.ensures))
 
 pub returns-in_err-by_length-in-TLSA : goal.returns-in_err-by_length-in-TLSA
-returns-in_err-by_length-in-TLSA c = fails c.from_residual-in_err-by_length-in-TLSA.result c.in-TLSA.is c.from_residual-in_err-by_length-in-TLSA.ensures.1 (counted_own types.TLSA rdata.TLSA _ c.index-start.ensures.offset c.in_err-by_length-in-TLSA.ensures (own_tlsa _ c.read_data-data-in-TLSA.ensures))
+returns-in_err-by_length-in-TLSA c = fails c.from_residual-in_err-by_length-in-TLSA.result c.in-TLSA.is c.from_residual-in_err-by_length-in-TLSA.ensures.1 (counted_own types.TLSA rdata.TLSA _ c.index-start.ensures.offset c.in_err-by_length-in-TLSA.ensures (own_tlsa _ _ _ _ c.read_data-data-in-TLSA.ensures))
 
 pub returns-in-TXT : goal.returns-in-TXT
 returns-in-TXT c = gives c.in-TXT.is (counted_own types.TXT rdata.TXT _ c.index-start.ensures.offset c.in_ok-by_length-in-TXT.ensures (own_txt _ c.read_data-data-in-TXT.ensures))
