@@ -1,28 +1,12 @@
 -- The first canonical octets as a number.
-use Rattle.std.proofs.Common.{◌≡◌, ℕ, zero, suc, ◌+◌, ◌<◌, ◌≤◌, ⊎_elim, List, [], ◌∷◌, ◌++◌, length, min, take, drop, get_or, replicate, refl, sym, ap, ◌∙◌, arith, subst}
+use Rattle.std.proofs.Common.{◌≡◌, ℕ, ◌+◌, ◌<◌, ◌≤◌, ⊎_elim, List, length, get_or, sym, ◌∙◌, arith, subst}
 use Rattle.std.proofs.{lemmas.Bool.cases_lt, Math.ListN.get_or-eq_default}
-use Rattle.std.specs.{Int.from_be_bytes, Int.w64}
 use Rattle.dns_fields.specs.Octets.{AreOctets}
 use Rattle.dns_fields.proofs.OctetLaws.{canonical_octets_are}
-use Rattle.dns_canonical.specs.Runs.{Copies}
 use Rattle.dns_types.specs.declared.record_type.RecordType.{RecordType}
-use Rattle.dns_view.specs.Putting.{padded, key_of}
 use Rattle.dns_view.proofs.OrderKeys.{keys_tell}
 use Rattle.dns_rdata.specs.{declared.record_data.RData.RData, Data.shape, Data.Fills, Data.data_octets, Laws.KeysTell}
 use Rattle.dns_rdata.proofs.{DataLaws.filled_octets, OrderReads.orders_read}
-
-zeros : (k : ℕ) → replicate k 0 ≡ padded k []
-zeros zero = refl
-zeros (suc k) = ap (λ (s : List ℕ). 0 ∷ s) (zeros k)
-
--- as many octets as there are and fit, before zeros
-copied : (k n : ℕ) (xs : List ℕ) → n ≡ min (length xs) k → take n xs ++ drop n (replicate k 0) ≡ padded k xs
-copied zero zero xs e = refl
-copied zero (suc n) xs e = absurd (omega (arith, e))
-copied (suc k) zero [] e = zeros (suc k)
-copied (suc k) (suc n) [] e = absurd (omega (arith, e))
-copied (suc k) zero (x ∷ xs) e = absurd (omega (arith, e))
-copied (suc k) (suc n) (x ∷ xs) e = ap (λ (s : List ℕ). x ∷ s) (copied k n xs (omega (arith, e)))
 
 small : (xs : List ℕ) → AreOctets xs → (i : ℕ) → get_or xs i 0 < 256
 small xs h i = ⊎_elim (λ (l : i < length xs). h i 0 l) (λ (l : length xs ≤ i). omega (arith, get_or-eq_default xs 0 l)) (cases_lt i (length xs))

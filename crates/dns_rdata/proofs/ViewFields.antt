@@ -33,10 +33,6 @@ left_more {A} P count i x xs here l = (omega (arith, l.0), each) where
 
 -- ---- fields
 
-pub few_fields : (v : RData) → length (fields_of v).kinds ≤ 64
-few_fields (rdata.A x) = omega arith
-few_fields v = omega arith
-
 shown_below : (kinds : List Kind) (vs : Values kinds) (i : ℕ) (f : FieldRef) → ShowsAt i kinds vs f → i < length kinds
 shown_below [] vs i f h = absurd h
 shown_below (k ∷ kinds) vs zero f h = omega arith

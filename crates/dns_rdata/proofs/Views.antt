@@ -316,12 +316,12 @@ filled_as {m} {l} {p} {q} {n} {k} {parts} {others} a b c d f =
     (subst (λ (x : ℕ). FillsRow m x k others) b (subst (λ (x : ℕ). FillsRow m p x others) c (subst (λ (x : List Part). FillsRow m p n x) d f)))
 
 pub view_found : (t : RecordType) (n : ℕ) (old d : Reading) (parts : List Part) (r : RowView) → d ≡ old → parts ≡ parts_of (table t) → (IsNeverRead t → ⊥)
-    → row_view.IsViewOf d n parts r → IsViewOf old.message old.index n t (record { view = r; record_type = t })
+    → row_view.IsViewOf d n parts r × (r.record_type ≡ t) → IsViewOf old.message old.index n t (record { view = r })
 view_found t n old d parts r same is read v =
     let w : row_view.IsViewOf old n (parts_of (table t)) r =
-    subst (λ (x : List Part). row_view.IsViewOf old n x r) is (subst (λ (x : Reading). row_view.IsViewOf x n parts r) same v) in
+    subst (λ (x : List Part). row_view.IsViewOf old n x r) is (subst (λ (x : Reading). row_view.IsViewOf x n parts r) same v.0) in
     record {
-      type = refl;
+      type = v.1;
       view = record { message = w.message; offset = w.offset; len = w.len; row = w.row; fills = w.fills };
       filled = row_value_is old.message old.index n t read (filled_as w.message w.offset w.len w.row w.fills);
     }

@@ -8,7 +8,7 @@ use Rattle.dns_rdata.specs.{Data.parts_of, Data.HasValue, Order.rdata_cmp, decla
 
 -- In the message m, the n octets from p are the RDATA of a record of type t, and this is the view of them.
 pub record IsViewOf (m : List ℕ) (p n : ℕ) (t : RecordType) (r : RDataRef) : Type 0 where
-  pub type : r.record_type ≡ t
+  pub type : r.view.record_type ≡ t
   pub view : row_view.IsViewOf (record { message = m; index = p }) n (parts_of (table t)) r.view
   pub filled : HasValue m p n t
 

@@ -27,7 +27,6 @@ use std::net::{IpAddr, Ipv4Addr, Ipv6Addr};
 #[derive(Clone, Copy)]
 pub struct RDataRef<'a> {
     view: RowView<'a>,
-    record_type: RecordType,
 }
 
 // The row of a type; `None` if RDATA of the type is never read.
@@ -106,10 +105,10 @@ impl<'a> RDataRef<'a> {
         };
         let mut walk = Walk::at(decoder.message(), start);
         let mut unlimited = usize::MAX;
-        let outcome = RowView::read(&mut walk, parts, length, &mut unlimited);
+        let outcome = RowView::read(&mut walk, record_type, parts, length, &mut unlimited);
         let _taken = decoder.read_slice(walk.index() - start);
         match outcome {
-            Ok(view) => Ok(RDataRef { view, record_type }),
+            Ok(view) => Ok(RDataRef { view }),
             Err(e) => Err(e),
         }
     }
@@ -142,8 +141,8 @@ impl<'a> RDataRef<'a> {
         let Some(parts) = parts_of_type(record_type) else {
             return Err(DecodeError::UnknownRecordTypeValue(record_type.into()));
         };
-        match RowView::read(walk, parts, length, left) {
-            Ok(view) => Ok(RDataRef { view, record_type }),
+        match RowView::read(walk, record_type, parts, length, left) {
+            Ok(view) => Ok(RDataRef { view }),
             Err(e) => Err(e),
         }
     }
@@ -193,7 +192,7 @@ impl<'a> RDataRef<'a> {
     pub fn record_type(&self) -> RecordType
         ensures { (m : List ℕ) (p n : ℕ) (t : RecordType) → IsViewOf m p n t self.now → result ≡ t }
     {
-        self.record_type
+        self.view.record_type()
     }
 
     /// The octets of the RDATA, as they are encoded in the message: names may end with a compression pointer.
@@ -240,7 +239,7 @@ impl<'a> RDataRef<'a> {
         ensures { (m : List ℕ) (p n : ℕ) (t : RecordType) (v : RData) (l : List ℕ) (q k : ℕ) (u : RecordType) (w : RData) →
             IsViewOf m p n t self.now → Fills m p n t v → IsViewOf l q k u other.now → Fills l q k u w → ComparesAs t u v w result }
     {
-        if self.record_type == other.record_type {
+        if self.record_type() == other.record_type() {
             return Some(self.view.compare(&other.view));
         }
         None
@@ -268,7 +267,7 @@ impl<'a> RDataRef<'a> {
         };
         match RData::read(
             &mut decoder,
-            self.record_type,
+            self.record_type(),
             Restrict::new(self.view.len()),
         ) {
             Ok(value) => Ok(value),
@@ -300,7 +299,7 @@ impl<'a> RDataRef<'a> {
     pub fn strings(&self) -> StringsRef<'a>
         ensures { (m : List ℕ) (p n : ℕ) (t : RecordType) (v : RData) → IsViewOf m p n t self.now → Fills m p n t v → result ≡ strings_in v }
     {
-        match self.record_type {
+        match self.record_type() {
             RecordType::TXT => StringsRef::of(self.octets()),
             _ => StringsRef::of(&[]),
         }
@@ -311,7 +310,7 @@ impl<'a> RDataRef<'a> {
     pub fn options(&self) -> Tlvs<'a>
         ensures { (m : List ℕ) (p n : ℕ) (t : RecordType) (v : RData) → IsViewOf m p n t self.now → Fills m p n t v → AllHeld OptionHeld result (options_in v) }
     {
-        match self.record_type {
+        match self.record_type() {
             RecordType::OPT => Tlvs::of_options(self.octets()),
             _ => Tlvs::of(&[]),
         }
@@ -341,7 +340,7 @@ impl<'a> RDataRef<'a> {
         ensures set { (m : List ℕ) (p n : ℕ) (t : RecordType) (v : RData) → IsViewOf m p n t self.now → Fills m p n t v → ListsTypes result (types_in v) }
         ensures order { (m : List ℕ) (p n : ℕ) (t : RecordType) → IsViewOf m p n t self.now → TypesInOrder m p n t result }
     {
-        match self.record_type {
+        match self.record_type() {
             RecordType::CSYNC => match self.octets().get(6..) {
                 Some(bitmap) => TypesRef::of(bitmap),
                 // Unreachable: serial and flags are six octets.
@@ -355,7 +354,7 @@ impl<'a> RDataRef<'a> {
     pub fn ip_addr(&self) -> Option<IpAddr>
         ensures { (m : List ℕ) (p n : ℕ) (t : RecordType) (v : RData) → IsViewOf m p n t self.now → Fills m p n t v → result ≡ address_of v }
     {
-        match self.record_type {
+        match self.record_type() {
             RecordType::A => ipv4_of(self.octets()),
             RecordType::AAAA => ipv6_of(self.octets()),
             _ => None,

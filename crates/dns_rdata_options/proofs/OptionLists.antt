@@ -17,28 +17,9 @@ use Rattle.dns_rdata_options.proofs.Selection.{all_push}
 use Rattle.dns_view.specs.Tlvs.{TlvThere}
 use Rattle.dns_view.proofs.{OptionLists.Begins, OptionLists.begins, OptionLists.prefix, OptionLists.first_left, OptionLists.ReadsOptions, TlvParts.part_there}
 use Rattle.dns_types.specs.declared.error.DecodeError.TheVariants as decode
+use Rattle.dns_view.proofs.OptionLists.{tlv_none, tlvs_more, field_left}
 
 -- ---- the next option is rejected
-
--- so nothing is left in any way
-tlv_none : {d new : Reading} {e : DecodeError} (start n : ℕ) → start ≤ d.index → d.index < start + n → RefusedTlv start n d e new
-    → NoneLeft d.message n d.index (start + n)
-tlv_none {d} {new} {e} start n le lt r = record { none = λ h. by (begins lt (omega (arith, le)) h) r.why } where
-  by : Begins d.message n d.index (start + n) → IsTlvError start n d e new → ⊥
-  by b (inl h) = omega (arith, b.code, b.within, h.lacks)
-  by b (inr (inl h)) =
-      let s = b.size (omega (arith, took_number h.took, h.before)) in
-      omega (arith, took_number h.took, s.3, b.within, h.lacks, ap length h.took.message)
-  by b (inr (inr (inl h))) = omega (arith, (b.size (omega (arith, b.code, r.past h.past))).3, h.past, h.short)
-  by b (inr (inr (inr (inl h)))) =
-      let (i, code, (j, size, end)) = h.took.stands in
-      let there : i ≡ d.index + 2 = omega (arith, code.is.1.ends, length-bytes 2 h.code) in
-      let behind : j ≡ i + 2 = omega (arith, size.is.1.ends, length-bytes 2 h.size) in
-      let s = b.size (omega (arith, there, behind, end, h.inside)) in
-      let field : Field d.message i (Number 2) h.size (i + 2) = subst (λ (q : ℕ). Field d.message i (Number 2) h.size q) behind size in
-      let same : s.0 ≡ h.size = field_same s.2 (subst (λ (k : ℕ). Field d.message k (Number 2) h.size (k + 2)) there field) in
-      omega (arith, s.1, same, h.long)
-  by b (inr (inr (inr (inr h)))) = omega (arith, b.within, h.record_left)
 
 -- a failed allocation says nothing of what is left
 abbrev pub RefusedHere : DecodeError → Reading → ℕ → ℕ → Reading → Type 0
@@ -111,9 +92,6 @@ pub record Counted (m : List ℕ) (count offset : ℕ) : Type 0 where
   pub are : AreTlvs read
   pub number : count ≡ length read
 
-tlvs_more : (xs : List (Numbered (List ℕ))) (x : Numbered (List ℕ)) → tlvs xs ++ tlv x ≡ tlvs (xs ++ x ∷ [])
-tlvs_more xs x = sym (flat_map-append tlv xs (x ∷ []) ∙ ap (λ (t : List ℕ). tlvs xs ++ t) (append-nil (tlv x)))
-
 -- one option more
 pub counted_more : {m : List ℕ} {count offset : ℕ} (f : ℕ) → ((i : ℕ) → get_or m i 0 < 256) → offset + (4 + f) ≤ length m → f < 65536
     → f ≡ from_be_bytes w16 (get_or m (offset + 2) 0 ∷ get_or m (offset + 3) 0 ∷ []) → Counted m count offset → Counted m (count + 1) (offset + (4 + f))
@@ -129,22 +107,6 @@ counted_more {m} {count} {offset} f small l fits is h =
     }
 
 -- ---- options that are read up to the end of a record
-
--- a field of options leaves all of it at its start
-field_left : {m : List ℕ} {p q : ℕ} {v : List (Numbered OptionValue)} → Field m p Options v q → OptionsLeft m (q - p) p q
-field_left {m} {p} {q} {v} f = of f.is where
-  of : CompleteOptions m p v q ⊎ ((v ≡ []) × TruncatedOptions m (q - p) p q) → OptionsLeft m (q - p) p q
-  of (inl w) = record {
-    read = w.read;
-    values = v;
-    stub = [];
-    at = subst (λ (o : List ℕ). At m p o q) (sym (append-nil (tlvs w.read))) w.at;
-    fit =
-        w.fit;
-    held = w.held;
-    ends = inl refl;
-  }
-  of (inr c) = record { read = c.1.read; values = c.1.dropped; stub = c.1.stub; at = c.1.at; fit = c.1.fit; held = c.1.held; ends = inr c.1.cut }
 
 pub options_refused : {e : DecodeError} {old d b : Reading} {done : List (Numbered OptionValue)} (start n : ℕ) → start ≡ old.index → d.index < start + n
     → ReadsOptions old n (start + n) done d → RefusedHere e d start n b

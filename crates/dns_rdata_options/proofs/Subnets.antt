@@ -10,7 +10,7 @@ use Rattle.dns_fields.proofs.Numbers.{length-bytes}
 use Rattle.dns_rdata_base.proofs.Addresses.{octets_of-segments}
 use Rattle.dns_rdata_options.specs.ClientSubnet.{IsReadSubnet, SubnetAt, IsFamily, family_of, address_octets, prefix_octets, family_octets, padded}
 use Rattle.dns_rdata_options.specs.{declared.opt.subnet.ClientSubnet.ClientSubnet, ClientSubnet.address_of, ClientSubnet.subnet_of, ClientSubnet.subnet_value}
-use Rattle.dns_view.proofs.Subnets.{Eights, head_first}
+use Rattle.dns_view.proofs.Subnets.{Eights, head_first, is_address}
 
 -- ---- a subnet that is encoded
 
@@ -57,10 +57,6 @@ value_back f source scope s a are = rw (family_back f s (address_known f source 
 
 pub made_read : (f source scope : ℕ) (s : List ℕ) → IsAddress f source s → AreOctets s → IsReadSubnet (subnet_of f source scope s)
 made_read f source scope s a are = record { padded = rw (family_back f s (address_known f source s a).0, octets_front f source s a are) refl }
-
-pub is_address : (f source : ℕ) (s : List ℕ) → IsFamily f → length s ≡ prefix_octets source → length s ≤ family_octets f → IsAddress f source s
-is_address f source s (inl e) long le = record { long = long; most = inl (e, omega (arith, rw e at le)) }
-is_address f source s (inr e) long le = record { long = long; most = inr (e, omega (arith, rw e at le)) }
 
 pub at_zero : (s x r : List ℕ) → s ≡ x ++ r → At s 0 x (length x)
 at_zero s x r e = record {

@@ -12,14 +12,7 @@ use Rattle.dns_rdata_options.specs.{Steps.octets_cmp, Steps.tlv_cmp, Steps.own_t
 use Rattle.dns_rdata_options.specs.{OPT.Pair, OPT.pair_value, OPT.opt_shape, OPT.opt_fields, Order.pair_cmp, Order.risen, Order.opt_eq, EdnsOption.option_value}
 use Rattle.dns_rdata_options.specs.OrderLaws.{pair_total, opt_ties}
 use Rattle.dns_rdata_options.proofs.Pairs.{is_short}
-
--- if neither octets are the beginning of the other, the first difference decides; if they are the same, what follows decides
-free_then : (p q u v : List ℕ) → ((r s : List ℕ) → p ++ r ≡ q ++ s → p ≡ q) → octets_cmp (p ++ u) (q ++ v) ≡ ordering_then (octets_cmp p q) (octets_cmp u v)
-free_then [] [] u v h = refl
-free_then [] (b ∷ q) u v h = let e : [] ≡ b ∷ q = h (b ∷ q) [] (sym (append-nil (b ∷ q))) in cc e
-free_then (a ∷ p) [] u v h = let e : a ∷ p ≡ [] = h [] (a ∷ p) (append-nil (a ∷ p)) in cc e
-free_then (a ∷ p) (b ∷ q) u v h = behind (nat_cmp a b) (octets_cmp (p ++ u) (q ++ v)) (octets_cmp p q) (octets_cmp u v)
-    (λ e. free_then p q u v (λ r s f. let g : a ∷ p ≡ b ∷ q = h r s (λ i. nat_cmp-IsAntisymmetric a b e i ∷ f i) in cc g))
+use Rattle.dns_view.proofs.OptionSorts.{free_then}
 
 same_tlv : (c d : ℕ) (s t u v : List ℕ) → length s < 256 ^ 2 → length t < 256 ^ 2 → tlv (c, s) ++ u ≡ tlv (d, t) ++ v → tlv (c, s) ≡ tlv (d, t)
 same_tlv c d s t u v h k e =

@@ -21,6 +21,7 @@ use Rattle.dns_view.proofs.ParameterLists.{parameters_each, each_parameters, eac
 use Rattle.dns_rdata_service.proofs.ValueReads.{NoKeyValue, key_none, EachOn, each_more}
 use Rattle.dns_view.proofs.Splits.{at_split, stays_then, all_behind, all_append}
 use Rattle.dns_types.specs.declared.error.DecodeError.TheVariants as decode
+use Rattle.dns_view.proofs.ParameterSteps.{NoParameter, truncated_none}
 
 -- ---- one parameter
 
@@ -39,35 +40,11 @@ one_taken {old} {a} {b} {new} {key} {size} {n} {octets} {v} f g h same held =
     record { octets = octets; at = whole; fits = (f.field.is.0, omega (arith, long, g.field.is.0)); held = held } in
     record { message = h.message ∙ mg; field = each_parameters whole.within (new.index, one, refl) (tt, tt) }
 
-pub record NoParameter (d : Reading) : Type 0 where
-  pub none : (x : Numbered ParameterValue) (q : ℕ) → OneOf d.message d.index x q → HasText x.0 x.1 → ⊥
-
 lacking_none : {old new : Reading} {e : DecodeError} → FirstLack (Number 2 ∷ Number 2 ∷ []) old e new → NoParameter old
 lacking_none {old} (inl h) = record { none = λ x q o u. omega (arith, h.1, one_long o, o.at.within) }
 lacking_none {old} (inr (n, between, took, inl h)) =
     record { none = λ x q o u. omega (arith, h.1, one_long o, o.at.within, took.field.is.1.ends, length-bytes 2 n, ap length took.message) }
 lacking_none {old} (inr (n, between, took, inr h)) = absurd h.3
-
-truncated_none : {old new : Reading} {e : DecodeError} → TruncatedValue old e new → NoParameter old
-truncated_none {old} {new} c = record {
-  none = λ x q o u.
-      let a = c.took.stands in
-      let heads : drop old.index old.message ≡ bytes_high_first 2 c.key ++ (bytes_high_first 2 c.size ++ drop a.2.0 old.message) = at_split a.1.is.1
-      ∙ ap (λ (l : List ℕ). bytes_high_first 2 c.key ++ l) (at_split a.2.1.is.1) in
-      let h = heads_same x.0 c.key (length o.octets) c.size (o.octets ++ drop q old.message) (drop a.2.0 old.message) o.fits.0 a.1.is.0 o.fits.1 a.2.1.is.0
-      (sym (at_split o.at ∙ tlv_before (x.0, o.octets) (drop q old.message)) ∙ heads) in
-      omega (
-        arith,
-        h.1,
-        ap length h.2,
-        length-append o.octets (drop q old.message),
-        length-drop a.2.0 old.message,
-        a.2.2,
-        c.all,
-        c.truncated,
-        ap length c.took.message,
-      );
-}
 
 value_refused : {old new : Reading} {e : DecodeError} → RefusedValue old e new → UnlessMemory e (NoParameter old)
 value_refused {old} {new} {e} c = unless_map e _ _ (λ (n : NoKeyValue c.key c.octets). record {

@@ -25,15 +25,12 @@ use Rattle.dns_rdata_service.proofs.EachEmits.{emits_all, emits_as, all_pass}
 use Rattle.dns_fields.proofs.{OctetLaws.AreOctets-at, Numbers.length-bytes}
 use Rattle.dns_rdata_base.proofs.Addresses.{octets_of-segments}
 use Rattle.dns_types.specs.declared.error.DecodeError.TheVariants as decode
+use Rattle.dns_view.proofs.ParameterSteps.{stand_push}
+use Rattle.dns_view.proofs.ValueForms.{length_groups, no_name, truncated_name, wrong_name, names_none, keys_none, text_form, no_text}
 
 pub record EachOn {T : Type 0} (S : List ℕ → ℕ → T → ℕ → Type 0) (old : Reading) (items : List T) (d : Reading) : Type 0 where
   pub behind : StaysBehind old d
   pub stand : StandEach S old.message old.index items d.index
-
-stand_push : {T : Type 0} (S : List ℕ → ℕ → T → ℕ → Type 0) (m : List ℕ) (p : ℕ) (xs : List T) (q : ℕ) (x : T) (r : ℕ) → StandEach S m p xs q → S m q x r
-    → StandEach S m p (xs ++ x ∷ []) r
-stand_push S m p [] q x r e h = (r, subst (λ (k : ℕ). S m k x r) (sym e) h, refl)
-stand_push S m p (y ∷ ys) q x r e h = (e.0, e.1, stand_push S m e.0 ys q x r e.2 h)
 
 pub each_more : {T : Type 0} (S : List ℕ → ℕ → T → ℕ → Type 0) {old d b : Reading} {items : List T} {x : T} → EachOn S old items d → StaysBehind d b
     → S d.message d.index x b.index → EachOn S old (items ++ x ∷ []) b
@@ -70,43 +67,6 @@ to_end m p q s le e = e ∙ ap (λ (l : List ℕ). s ++ l) (drop_all q m le) ∙
 pub record HoldsNone (form : ParameterForm) (body : List ℕ) : Type 0 where
   pub none : (v : ParameterValue) → form_of v ≡ form → IsEmittable v → IsBody body v → ⊥
 
-pub length_groups : (n : ℕ) (as' : List (List ℕ)) → AllByRecursion (λ a. length a ≡ n) as' → length (flat_map (λ a. a) as') ≡ n * length as'
-length_groups n [] h = omega arith
-length_groups n (a ∷ as') h = omega (arith, length-append a (flat_map (λ x. x) as'), h.0, length_groups n as' h.1)
-
-no_name : (names : List (List ℕ)) → names ≢ [] → [] ≡ flat_map string names → ⊥
-no_name [] some e = some refl
-no_name (s ∷ ss) some e = let f : [] ≡ length s ∷ (s ++ flat_map string ss) = e in absurd cc
-
-truncated_name : (size : ℕ) (octets : List ℕ) (rest : List (List ℕ)) → length octets < size → flat_map string rest ≡ size ∷ octets → ⊥
-truncated_name size octets [] truncated e = absurd cc
-truncated_name size octets (s ∷ ss) truncated e =
-    let f : length s ∷ (s ++ flat_map string ss) ≡ size ∷ octets = e in
-    let n : length s ≡ size = cc in
-    let t : s ++ flat_map string ss ≡ octets = cc in
-    omega (arith, ap length t, length-append s (flat_map string ss), n)
-
-wrong_name : (name rest : List ℕ) (names : List (List ℕ)) → (IsUtf8 name → ⊥) → AllByRecursion IsUtf8 names → flat_map string names ≡ string name ++ rest → ⊥
-wrong_name name rest [] wrong h e = let f : [] ≡ length name ∷ (name ++ rest) = e in absurd cc
-wrong_name name rest (s ∷ ss) wrong h e = wrong (subst IsUtf8 (string_first s name (flat_map string ss) rest e).0 h.0)
-
-names_none : (body : List ℕ) (e : DecodeError) (names : List (List ℕ)) → IsFormError Names body e → names ≢ [] → AllByRecursion IsUtf8 names
-    → body ≡ flat_map string names → ⊥
-names_none body e names (inl h) some texts b = no_name names some (sym h.1 ∙ b)
-names_none body e names (inr (inl h)) some texts b =
-    let c = h.1 in
-    let p = strings_prefix c.names names (c.size ∷ c.octets) (sym b ∙ c.split) in
-    truncated_name c.size c.octets p.0 c.truncated p.2
-names_none body e names (inr (inr h)) some texts b =
-    let c = h.1 in
-    let p = strings_prefix c.names names (string c.name ++ c.rest) (sym b ∙ c.split) in
-    wrong_name c.name c.rest p.0 c.wrong (all_behind IsUtf8 c.names p.0 (subst (AllByRecursion IsUtf8) p.1 texts)) p.2
-
-keys_none : (body : List ℕ) (e : DecodeError) (keys : List ℕ) → IsFormError Keys body e → keys ≢ [] → body ≡ flat_map (bytes_high_first 2) keys → ⊥
-keys_none body e [] (inl h) some b = some refl
-keys_none body e (k ∷ ks) (inl h) some b = omega (arith, length_numbers (k ∷ ks), ap length b, ap length h.1)
-keys_none body e keys (inr h) some b = omega (arith, h.1, length_numbers keys, ap length b)
-
 refused_none : (form : ParameterForm) (body : List ℕ) (e : DecodeError) → IsFormError form body e → (v : ParameterValue) → form_of v ≡ form → IsEmittable v
     → IsBody body v → ⊥
 refused_none Keys body e h (Mandatory keys) f s b = keys_none body e keys h s.0 b
@@ -125,13 +85,6 @@ value_none form body e (inr h) = unless_all e (record { none = refused_none form
 -- the octets hold no value of the key that is text where it has to be
 pub record NoKeyValue (key : ℕ) (body : List ℕ) : Type 0 where
   pub none : (v : ParameterValue) → ParameterHeld key body v → HasText key v → ⊥
-
-text_form : (key : ℕ) → is_text_key key ≡ true → form_for key ≡ AnyOctets
-text_form key is = grind (arith, common_steps, nat_tests, is)
-
-no_text : (key : ℕ) (body : List ℕ) → is_text_key key ≡ true → (IsUtf8 body → ⊥) → (v : ParameterValue) → ParameterHeld key body v → HasText key v → ⊥
-no_text key body is wrong (Opaque s) h text = wrong (subst IsUtf8 (sym h.2) (text is))
-no_text key body is wrong v h text = let e : form_of v ≡ AnyOctets = h.0 ∙ text_form key is in absurd (cc e)
 
 pub key_none : (key : ℕ) (body : List ℕ) (e : DecodeError) → IsKeyError key body e → UnlessMemory e (NoKeyValue key body)
 key_none key body e (inl h) = unless_map e _ _ (λ (n : HoldsNone (form_for key) body). record { none = λ v held text. n.none v held.0 held.1 held.2 })

@@ -46,7 +46,7 @@ begins {m} {n} {i} {end} lt fits h = first h.read h.stub h.at h.fit h.ends where
 -- ---- the next option is rejected
 
 -- so nothing is left in any way
-tlv_none : {d new : Reading} {e : DecodeError} (start n : ℕ) → start ≤ d.index → d.index < start + n → RefusedTlv start n d e new
+pub tlv_none : {d new : Reading} {e : DecodeError} (start n : ℕ) → start ≤ d.index → d.index < start + n → RefusedTlv start n d e new
     → NoneLeft d.message n d.index (start + n)
 tlv_none {d} {new} {e} start n le lt r = record { none = λ h. by (begins lt (omega (arith, le)) h) r.why } where
   by : Begins d.message n d.index (start + n) → IsTlvError start n d e new → ⊥
@@ -145,7 +145,7 @@ first_left {m} {n} {i} {j} {end} {x} a f inside h = first h.read h.values h.at h
         },
       )
 
-tlvs_more : (xs : List (Numbered (List ℕ))) (x : Numbered (List ℕ)) → tlvs xs ++ tlv x ≡ tlvs (xs ++ x ∷ [])
+pub tlvs_more : (xs : List (Numbered (List ℕ))) (x : Numbered (List ℕ)) → tlvs xs ++ tlv x ≡ tlvs (xs ++ x ∷ [])
 tlvs_more xs x = sym (flat_map-append tlv xs (x ∷ []) ∙ ap (λ (t : List ℕ). tlvs xs ++ t) (append-nil (tlv x)))
 
 -- ---- options that are read up to the end of a record
@@ -184,7 +184,7 @@ options_more {old} {d} {b} {n} {end} {done} {x} v r t held =
     }
 
 -- a field of options leaves all of it at its start
-field_left : {m : List ℕ} {p q : ℕ} {v : List (Numbered OptionValue)} → Field m p Options v q → OptionsLeft m (q - p) p q
+pub field_left : {m : List ℕ} {p q : ℕ} {v : List (Numbered OptionValue)} → Field m p Options v q → OptionsLeft m (q - p) p q
 field_left {m} {p} {q} {v} f = of f.is where
   of : CompleteOptions m p v q ⊎ ((v ≡ []) × TruncatedOptions m (q - p) p q) → OptionsLeft m (q - p) p q
   of (inl w) = record {

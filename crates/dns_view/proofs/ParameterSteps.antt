@@ -63,15 +63,15 @@ one_truncated {b = b} {key} {size} {left} f g all cut = inr (inl (record {
   truncated = cut;
 }))
 
-record NoParameter (d : Reading) : Type 0 where
-  none : (x : Numbered ParameterValue) (q : ℕ) → OneOf d.message d.index x q → HasText x.0 x.1 → ⊥
+pub record NoParameter (d : Reading) : Type 0 where
+  pub none : (x : Numbered ParameterValue) (q : ℕ) → OneOf d.message d.index x q → HasText x.0 x.1 → ⊥
 
 lacking_none : {old new : Reading} {e : DecodeError} → LacksHead old e new → NoParameter old
 lacking_none {old} (inl h) = record { none = λ x q o u. omega (arith, h.1, one_long o, o.at.within) }
 lacking_none {old} (inr (n, between, took, h)) =
     record { none = λ x q o u. omega (arith, h.1, one_long o, o.at.within, took.field.is.1.ends, length-bytes 2 n, ap length took.message) }
 
-truncated_none : {old new : Reading} {e : DecodeError} → TruncatedValue old e new → NoParameter old
+pub truncated_none : {old new : Reading} {e : DecodeError} → TruncatedValue old e new → NoParameter old
 truncated_none {old} {new} c = record {
   none = λ x q o u.
       let a = c.took.stands in
@@ -131,7 +131,7 @@ pub record ParametersOn (old : Reading) (last : Option ℕ) (d : Reading) : Type
   pub risen : Risen last items
   pub texts : HaveTexts items
 
-stand_push : {T : Type 0} (S : List ℕ → ℕ → T → ℕ → Type 0) (m : List ℕ) (p : ℕ) (xs : List T) (q : ℕ) (x : T) (r : ℕ) → StandEach S m p xs q → S m q x r
+pub stand_push : {T : Type 0} (S : List ℕ → ℕ → T → ℕ → Type 0) (m : List ℕ) (p : ℕ) (xs : List T) (q : ℕ) (x : T) (r : ℕ) → StandEach S m p xs q → S m q x r
     → StandEach S m p (xs ++ x ∷ []) r
 stand_push S m p [] q x r e h = (r, subst (λ (k : ℕ). S m k x r) (sym e) h, refl)
 stand_push S m p (y ∷ ys) q x r e h = (e.0, e.1, stand_push S m e.0 ys q x r e.2 h)

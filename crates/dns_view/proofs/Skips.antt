@@ -142,7 +142,7 @@ string_fault r start n old new e p why l = (why, l)
 pub lacks_of : {e : DecodeError} {old new : Reading} {k : Kind} → e ≡ decode.InsufficientBytes → RefusedField e old k new → LacksField old k
 lacks_of {e} {old} {new} {k} why r = let P : DecodeError → Type 0 = λ x. UnlessMemory x (LacksField old k) in subst P why r.none
 
-any_end : (rule : Rule) (end q : ℕ) → IsUnasked rule CharacterString → Ends CharacterString rule end q
+pub any_end : (rule : Rule) (end q : ℕ) → IsUnasked rule CharacterString → Ends CharacterString rule end q
 any_end rules.Tag end q u = absurd u
 any_end r end q u = tt
 

@@ -33,7 +33,7 @@ pub head_first : (s : List ℕ) (f : ℕ) → f ≡ from_be_bytes w16 (get_or s 
     → SubnetHead s f (get_or s 2 0) (get_or s 3 0) (drop 4 s)
 head_first s f e n b known = record { octets = family_first s f e (omega arith) b ∙ ap (λ (o : List ℕ). bytes_high_first 2 f ++ o) (heads s n); known = known }
 
-is_address : (f source : ℕ) (s : List ℕ) → IsFamily f → length s ≡ prefix_octets source → length s ≤ family_octets f → IsAddress f source s
+pub is_address : (f source : ℕ) (s : List ℕ) → IsFamily f → length s ≡ prefix_octets source → length s ≤ family_octets f → IsAddress f source s
 is_address f source s (inl e) long le = record { long = long; most = inl (e, omega (arith, rw e at le)) }
 is_address f source s (inr e) long le = record { long = long; most = inr (e, omega (arith, rw e at le)) }
 

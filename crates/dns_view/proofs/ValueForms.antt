@@ -16,15 +16,15 @@ use Rattle.dns_view.proofs.{Numbers.NumberOf}
 
 -- ---- what is none
 
-length_groups : (n : ℕ) (as' : List (List ℕ)) → AllByRecursion (λ a. length a ≡ n) as' → length (flat_map (λ a. a) as') ≡ n * length as'
+pub length_groups : (n : ℕ) (as' : List (List ℕ)) → AllByRecursion (λ a. length a ≡ n) as' → length (flat_map (λ a. a) as') ≡ n * length as'
 length_groups n [] h = omega arith
 length_groups n (a ∷ as') h = omega (arith, length-append a (flat_map (λ x. x) as'), h.0, length_groups n as' h.1)
 
-no_name : (names : List (List ℕ)) → names ≢ [] → [] ≡ flat_map string names → ⊥
+pub no_name : (names : List (List ℕ)) → names ≢ [] → [] ≡ flat_map string names → ⊥
 no_name [] some e = some refl
 no_name (s ∷ ss) some e = let f : [] ≡ length s ∷ (s ++ flat_map string ss) = e in absurd cc
 
-truncated_name : (size : ℕ) (octets : List ℕ) (rest : List (List ℕ)) → length octets < size → flat_map string rest ≡ size ∷ octets → ⊥
+pub truncated_name : (size : ℕ) (octets : List ℕ) (rest : List (List ℕ)) → length octets < size → flat_map string rest ≡ size ∷ octets → ⊥
 truncated_name size octets [] truncated e = absurd cc
 truncated_name size octets (s ∷ ss) truncated e =
     let f : length s ∷ (s ++ flat_map string ss) ≡ size ∷ octets = e in
@@ -32,11 +32,11 @@ truncated_name size octets (s ∷ ss) truncated e =
     let t : s ++ flat_map string ss ≡ octets = cc in
     omega (arith, ap length t, length-append s (flat_map string ss), n)
 
-wrong_name : (name rest : List ℕ) (names : List (List ℕ)) → (IsUtf8 name → ⊥) → AllByRecursion IsUtf8 names → flat_map string names ≡ string name ++ rest → ⊥
+pub wrong_name : (name rest : List ℕ) (names : List (List ℕ)) → (IsUtf8 name → ⊥) → AllByRecursion IsUtf8 names → flat_map string names ≡ string name ++ rest → ⊥
 wrong_name name rest [] wrong h e = let f : [] ≡ length name ∷ (name ++ rest) = e in absurd cc
 wrong_name name rest (s ∷ ss) wrong h e = wrong (subst IsUtf8 (string_first s name (flat_map string ss) rest e).0 h.0)
 
-names_none : (body : List ℕ) (e : DecodeError) (names : List (List ℕ)) → IsFormError Names body e → names ≢ [] → AllByRecursion IsUtf8 names
+pub names_none : (body : List ℕ) (e : DecodeError) (names : List (List ℕ)) → IsFormError Names body e → names ≢ [] → AllByRecursion IsUtf8 names
     → body ≡ flat_map string names → ⊥
 names_none body e names (inl h) some texts b = no_name names some (sym h.1 ∙ b)
 names_none body e names (inr (inl h)) some texts b =
@@ -48,12 +48,12 @@ names_none body e names (inr (inr h)) some texts b =
     let p = strings_prefix c.names names (string c.name ++ c.rest) (sym b ∙ c.split) in
     wrong_name c.name c.rest p.0 c.wrong (all_behind IsUtf8 c.names p.0 (subst (AllByRecursion IsUtf8) p.1 texts)) p.2
 
-keys_none : (body : List ℕ) (e : DecodeError) (keys : List ℕ) → IsFormError Keys body e → keys ≢ [] → body ≡ flat_map (bytes_high_first 2) keys → ⊥
+pub keys_none : (body : List ℕ) (e : DecodeError) (keys : List ℕ) → IsFormError Keys body e → keys ≢ [] → body ≡ flat_map (bytes_high_first 2) keys → ⊥
 keys_none body e [] (inl h) some b = some refl
 keys_none body e (k ∷ ks) (inl h) some b = omega (arith, length_numbers (k ∷ ks), ap length b, ap length h.1)
 keys_none body e keys (inr h) some b = omega (arith, h.1, length_numbers keys, ap length b)
 
-form_none : (form : ParameterForm) (body : List ℕ) (e : DecodeError) → IsFormError form body e → (v : ParameterValue) → form_of v ≡ form → IsEmittable v
+pub form_none : (form : ParameterForm) (body : List ℕ) (e : DecodeError) → IsFormError form body e → (v : ParameterValue) → form_of v ≡ form → IsEmittable v
     → IsBody body v → ⊥
 form_none Keys body e h (Mandatory keys) f s b = keys_none body e keys h s.0 b
 form_none Names body e h (Alpn names) f s b = names_none body e names h s.0 b.0 b.1
@@ -64,10 +64,10 @@ form_none Addresses16 body e h (Ipv6Hint as') f s b = h.1 (omega (arith, ap leng
 form_none AnyOctets body e h v f s b = elim h [ ]
 form_none form body e h v f s b = absurd (cc f)
 
-text_form : (key : ℕ) → is_text_key key ≡ true → form_for key ≡ AnyOctets
+pub text_form : (key : ℕ) → is_text_key key ≡ true → form_for key ≡ AnyOctets
 text_form key is = grind (arith, common_steps, nat_tests, is)
 
-no_text : (key : ℕ) (body : List ℕ) → is_text_key key ≡ true → (IsUtf8 body → ⊥) → (v : ParameterValue) → ParameterHeld key body v → HasText key v → ⊥
+pub no_text : (key : ℕ) (body : List ℕ) → is_text_key key ≡ true → (IsUtf8 body → ⊥) → (v : ParameterValue) → ParameterHeld key body v → HasText key v → ⊥
 no_text key body is wrong (Opaque s) h text = wrong (subst IsUtf8 (sym h.2) (text is))
 no_text key body is wrong v h text = let e : form_of v ≡ AnyOctets = h.0 ∙ text_form key is in absurd (cc e)
 

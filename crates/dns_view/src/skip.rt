@@ -4,7 +4,7 @@ ghost use Rattle.std.specs.Prelude.{◌≡◌, ◌<◌, ◌+◌, ◌≤◌, ℕ,
 ghost use Rattle.std.specs.{Char.is_ascii_alphanumeric, List.list_all};
 ghost use Rattle.dns_fields.specs.declared.Kind.TheVariants.{Number, Octets, Name, CharacterString, CharacterStrings, Rest, Bitmap};
 ghost use Rattle.dns_rows.specs.Rules.{AreLetters};
-ghost use Rattle.dns_view.specs.{Parts.Skips, Parts.IsCovered, Parts.IsUnasked, Parts.moved, Parts.step_of as octet_step};
+ghost use Rattle.dns_view.specs.{Parts.Skips, Parts.Asks, Parts.Ends, Parts.IsCovered, Parts.IsUnasked, Parts.moved, Parts.step_of as octet_step};
 ghost use Rattle.dns_view.specs.Rows.{IsRowChecked, IsOneField, SkipsRow, asked_length as row_asks};
 ghost use Rattle.dns_view.specs.{Pointers.Leaves, RowPointers.FieldPointers, RowPointers.RowPointers};
 
@@ -76,6 +76,38 @@ fn string_end(walk: &Walk<'_>) -> Option<usize>
     octets_end(walk, len as usize + 1)
 }
 
+// The offset after the character string at an offset, if the message has all of it and it is letters and digits: NAPTR's
+// flags, or the 1 to 15 of a tag (RFC 8659, 4.1), which must end within the RDATA. `None` for other rules.
+#[inline(never)]
+fn letters_end(message: &[u8], at: usize, rule: Rule, start: usize, len: usize) -> Option<usize>
+    requires within { at ≤ length message.now }
+    requires short { len < 65536 }
+    requires before { start ≤ at }
+    ensures { IfSome result (λ end. Skips rule CharacterString start len (Ok tt) (record { message = message.now; index = at })
+        (record { message = message.now; index = end })) }
+{
+    let end = string_end(&Walk::at(message, at))?;
+    let text = &message[at + 1..end];
+    if is_asked(text, rule, end, start + len) {
+        Some(end)
+    } else {
+        None
+    }
+}
+
+// Returns whether a string that ends at an offset is letters and digits as its rule asks.
+#[inline]
+fn is_asked(text: &[u8], rule: Rule, end: usize, data_end: usize) -> bool
+    ensures asked { result ≡ true → Asks rule CharacterString text.now }
+    ensures ends { result ≡ true → Ends CharacterString rule data_end end }
+{
+    match rule {
+        Rule::Letters => are_letters(text),
+        Rule::Tag => end <= data_end && 0 < text.len() && text.len() <= 15 && are_letters(text),
+        _ => false,
+    }
+}
+
 // The offset after the next field, if a few comparisons tell that it is there and as its rule asks. `None` says nothing
 // about the field.
 #[inline]
@@ -93,8 +125,7 @@ fn field_end(walk: &Walk<'_>, kind: Kind, rule: Rule, start: usize, len: usize) 
         },
         Kind::Octets(count) => octets_end(walk, count as usize),
         Kind::CharacterString => match rule {
-            Rule::Letters => None,
-            Rule::Tag => None,
+            Rule::Letters | Rule::Tag => letters_end(walk.message(), at, rule, start, len),
             _ => string_end(walk),
         },
         Kind::Rest if at < start + len => octets_end(walk, start + len - at),
@@ -414,12 +445,12 @@ fn skip_bitmap(walk: &mut Walk<'_>, rule: Rule, start: usize, len: usize) -> Res
 fn is_one_field(row: &[Part], len: usize) -> bool
     ensures { result ≡ true → IsOneField row.now len }
 {
-    if row.len() == 0 {
+    if row.len() != 1 {
         return false;
     }
     match row[0].kind {
-        Kind::Octets(count) if row.len() == 1 => count as usize == len,
-        Kind::Rest if row.len() == 1 => 0 < len,
+        Kind::Octets(count) => count as usize == len,
+        Kind::Rest => 0 < len,
         _ => false,
     }
 }

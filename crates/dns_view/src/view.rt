@@ -16,16 +16,17 @@ use crate::name_ref::NameRef;
 use crate::order::compare_rows;
 use crate::walk::Walk;
 use dns_rows::Part;
-use dns_types::{DecodeError, Restrict};
+use dns_types::{DecodeError, RecordType, Restrict};
 use std::cmp::Ordering;
 
-/// RDATA that was checked, as it is encoded in a message: the message, the offset of the RDATA, RDLENGTH, and the row of its
-/// type. A copy is cheap, and nothing is allocated.
+/// RDATA that was checked, as it is encoded in a message: the type of the record, RDLENGTH, the message, the offset of the
+/// RDATA, and the row of the type, in 48 octets. A copy is cheap, and nothing is allocated.
 #[derive(Clone, Copy)]
 pub struct RowView<'a> {
+    record_type: RecordType,
+    len: u16,
     message: &'a [u8],
     offset: usize,
-    len: usize,
     row: &'static [Part],
     ghost fills: { ∥ FillsRow message.now offset len row.now ∥₁ },
     ghost checked: { is_row row.now ≡ true },
@@ -38,7 +39,7 @@ impl<'a> RowView<'a> {
     ghost use Rattle.std.specs.{Cmp.Lexicographic.slice_cmp, Ordering.nat_cmp};
     ghost use Rattle.dns_view.specs.{ViewOf.IsViewOf, Shown.ShowsAt, NameFields.names_in, NameFields.ShowsNameAt};
 
-    /// Checks that the next `length` octets are RDATA of this row, and takes them. Takes off `left` how many
+    /// Checks that the next `length` octets are RDATA of the row of this type, and takes them. Takes off `left` how many
     /// compression pointers are followed, down to 0: those of the names up to and with a field that is rejected.
     /// Allocates nothing.
     ///
@@ -48,12 +49,13 @@ impl<'a> RowView<'a> {
     #[inline]
     pub fn read(
         walk: &mut Walk<'a>,
+        record_type: RecordType,
         row: &'static [Part],
         length: Restrict<u16>,
         left: &mut usize,
     ) -> Result<RowView<'a>, DecodeError>
         requires row { is_row row.now ≡ true }
-        ensures found { IfOk result (λ r. IsViewOf walk.old length row.now r) }
+        ensures found { IfOk result (λ r. IsViewOf walk.old length row.now r × (r.record_type ≡ record_type)) }
         ensures after { OnOk result (walk.new.index ≡ walk.old.index + length) }
         ensures refused { IfErr result (λ e. NoFill walk.old.message walk.old.index length row.now) }
         ensures why { IfErr result (λ e. IsRowError row.now length walk.old e walk.new) }
@@ -62,16 +64,25 @@ impl<'a> RowView<'a> {
     {
         let message = walk.message();
         let offset = walk.index();
-        let len = length.unverified() as usize;
-        match check_data(walk, row, len, left) {
+        let len = length.unverified();
+        match check_data(walk, row, len as usize, left) {
             Ok(()) => Ok(RowView {
+                record_type,
+                len,
                 message,
                 offset,
-                len,
                 row,
             }),
             Err(e) => Err(e),
         }
+    }
+
+    /// The type of the record.
+    #[inline]
+    pub fn record_type(&self) -> RecordType
+        ensures { result ≡ self.now.record_type }
+    {
+        self.record_type
     }
 
     /// The whole message.
@@ -95,14 +106,14 @@ impl<'a> RowView<'a> {
     pub fn len(&self) -> u16
         ensures { result ≡ self.now.len }
     {
-        self.len as u16
+        self.len
     }
 
     /// The octets of the RDATA, as they are encoded.
     pub fn octets(&self) -> &'a [u8]
         ensures { result.now ≡ take self.now.len (drop self.now.offset self.now.message.now) }
     {
-        &self.message[self.offset..self.offset + self.len]
+        &self.message[self.offset..self.offset + self.len as usize]
     }
 
     /// Writes the canonical octets at the front of a buffer, and returns how many they are: this library's own form for
@@ -114,7 +125,14 @@ impl<'a> RowView<'a> {
         ensures { (h : HasRow self.now.message.now self.now.offset self.now.row.now (self.now.offset + self.now.len)) →
             Put out.old out.new 0 result (canonical (kinds_of self.now.row.now) h.values) }
     {
-        match put_row(self.message, self.offset, self.row, self.len, true, out) {
+        match put_row(
+            self.message,
+            self.offset,
+            self.row,
+            self.len as usize,
+            true,
+            out,
+        ) {
             Some(count) => count,
             None => 0,
         }
@@ -128,7 +146,14 @@ impl<'a> RowView<'a> {
         ensures { (h : HasRow self.now.message.now self.now.offset self.now.row.now (self.now.offset + self.now.len)) →
             Put out.old out.new 0 result (all_form false (kinds_of self.now.row.now) h.values) }
     {
-        match put_row(self.message, self.offset, self.row, self.len, false, out) {
+        match put_row(
+            self.message,
+            self.offset,
+            self.row,
+            self.len as usize,
+            false,
+            out,
+        ) {
             Some(count) => count,
             None => 0,
         }
@@ -150,7 +175,13 @@ impl<'a> RowView<'a> {
         ensures { (h : HasRow self.now.message.now self.now.offset self.now.row.now (self.now.offset + self.now.len)) →
             MatchOption result (length self.now.row.now ≤ number) (λ f. ShowsAt number (kinds_of self.now.row.now) h.values f) }
     {
-        field_of(self.message, self.offset, self.row, self.len, number)
+        field_of(
+            self.message,
+            self.offset,
+            self.row,
+            self.len as usize,
+            number,
+        )
     }
 
     /// The name of this index among the fields that are names, or `None` if the row has fewer names. Allocates nothing.
@@ -159,7 +190,13 @@ impl<'a> RowView<'a> {
             MatchOption result (names_in (kinds_of self.now.row.now) ≤ index)
             (λ r. ShowsNameAt self.now.message.now self.now.offset (kinds_of self.now.row.now) h.values index r) }
     {
-        name_field_of(self.message, self.offset, self.row, self.len, index)
+        name_field_of(
+            self.message,
+            self.offset,
+            self.row,
+            self.len as usize,
+            index,
+        )
     }
 
     /// Orders RDATA of one row by canonical octets, this library's own form. Allocates nothing.
@@ -172,10 +209,10 @@ impl<'a> RowView<'a> {
         compare_rows(
             self.message,
             self.offset,
-            self.len,
+            self.len as usize,
             other.message,
             other.offset,
-            other.len,
+            other.len as usize,
             self.row,
         )
     }
