@@ -1,21 +1,20 @@
 -- Options one after the other.
-use Rattle.std.proofs.lemmas.List.{length-append, get_or-drop, map_push, append-nil}
+use Rattle.std.proofs.lemmas.List.{length-append, get_or-drop, map_push}
 use Rattle.std.proofs.Common.{suc, get_or, ◌-◌, Bool, true, map}
-use Rattle.std.proofs.lemmas.{Nat.from_be_bytes-to_be_bytes_2, Grind.flat_map-append}
+use Rattle.std.proofs.lemmas.{Nat.from_be_bytes-to_be_bytes_2}
 use Rattle.std.proofs.Common.{◌≡◌, ℕ, ◌+◌, ◌≤◌, ◌<◌, ◌⊎◌, inl, inr, List, [], ◌∷◌, ◌++◌, length, refl, sym, ap, ◌∙◌, arith, subst}
 use Rattle.std.specs.Int.{bytes_high_first, from_be_bytes, w16}
 use Rattle.dns_types.specs.declared.error.DecodeError.{DecodeError}
 use Rattle.dns_fields.specs.Tlvs.{Numbered, tlv, tlvs, IsTlv, AreTlvs, OptionValue, IsTruncated}
-use Rattle.dns_fields.specs.{declared.Kind.TheVariants.Number, Fields.Field, declared.Kind.TheVariants.Options}
-use Rattle.dns_fields.specs.{Fields.CompleteOptions, Fields.TruncatedOptions, Octets.At}
-use Rattle.dns_fields.proofs.{Tlvs.length-tlv, Numbers.length-bytes, FieldLaws.field_same}
+use Rattle.dns_fields.specs.{Fields.TruncatedOptions, Octets.At}
+use Rattle.dns_fields.proofs.{Tlvs.length-tlv}
 use Rattle.dns_names_wire.specs.{Terms.StaysBehind, Terms.UnlessMemory, Terms.Took, Terms.Refused, State.Reading}
-use Rattle.dns_names_wire.proofs.{FieldReads.unless_all, FieldReads.took_number, FieldReads.unless_map, Strings.at_front, Strings.at_rest, Strings.at_then}
+use Rattle.dns_names_wire.proofs.{FieldReads.unless_all, FieldReads.unless_map, Strings.at_front, Strings.at_rest, Strings.at_then}
 use Rattle.dns_rdata_options.specs.OptionReads.{OptionsLeft, NoneLeft, TookTlv, TookCut, RefusedTlv, NoOptionValue, KeptOption}
-use Rattle.dns_rdata_options.specs.OPT.{IsTlvError, IsNextError, Pair, pair_value, pair_of, opt_shape, IsOptError}
+use Rattle.dns_rdata_options.specs.OPT.{IsNextError, Pair, pair_value, pair_of, opt_shape, IsOptError}
 use Rattle.dns_rdata_options.proofs.Selection.{all_push}
 use Rattle.dns_view.specs.Tlvs.{TlvThere}
-use Rattle.dns_view.proofs.{OptionLists.Begins, OptionLists.begins, OptionLists.prefix, OptionLists.first_left, OptionLists.ReadsOptions, TlvParts.part_there}
+use Rattle.dns_view.proofs.{OptionLists.prefix, OptionLists.first_left, OptionLists.ReadsOptions, TlvParts.part_there}
 use Rattle.dns_types.specs.declared.error.DecodeError.TheVariants as decode
 use Rattle.dns_view.proofs.OptionLists.{tlv_none, tlvs_more, field_left}
 

@@ -1,13 +1,12 @@
 -- The order of the octets of options, and of lists that they begin.
 use Rattle.std.proofs.Common.{Some, ◌≡◌, ℕ, ◌<◌, ◌^◌, nat_le, true, List, [], ◌∷◌, ◌++◌, length, map, count_by, refl, sym, ap, ◌∙◌}
-use Rattle.std.proofs.lemmas.List.{append-nil}
-use Rattle.std.specs.{Ordering.is_eq, Ordering.eq_by_cmp, Ordering.nat_cmp, Ordering.ordering_then, List.flat_map, List.AllByRecursion, Int.bytes_high_first}
-use Rattle.std.specs.{FinMap.nat_cmp-IsAntisymmetric, Cmp.first_so, Cmp.second_so, Cmp.Lexicographic.slice_cmp}
+use Rattle.std.specs.{Ordering.is_eq, Ordering.eq_by_cmp, Ordering.ordering_then, List.flat_map, List.AllByRecursion, Int.bytes_high_first}
+use Rattle.std.specs.{Cmp.first_so, Cmp.second_so, Cmp.Lexicographic.slice_cmp}
 use Rattle.dns_fields.specs.{declared.Kind.TheVariants.Options, Fields.field_octets, Fields.option_tlvs, Tlvs.tlv, Tlvs.option_octets, Sorting.sorted}
 use Rattle.dns_fields.proofs.{Multisets.count_sorted, Multisets.sorted_risen, Multisets.same_counts, Sorted.sorted_all, Sorted.map_sorted, Sorted.flat_map_all}
 use Rattle.dns_fields.proofs.{Tlvs.parts, Tlvs.number_first, Tlvs.tlv_before, Numbers.length-bytes}
 use Rattle.dns_canonical.specs.Fronts.{canonical_cmp}
-use Rattle.dns_canonical.proofs.Fronts.{alone, behind}
+use Rattle.dns_canonical.proofs.Fronts.{alone}
 use Rattle.dns_rdata_options.specs.{Steps.octets_cmp, Steps.tlv_cmp, Steps.own_tlv, Steps.pair_emittable, Steps.pairs_emittable, EdnsCode.edns_code_number}
 use Rattle.dns_rdata_options.specs.{OPT.Pair, OPT.pair_value, OPT.opt_shape, OPT.opt_fields, Order.pair_cmp, Order.risen, Order.opt_eq, EdnsOption.option_value}
 use Rattle.dns_rdata_options.specs.OrderLaws.{pair_total, opt_ties}

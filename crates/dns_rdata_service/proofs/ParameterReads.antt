@@ -1,18 +1,18 @@
 -- Reading parameters one after the other.
 use Rattle.std.proofs.Common.{◌≡◌, inl, inr, ℕ, ◌+◌, ◌<◌, ◌≤◌, List, [], ◌∷◌, ◌++◌, length, drop, map, Option, Some, refl, sym, ap, ◌∙◌, arith, subst}
-use Rattle.std.proofs.{lemmas.List.length-append, lemmas.List.length-drop, lemmas.List.map_push, Common.◌≢◌, Common.Ok, Common.Err}
+use Rattle.std.proofs.{lemmas.List.map_push, Common.◌≢◌, Common.Ok, Common.Err}
 use Rattle.std.specs.Int.{bytes_high_first}
 use Rattle.dns_types.specs.declared.error.DecodeError.{DecodeError}
 use Rattle.dns_fields.specs.{Fields.Field, Fields.Values, Tlvs.Numbered, Tlvs.ParameterValue, Tlvs.ParameterHeld, Tlvs.tlv, Tlvs.rising, Octets.At}
 use Rattle.dns_fields.specs.declared.Kind.{TheVariants.Number, TheVariants.Octets, TheVariants.Rest, TheVariants.Parameters, TheVariants.Name}
 use Rattle.dns_fields.specs.Labels.{DomainName}
-use Rattle.dns_fields.proofs.{Tlvs.tlv_before, Tlvs.heads_same, Tlvs.first_tlv, FieldLaws.field_inside, Numbers.length-bytes}
+use Rattle.dns_fields.proofs.{Tlvs.tlv_before, Tlvs.first_tlv, Numbers.length-bytes}
 use Rattle.dns_names_wire.specs.Terms.{TookField, StaysBehind, UnlessMemory, Refused, Lacks, TookRegion, RefusedRegion}
 use Rattle.dns_names_wire.specs.State.{Reading}
 use Rattle.dns_names_wire.proofs.FieldReads.{unless_map, unless_all, stays, took_stays, stands_inside, took_last, took_then, lacks_then, refused_then, refused_past}
 use Rattle.dns_names_wire.proofs.{RegionReads.Given, RegionReads.filled_region, Strings.at_then}
 use Rattle.dns_rdata_base.specs.FieldErrors.{FirstLack}
-use Rattle.dns_rdata_service.specs.Parameters.{Parameter, parameter_of, parameter_from, AreRead, FillTo, IsAbove, TruncatedValue, RefusedValue}
+use Rattle.dns_rdata_service.specs.Parameters.{Parameter, parameter_of, parameter_from, AreRead, FillTo, IsAbove, RefusedValue}
 use Rattle.dns_rdata_service.specs.{Parameters.IsParameterError, Parameters.IsParametersError, SvcParamValue.value_of, Hints.StandEach}
 use Rattle.dns_rows.specs.Rules.{HasText, HaveTexts}
 use Rattle.dns_rdata_service.specs.{SVCB.svcb_shape, SVCB.svcb_fields, SVCB.MeetsSvcbCondition, declared.svcb.SVCB.SVCB, SvcParamKey.key_number}

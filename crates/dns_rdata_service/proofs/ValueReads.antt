@@ -1,12 +1,11 @@
 -- Reading values to the end of a message.
-use Rattle.std.proofs.Common.{◌≡◌, ℕ, ◌%◌, ◌<◌, ◌≤◌, ◌^◌, inl, inr, List, [], ◌∷◌, ◌++◌, length, drop, map, refl, ap, ◌∙◌, arith, subst, ◌≢◌, ◌*◌, Ok}
+use Rattle.std.proofs.Common.{◌≡◌, ℕ, ◌%◌, ◌<◌, ◌≤◌, ◌^◌, inl, inr, List, [], ◌∷◌, ◌++◌, length, drop, map, refl, ap, ◌∙◌, arith, subst, ◌*◌, Ok}
 use Rattle.std.proofs.lemmas.List.{drop_all, length-append, length-drop, map-id, append-nil, length-take}
-use Rattle.std.proofs.{lemmas.Bool.Decides.nat_tests, lemmas.Grind.common_steps}
 use Rattle.std.proofs.Common.{sym, append_assoc, true, false, ◌+◌, take, Result, Err}
 use Rattle.std.specs.{Prelude.IsUtf8, Prelude.IfOk, Prelude.IfErr, List.flat_map, List.AllByRecursion, Int.bytes_high_first}
 use Rattle.dns_types.specs.{declared.error.DecodeError.DecodeError, declared.error.ProtoError.ProtoError}
 use Rattle.dns_fields.specs.Tlvs.{string, ParameterValue, ParameterForm, Keys, Names, form_of, Mandatory, Alpn, NoDefaultAlpn, Port, Ipv4Hint, Ipv6Hint}
-use Rattle.dns_fields.specs.Tlvs.{Opaque, Nothing, PortNumber, Addresses4, Addresses16, AnyOctets, IsEmittable, IsBody, form_for, ParameterHeld}
+use Rattle.dns_fields.specs.Tlvs.{Nothing, PortNumber, Addresses4, Addresses16, AnyOctets, IsEmittable, IsBody, form_for, ParameterHeld}
 use Rattle.dns_fields.specs.{declared.Kind.TheVariants.CharacterString, Fields.Field, declared.Kind.TheVariants.Octets, Fields.Stands, Fields.field_octets}
 use Rattle.dns_fields.specs.{Octets.At, Octets.AreOctets}
 use Rattle.dns_names_wire.specs.Terms.{TookField, StaysBehind, UnlessMemory, LacksOctets, LacksText, Emits, EmitsOctets}
@@ -14,19 +13,19 @@ use Rattle.dns_names_wire.specs.State.{Reading, Writing}
 use Rattle.dns_names_wire.proofs.{FieldReads.stays, FieldReads.unless_map, FieldReads.unless_all, FieldWrites.because_map}
 use Rattle.dns_rdata_base.specs.{declared.aaaa.AAAA.AAAA, Numbered.NumberedAt, declared.a.A.A}
 use Rattle.dns_rdata_service.specs.SvcParamValue.{mandatory_value, alpn_value, AreGiven, ToEnd, MandatoryAt, AlpnAt, TruncatedName, WrongName}
-use Rattle.dns_rows.specs.Rules.{is_text_key, HasText}
+use Rattle.dns_rows.specs.Rules.{HasText}
 use Rattle.dns_rdata_service.specs.SvcParamValue.{IsValueError, IsFormError, IsKeyError, a_octets, aaaa_octets, a_of, aaaa_of}
 use Rattle.dns_rdata_service.specs.{Hints.StandEach, Hints.StopsBefore, Hints.StandToEnd, Hints.ReadsEach, Hints.EmitsEach, declared.svcb.ip_hint.IpHint.IpHint}
 use Rattle.dns_rdata_service.specs.{declared.svcb.mandatory.Mandatory.Mandatory as MandatoryKeys, SvcParamKey.key_number, SvcParamKey.key_of}
 use Rattle.dns_rdata_service.specs.{declared.svcb.key.SvcParamKey.SvcParamKey, declared.svcb.alpn.Alpn.Alpn as Protocols}
 use Rattle.dns_rdata_service.proofs.Splits.{octet_split}
-use Rattle.dns_view.proofs.Splits.{at_split, length_numbers, string_first, strings_prefix, all_behind, stays_then}
+use Rattle.dns_view.proofs.Splits.{at_split, length_numbers, stays_then}
 use Rattle.dns_rdata_service.proofs.EachEmits.{emits_all, emits_as, all_pass}
 use Rattle.dns_fields.proofs.{OctetLaws.AreOctets-at, Numbers.length-bytes}
 use Rattle.dns_rdata_base.proofs.Addresses.{octets_of-segments}
 use Rattle.dns_types.specs.declared.error.DecodeError.TheVariants as decode
 use Rattle.dns_view.proofs.ParameterSteps.{stand_push}
-use Rattle.dns_view.proofs.ValueForms.{length_groups, no_name, truncated_name, wrong_name, names_none, keys_none, text_form, no_text}
+use Rattle.dns_view.proofs.ValueForms.{length_groups, names_none, keys_none, no_text}
 
 pub record EachOn {T : Type 0} (S : List ℕ → ℕ → T → ℕ → Type 0) (old : Reading) (items : List T) (d : Reading) : Type 0 where
   pub behind : StaysBehind old d

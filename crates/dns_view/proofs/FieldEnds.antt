@@ -9,8 +9,8 @@ use Rattle.dns_fields.proofs.{FieldLaws.field_inside, OctetLaws.AreOctets-same, 
 use Rattle.dns_names_wire.specs.{State.Reading, Terms.TookField}
 use Rattle.dns_rows.specs.declared.row.{Rule.Rule}
 use Rattle.dns_rows.specs.declared.row.Rule.TheVariants as rules
-use Rattle.dns_view.specs.{NameEnds.NameEnds, Parts.Asks, Parts.Ends, Parts.IsUnasked, Parts.Skips, Parts.moved, RowPointers.FieldPointers}
-use Rattle.dns_view.proofs.Skips.{skipped_itself, skips_as, number_skips, octets_skip, name_skips, string_skips, rest_skips}
+use Rattle.dns_view.specs.{NameEnds.NameEnds, Parts.IsUnasked, Parts.Skips, Parts.moved, RowPointers.FieldPointers}
+use Rattle.dns_view.proofs.Skips.{skips_as, number_skips, octets_skip, name_skips, string_skips, rest_skips}
 
 -- the offset after so many octets, which the message has
 abbrev EndsAfter : Reading → ℕ → ℕ → Type 0
@@ -66,19 +66,6 @@ plain_string : (rule : Rule) → (rule ≡ rules.Letters → ⊥) → (rule ≡ 
 plain_string rules.Letters a b = absurd (a refl)
 plain_string rules.Tag a b = absurd (b refl)
 plain_string rule a b = tt
-
--- a string that is as its rule asks
-pub text_skips : {rule : Rule} {start n e end p : ℕ} {d : Reading} {s : List ℕ} → AreOctets d.message
-    → EndsAfter d (get_or d.message d.index 0 + 1) end → p ≡ d.index → s ≡ take (end - (p + 1)) (drop (p + 1) d.message)
-    → Asks rule CharacterString s → e ≡ start + n → Ends CharacterString rule e end → Skips rule CharacterString start n (Ok tt) d (moved d end)
-text_skips {rule} {start} {n} {e} {end} {p} {d} {s} octets there at is asked same ends =
-    let size : end - (p + 1) ≡ get_or d.message d.index 0 = omega (arith, there, at) in
-    let next : p + 1 ≡ suc d.index = omega (arith, at) in
-    let all : s ≡ take (get_or d.message d.index 0) (drop (suc d.index) d.message) = rw (is, size, next) refl in
-    record {
-      is = skipped_itself tt (string_there d end octets there) (subst (Asks rule CharacterString) all asked)
-          (subst (λ (x : ℕ). Ends CharacterString rule x end) same ends);
-    }
 
 -- ---- a field of n octets of RDATA from start, by the offset after it
 
