@@ -192,7 +192,7 @@ impl<'a> RDataRef<'a> {
     pub fn record_type(&self) -> RecordType
         ensures { (m : List ℕ) (p n : ℕ) (t : RecordType) → IsViewOf m p n t self.now → result ≡ t }
     {
-        self.view.record_type()
+        self.view.record_type
     }
 
     /// The octets of the RDATA, as they are encoded in the message: names may end with a compression pointer.
@@ -239,7 +239,7 @@ impl<'a> RDataRef<'a> {
         ensures { (m : List ℕ) (p n : ℕ) (t : RecordType) (v : RData) (l : List ℕ) (q k : ℕ) (u : RecordType) (w : RData) →
             IsViewOf m p n t self.now → Fills m p n t v → IsViewOf l q k u other.now → Fills l q k u w → ComparesAs t u v w result }
     {
-        if self.record_type() == other.record_type() {
+        if self.view.record_type == other.view.record_type {
             return Some(self.view.compare(&other.view));
         }
         None
@@ -267,7 +267,7 @@ impl<'a> RDataRef<'a> {
         };
         match RData::read(
             &mut decoder,
-            self.record_type(),
+            self.view.record_type,
             Restrict::new(self.view.len()),
         ) {
             Ok(value) => Ok(value),
@@ -299,7 +299,7 @@ impl<'a> RDataRef<'a> {
     pub fn strings(&self) -> StringsRef<'a>
         ensures { (m : List ℕ) (p n : ℕ) (t : RecordType) (v : RData) → IsViewOf m p n t self.now → Fills m p n t v → result ≡ strings_in v }
     {
-        match self.record_type() {
+        match self.view.record_type {
             RecordType::TXT => StringsRef::of(self.octets()),
             _ => StringsRef::of(&[]),
         }
@@ -310,7 +310,7 @@ impl<'a> RDataRef<'a> {
     pub fn options(&self) -> Tlvs<'a>
         ensures { (m : List ℕ) (p n : ℕ) (t : RecordType) (v : RData) → IsViewOf m p n t self.now → Fills m p n t v → AllHeld OptionHeld result (options_in v) }
     {
-        match self.record_type() {
+        match self.view.record_type {
             RecordType::OPT => Tlvs::of_options(self.octets()),
             _ => Tlvs::of(&[]),
         }
@@ -340,7 +340,7 @@ impl<'a> RDataRef<'a> {
         ensures set { (m : List ℕ) (p n : ℕ) (t : RecordType) (v : RData) → IsViewOf m p n t self.now → Fills m p n t v → ListsTypes result (types_in v) }
         ensures order { (m : List ℕ) (p n : ℕ) (t : RecordType) → IsViewOf m p n t self.now → TypesInOrder m p n t result }
     {
-        match self.record_type() {
+        match self.view.record_type {
             RecordType::CSYNC => match self.octets().get(6..) {
                 Some(bitmap) => TypesRef::of(bitmap),
                 // Unreachable: serial and flags are six octets.
@@ -354,7 +354,7 @@ impl<'a> RDataRef<'a> {
     pub fn ip_addr(&self) -> Option<IpAddr>
         ensures { (m : List ℕ) (p n : ℕ) (t : RecordType) (v : RData) → IsViewOf m p n t self.now → Fills m p n t v → result ≡ address_of v }
     {
-        match self.record_type() {
+        match self.view.record_type {
             RecordType::A => ipv4_of(self.octets()),
             RecordType::AAAA => ipv6_of(self.octets()),
             _ => None,

@@ -23,7 +23,8 @@ use std::cmp::Ordering;
 /// RDATA, and the row of the type, in 48 octets. A copy is cheap, and nothing is allocated.
 #[derive(Clone, Copy)]
 pub struct RowView<'a> {
-    record_type: RecordType,
+    /// The type of the record.
+    pub record_type: RecordType,
     len: u16,
     message: &'a [u8],
     offset: usize,
@@ -77,14 +78,6 @@ impl<'a> RowView<'a> {
         }
     }
 
-    /// The type of the record.
-    #[inline]
-    pub fn record_type(&self) -> RecordType
-        ensures { result ≡ self.now.record_type }
-    {
-        self.record_type
-    }
-
     /// The whole message.
     #[inline]
     pub fn message(&self) -> &'a [u8]
@@ -125,14 +118,8 @@ impl<'a> RowView<'a> {
         ensures { (h : HasRow self.now.message.now self.now.offset self.now.row.now (self.now.offset + self.now.len)) →
             Put out.old out.new 0 result (canonical (kinds_of self.now.row.now) h.values) }
     {
-        match put_row(
-            self.message,
-            self.offset,
-            self.row,
-            self.len as usize,
-            true,
-            out,
-        ) {
+        let len = self.len as usize;
+        match put_row(self.message, self.offset, self.row, len, true, out) {
             Some(count) => count,
             None => 0,
         }
@@ -146,14 +133,8 @@ impl<'a> RowView<'a> {
         ensures { (h : HasRow self.now.message.now self.now.offset self.now.row.now (self.now.offset + self.now.len)) →
             Put out.old out.new 0 result (all_form false (kinds_of self.now.row.now) h.values) }
     {
-        match put_row(
-            self.message,
-            self.offset,
-            self.row,
-            self.len as usize,
-            false,
-            out,
-        ) {
+        let len = self.len as usize;
+        match put_row(self.message, self.offset, self.row, len, false, out) {
             Some(count) => count,
             None => 0,
         }
