@@ -79,10 +79,10 @@ alone {m} {x} {p} {q} n a e =
     let size : q - p ≡ n = omega arith in
     ap (λ (k : ℕ). take k (drop p m)) (sym size) ∙ between_is a
 
-as_type : {m : List ℕ} {p n : ℕ} {t u : RecordType} {v : RData} {r : RDataRef} → IsViewOf m p n t r → Fills m p n t v → r.record_type ≡ u → Fills m p n u v
+as_type : {m : List ℕ} {p n : ℕ} {t u : RecordType} {v : RData} {r : RDataRef} → IsViewOf m p n t r → Fills m p n t v → r.view.record_type ≡ u → Fills m p n u v
 as_type {m} {p} {n} {t} {u} {v} {r} is f e = subst (λ (x : RecordType). Fills m p n x v) (sym is.type ∙ e) f
 
-pub strings_octets : {m : List ℕ} {p n : ℕ} {t : RecordType} {v : RData} {r : RDataRef} → IsViewOf m p n t r → Fills m p n t v → r.record_type ≡ types.TXT
+pub strings_octets : {m : List ℕ} {p n : ℕ} {t : RecordType} {v : RData} {r : RDataRef} → IsViewOf m p n t r → Fills m p n t v → r.view.record_type ≡ types.TXT
     → take n (drop p m) ≡ flat_map string (strings_in v)
 strings_octets {m} {p} {n} {t} {v} {r} is f e =
     let g : Fills m p n types.TXT v = as_type is f e in
@@ -93,7 +93,7 @@ no_strings : (v : RData) → (type_of v ≡ types.TXT → ⊥) → strings_in v 
 no_strings (rdata.TXT x) ne = absurd (ne refl)
 no_strings v ne = refl
 
-pub strings_none : {m : List ℕ} {p n : ℕ} {t : RecordType} {v : RData} {r : RDataRef} → IsViewOf m p n t r → Fills m p n t v → (r.record_type ≡ types.TXT → ⊥)
+pub strings_none : {m : List ℕ} {p n : ℕ} {t : RecordType} {v : RData} {r : RDataRef} → IsViewOf m p n t r → Fills m p n t v → (r.view.record_type ≡ types.TXT → ⊥)
     → [] ≡ strings_in v
 strings_none {v = v} is f ne = sym (no_strings v (λ e. ne (is.type ∙ sym f.value.type ∙ e)))
 
@@ -123,7 +123,7 @@ options_held o r v {m} {p} {q} n e end (inr h) y =
     held_nothing OptionHeld r v (y.1 none) h.0
 
 pub options_told : {m : List ℕ} {p n : ℕ} {t : RecordType} {v : RData} {r : RDataRef} (o : List ℕ) (result : List (Numbered (List ℕ)))
-    → IsViewOf m p n t r → Fills m p n t v → r.record_type ≡ types.OPT → o ≡ take n (drop p m) → YieldsOptions o result → AllHeld OptionHeld result (options_in v)
+    → IsViewOf m p n t r → Fills m p n t v → r.view.record_type ≡ types.OPT → o ≡ take n (drop p m) → YieldsOptions o result → AllHeld OptionHeld result (options_in v)
 options_told {m} {p} {n} {t} {v} {r} o result is f e same y =
     let g : Fills m p n types.OPT v = as_type is f e in
     let held : options_in v ≡ g.values.0 = options_first v ∙ ap (λ (x : FieldsOf). first_options x.kinds x.values) g.value.fields in
@@ -131,7 +131,7 @@ options_told {m} {p} {n} {t} {v} {r} o result is f e same y =
     (options_held o result g.values.0 n same g.region.stands.2 g.region.stands.1.is y)
 
 pub options_none : {m : List ℕ} {p n : ℕ} {t : RecordType} {v : RData} {r : RDataRef} (result : List (Numbered (List ℕ))) → IsViewOf m p n t r → Fills m p n t v
-    → (r.record_type ≡ types.OPT → ⊥) → result ≡ [] → AllHeld OptionHeld result (options_in v)
+    → (r.view.record_type ≡ types.OPT → ⊥) → result ≡ [] → AllHeld OptionHeld result (options_in v)
 options_none {v = v} result is f ne none = held_nothing OptionHeld result (options_in v) none (no_options v (λ e. ne (is.type ∙ sym f.value.type ∙ e)))
 
 -- ---- parameters
@@ -185,14 +185,14 @@ parameters_missing v r h none = held_nothing ParameterHeld r (parameters_in v) n
 -- ---- addresses
 
 pub a_told : {m : List ℕ} {p n : ℕ} {t : RecordType} {v : RData} {r : RDataRef} {result : Option IpAddr} → IsViewOf m p n t r → Fills m p n t v
-    → r.record_type ≡ types.A → ((a : Ipv4Addr) → length (take n (drop p m)) ≡ 4 → take n (drop p m) ≡ ipv4_octets a → result ≡ Some (V4 a)) → result ≡ address_of v
+    → r.view.record_type ≡ types.A → ((a : Ipv4Addr) → length (take n (drop p m)) ≡ 4 → take n (drop p m) ≡ ipv4_octets a → result ≡ Some (V4 a)) → result ≡ address_of v
 a_told {m} {p} {n} {t} {v} {r} {result} is f e h =
     let g : Fills m p n types.A v = as_type is f e in
     let here = alone n g.region.stands.1.is.1 g.region.stands.2 in
     h (record { octets = g.values.0 }) (ap length here ∙ g.region.stands.1.is.0) here ∙ sym (ap address_of (value_is types.A g.values v g.value ∙ value_for-a g.values))
 
 pub aaaa_told : {m : List ℕ} {p n : ℕ} {t : RecordType} {v : RData} {r : RDataRef} {result : Option IpAddr} → IsViewOf m p n t r → Fills m p n t v
-    → r.record_type ≡ types.AAAA → ((a : Ipv6Addr) → length (take n (drop p m)) ≡ 16 → take n (drop p m) ≡ ipv6_octets a → result ≡ Some (V6 a)) → result ≡ address_of v
+    → r.view.record_type ≡ types.AAAA → ((a : Ipv6Addr) → length (take n (drop p m)) ≡ 16 → take n (drop p m) ≡ ipv6_octets a → result ≡ Some (V6 a)) → result ≡ address_of v
 aaaa_told {m} {p} {n} {t} {v} {r} {result} is f e h =
     let g : Fills m p n types.AAAA v = as_type is f e in
     let s = g.values.0 in
@@ -208,7 +208,7 @@ no_address (rdata.AAAA x) ne other = absurd (other refl)
 no_address v ne other = refl
 
 pub address_none : {m : List ℕ} {p n : ℕ} {t : RecordType} {v : RData} {r : RDataRef} → IsViewOf m p n t r → Fills m p n t v
-    → (r.record_type ≡ types.A → ⊥) → (r.record_type ≡ types.AAAA → ⊥) → None ≡ address_of v
+    → (r.view.record_type ≡ types.A → ⊥) → (r.view.record_type ≡ types.AAAA → ⊥) → None ≡ address_of v
 address_none {v = v} is f ne other = sym (no_address v (λ e. ne (is.type ∙ sym f.value.type ∙ e)) (λ e. other (is.type ∙ sym f.value.type ∙ e)))
 
 -- ---- types
@@ -254,7 +254,7 @@ module _ {m o : List ℕ} {p n : ℕ} {windows : List Block} (is : o ≡ take n 
 
 -- a result that the windows determine has the types of the value
 pub types_listed : {m : List ℕ} {p n : ℕ} {t : RecordType} {v : RData} {r : RDataRef} (result : List ℕ) → IsViewOf m p n t r → Fills m p n t v
-    → r.record_type ≡ types.CSYNC → ((windows : List Block) → HasWindows m p n windows → result ≡ flat_map block_types windows) → ListsTypes result (types_in v)
+    → r.view.record_type ≡ types.CSYNC → ((windows : List Block) → HasWindows m p n windows → result ≡ flat_map block_types windows) → ListsTypes result (types_in v)
 types_listed {m} {p} {n} {t} {v} {r} result is f e h =
     let g : Fills m p n types.CSYNC v = as_type is f e in
     let b = g.region.stands.2.2.1.is in
@@ -266,7 +266,7 @@ no_types (rdata.CSYNC x) ne = absurd (ne refl)
 no_types v ne = refl
 
 pub types_none : {m : List ℕ} {p n : ℕ} {t : RecordType} {v : RData} {r : RDataRef} (result : List ℕ) → IsViewOf m p n t r → Fills m p n t v
-    → (r.record_type ≡ types.CSYNC → ⊥) → result ≡ [] → ListsTypes result (types_in v)
+    → (r.view.record_type ≡ types.CSYNC → ⊥) → result ≡ [] → ListsTypes result (types_in v)
 types_none {v = v} result is f ne none =
     subst (ListsTypes result) (sym (no_types v (λ e. ne (is.type ∙ sym f.value.type ∙ e))))
     (subst (λ (x : List ℕ). ListsTypes x []) (sym none) (record { members = λ t. refl; rising = λ rises. refl }))
