@@ -1,5 +1,5 @@
 use Rattle.std.proofs.Common.{inr}
-use Rattle.dns_rdata_c.proofs.reading.view_at.Goals as goal
+use Rattle.dns_rdata_c.proofs.rdata.view_at.Goals as goal
 
 pub returns-in-Err-clause-cause : goal.returns-in-Err-clause-cause
 returns-in-Err-clause-cause c =
