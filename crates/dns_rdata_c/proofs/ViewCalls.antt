@@ -1,5 +1,5 @@
 -- What the calls give of RDATA that is looked at in the message.
-use Rattle.std.proofs.Common.{◌≡◌, ℕ, ◌<◌, ◌≤◌, inl, inr, ℤ, pos, List, ◌++◌, length, drop, Some, None, refl, sym, ap, ◌∙◌, arith, subst, ◌≢◌, ◌+◌, ◌-◌, Ok, Err, IfErr}
+use Rattle.std.proofs.Common.{◌≡◌, ℕ, ◌<◌, ◌≤◌, inl, inr, ℤ, pos, of_z, w32, List, ◌++◌, length, drop, Some, None, refl, sym, ap, ◌∙◌, arith, subst, ◌≢◌, ◌+◌, ◌-◌, Ok, Err, IfErr}
 use Rattle.std.specs.declared.cmp.Ordering.TheVariants as orderings
 use Rattle.std.proofs.lemmas.{Cmp.nat_list_cmp_total, Cmp.tied_itself, Map.Lookups.exact_bytes}
 use Rattle.std.{specs.declared.cmp.Ordering.Ordering, specs.Prelude.OnOk, specs.Prelude.MatchResult, proofs.lemmas.Bool.Decides.eqb_tells}
@@ -45,18 +45,18 @@ has_order {m} {l} {p} {n} {q} {k} {t} a b h =
 
 -- ---- whether two are equal
 
-zero_is : (o : Ordering) → order_number o ≡ pos 0 → o ≡ orderings.Equal
-zero_is orderings.Less e = absurd cc
+zero_is : (o : Ordering) → of_z w32 (order_number o) ≡ 0 → o ≡ orderings.Equal
+zero_is orderings.Less e = absurd (omega (arith, e))
 zero_is orderings.Equal e = refl
-zero_is orderings.Greater e = absurd cc
+zero_is orderings.Greater e = absurd (omega (arith, e))
 
 pub has_equality : {m l : List ℕ} {p n q k : ℕ} {t : RecordType} {o : ℤ} → HasOrder t m p n l q k o
-    → (o ≡ pos 0 → HasEquality t m p n l q k (pos 1)) × (¬ (o ≡ pos 0) → HasEquality t m p n l q k (pos 0))
+    → (of_z w32 o ≡ 0 → HasEquality t m p n l q k (pos 1)) × (¬ (of_z w32 o ≡ 0) → HasEquality t m p n l q k (pos 0))
 has_equality h =
     let a = data_octets h.value in
     let equal = λ (b : List ℕ) (e : a ≡ b). subst (λ (s : List ℕ). octets_order a s ≡ pos 0) e (ap order_number (tied_itself nat_list_cmp_total a)) in (
-      λ e. record { value = h.value; other = h.other; fills = h.fills; other_fills = h.other_fills; tells = inl (refl, exact_bytes _ _ (zero_is _ (sym h.is_order ∙ e))) },
-      λ d. record { value = h.value; other = h.other; fills = h.fills; other_fills = h.other_fills; tells = inr (refl, λ e. d (h.is_order ∙ equal (data_octets h.other) e)) },
+      λ e. record { value = h.value; other = h.other; fills = h.fills; other_fills = h.other_fills; tells = inl (refl, exact_bytes _ _ (zero_is _ (ap (of_z w32) (sym h.is_order) ∙ e))) },
+      λ d. record { value = h.value; other = h.other; fills = h.fills; other_fills = h.other_fills; tells = inr (refl, λ e. d (ap (of_z w32) (h.is_order ∙ equal (data_octets h.other) e))) },
     )
 
 -- ---- names

@@ -7,7 +7,7 @@ use Rattle.dns_types.specs.declared.error.ParseError.TheVariants as parse
 use Rattle.dns_rdata.specs.{declared.record_data.RData.RData, WholeOctets.all_whole, WholeOctets.whole_data, Data.FieldsOf, Data.shape, Data.Fills}
 use Rattle.dns_tokens.specs.Reads.{UnlessParseMemory}
 use Rattle.dns_rdata_zone.{specs.ZoneGives.AreDataOf, specs.ZoneGives.GivesValue, specs.ZoneGives.GivesNone, specs.ZoneFaults.ZoneFault, proofs.Again.own_fields, proofs.Filled.fills_give, proofs.ZoneOnce.one_given}
-use Rattle.dns_rdata_c.specs.{Buffers.IsPut, Calls.HasZoneData, Calls.IsOrigin, Calls.OfZoneText, Calls.PutsWire, Status.parse_status, Why.IsWhyNone}
+use Rattle.dns_rdata_c.specs.{Buffers.IsPut, Calls.HasZoneData, Calls.IsNoZoneText, Calls.IsOrigin, Calls.OfZoneText, Calls.PutsWire, Status.parse_status, Why.IsWhyNone}
 
 -- ---- octets that are put
 
@@ -66,15 +66,29 @@ never_refused origin t text none = record {
 
 -- ---- errors
 
--- an error other than that of memory says why a text gives nothing
-pub fault_of : {N F : Type 0} (e : ParseError) → ¬ (parse_status e ≡ 1) → UnlessParseMemory e N → (e ≡ parse.Memory) ⊎ F → N × F
-fault_of parse.Memory other none fault = absurd (other refl)
-fault_of e other none (inl memory) = absurd (other (ap parse_status memory))
-fault_of e other none (inr fault) = (none, fault)
+-- memory ran out, or the status is that of a text without a value
+high : (e : ParseError) → (e ≡ parse.Memory) ⊎ (48 ≤ parse_status e)
+high parse.Memory = inl refl
+high e = inr (omega arith)
 
+unless : (e : ParseError) (P : Type 0) → 48 ≤ parse_status e → UnlessParseMemory e P → P
+unless parse.Memory P h none = absurd (omega (arith, h))
+unless e P h none = none
+
+pub refused_text : (origin : Option DomainName) (t : RecordType) (text : List ℕ) (e : ParseError) (s : ℕ) → s ≡ parse_status e
+    → UnlessParseMemory e (GivesNone origin t text) → (e ≡ parse.Memory) ⊎ ZoneFault origin t text e → (s ≡ 1) ⊎ ((48 ≤ s) × IsNoZoneText origin t text s)
+refused_text origin t text e s told none (inl memory) = inl (told ∙ ap parse_status memory)
+refused_text origin t text e s told none (inr fault) = elim (high e) [
+  | inl memory ↦ inl (told ∙ ap parse_status memory)
+  | inr h ↦ inr (omega (arith, told, h), record { none = unless e (GivesNone origin t text) h none; error = e; told = told; fault = fault })
+]
+
+-- an error other than that of memory says why a text gives no value
 pub why_none : {octets : List ℕ} {t : RecordType} {text : List ℕ} {e : ParseError} {s : ℕ} (origin : Option DomainName) (P : ParseError → Type 0)
     → IsOrigin octets origin → s ≡ parse_status e → ¬ (s ≡ 1) → UnlessParseMemory e (GivesNone origin t text)
     → (e ≡ parse.Memory) ⊎ ZoneFault origin t text e → P e → IsWhyNone octets t text P
-why_none {e = e} origin P is told other none fault holds =
-    let w = fault_of e (λ k. other (told ∙ k)) none fault in
-    record { origin = origin; is_origin = is; error = e; none = w.0; fault = w.1; holds = holds }
+why_none {t = t} {text = text} {e = e} origin P is told other none (inl memory) holds = absurd (other (told ∙ ap parse_status memory))
+why_none {t = t} {text = text} {e = e} origin P is told other none (inr fault) holds = elim (high e) [
+  | inl memory ↦ absurd (other (told ∙ ap parse_status memory))
+  | inr h ↦ record { origin = origin; is_origin = is; error = e; none = unless e (GivesNone origin t text) h none; fault = fault; holds = holds }
+]

@@ -1,10 +1,11 @@
 //! RDATA from zone file texts, and why a text gives none.
 
 ghost use Rattle.std.specs.Prelude.{◌≡◌, ◌≢◌, ◌<◌, ◌≤◌, ◌⊎◌, ℕ, List, length as size, IfOk, IfErr};
+ghost use Rattle.std.specs.Option.{option_copied};
 ghost use Rattle.dns_types.specs.{RecordTypes.record_type_of, Errors.IsAbout};
 ghost use Rattle.dns_rdata.specs.{Data.IsEmittable, WholeOctets.whole_data};
-ghost use Rattle.dns_rdata_zone.specs.ZoneGives.{AreDataOf};
-ghost use Rattle.dns_rdata_c.specs.{Buffers.IsPut, Buffers.IsTextPut, Buffers.IsTextTooLong, Calls.IsOrigin, Calls.IsNoOrigin, Calls.OfZoneText};
+ghost use Rattle.dns_rdata_zone.specs.ZoneGives.{AreDataOf, GivesValue};
+ghost use Rattle.dns_rdata_c.specs.{Buffers.IsPut, Buffers.IsTextPut, Buffers.IsTextTooLong, Calls.IsOrigin, Calls.IsNoOrigin, Calls.IsNoZoneText, Calls.OfZoneText};
 ghost use Rattle.dns_rdata_c.specs.{Calls.HasZoneData, Calls.IsRefusedZoneText, Calls.PutsWire, Calls.LacksRoomForWire};
 ghost use Rattle.dns_rdata_c.specs.Why.{reason_text, cause_in, IsFieldAt, IsTextFault, IsWhyNone};
 
@@ -30,8 +31,14 @@ pub(crate) fn origin_of(alloc: Global, octets: &[u8]) -> Result<Option<Name>, u3
     let mut decoder = BinDecoder::new(alloc, octets);
     match Name::read(&mut decoder) {
         Err(DecodeError::Memory) => Err(MEMORY),
-        Ok(name) if decoder.is_empty() => Ok(Some(name)),
-        _ => Err(ORIGIN),
+        Err(_) => Err(ORIGIN),
+        Ok(name) => {
+            if decoder.is_empty() {
+                Ok(Some(name))
+            } else {
+                Err(ORIGIN)
+            }
+        }
     }
 }
 
@@ -68,6 +75,23 @@ fn put_wire(alloc: Global, value: &RData, out: &mut [u8], count: &mut usize) -> 
     }
 }
 
+// The value of a text in a zone file, relative names in it completed by the origin, or the status of the error.
+fn read_zone_text(
+    alloc: Global,
+    record_type: RecordType,
+    text: &[u8],
+    origin: Option<&Name>,
+) -> Result<RData, u32>
+    ensures found { IfOk result (GivesValue (option_copied origin.entry) record_type text.now) }
+    ensures emittable { IfOk result IsEmittable }
+    ensures refused { IfErr result (λ s. (s ≡ 1) ⊎ ((48 ≤ s) × IsNoZoneText (option_copied origin.entry) record_type text.now s)) }
+{
+    match from_zone_text(alloc, record_type, text, origin) {
+        Ok(value) => Ok(value),
+        Err(error) => Err(status_of_text(error)),
+    }
+}
+
 /// Reads the RDATA of a line of a zone file, which follows the type there (RFC 1035, section 5.1; RFC 3597, section 5;
 /// RFC 9460, section 2.1), and writes its octets to a buffer, names uncompressed and case preserved. A relative name is
 /// completed by the origin, whose octets are given. With no octets of an origin it is taken as fully qualified. The
@@ -99,8 +123,8 @@ pub extern "C" fn dns_rdata_parse(
         Ok(origin) => origin,
         Err(status) => return status,
     };
-    match from_zone_text(alloc, RecordType::from(type_number), text, origin.as_ref()) {
-        Err(error) => status_of_text(error),
+    match read_zone_text(alloc, RecordType::from(type_number), text, origin.as_ref()) {
+        Err(status) => status,
         Ok(value) => put_wire(alloc, &value, out, count),
     }
 }
