@@ -1,5 +1,5 @@
 -- What the calls give of RDATA that is looked at in the message.
-use Rattle.std.proofs.Common.{◌≡◌, ℕ, ◌<◌, ◌≤◌, inl, inr, ℤ, pos, of_z, w32, List, ◌++◌, length, drop, Some, None, refl, sym, ap, ◌∙◌, arith, subst, ◌≢◌, ◌+◌, ◌-◌, Ok, Err, IfErr}
+use Rattle.std.proofs.Common.{◌≡◌, ℕ, ◌<◌, ◌≤◌, inl, inr, ℤ, pos, to_z, of_z, w32, List, ◌++◌, length, drop, Some, None, refl, sym, ap, ◌∙◌, arith, subst, ◌≢◌, ◌+◌, ◌-◌, Ok, Err, IfErr}
 use Rattle.std.specs.declared.cmp.Ordering.TheVariants as orderings
 use Rattle.std.proofs.lemmas.{Cmp.nat_list_cmp_total, Cmp.tied_itself, Map.Lookups.exact_bytes}
 use Rattle.std.{specs.declared.cmp.Ordering.Ordering, specs.Prelude.OnOk, specs.Prelude.MatchResult, proofs.lemmas.Bool.Decides.eqb_tells}
@@ -30,8 +30,14 @@ too_many e full told = record { full = omega (arith, e, full); told = told ∙ e
 
 -- ---- the order of two
 
+-- a number of an order is the same once it is passed
+passed : (o : Ordering) → to_z w32 (of_z w32 (order_number o)) ≡ order_number o
+passed orderings.Less = refl
+passed orderings.Equal = refl
+passed orderings.Greater = refl
+
 pub has_order : {m l : List ℕ} {p n q k : ℕ} {t u : RecordType} {r s : RDataRef} {o : Ordering} → IsViewOf m p n t r → IsViewOf l q k u s
-    → ((v w : RData) → Fills m p n t v → Fills l q k u w → ComparesAs t u v w (Some o)) → HasOrder t m p n l q k (order_number o)
+    → ((v w : RData) → Fills m p n t v → Fills l q k u w → ComparesAs t u v w (Some o)) → HasOrder t m p n l q k (to_z w32 (of_z w32 (order_number o)))
 has_order {m} {l} {p} {n} {q} {k} {t} a b h =
     let both = h _ _ a.filled.fills b.filled.fills in
     let other = subst (λ (x : RecordType). Fills l q k x b.filled.value) (sym both.0) b.filled.fills in
@@ -40,7 +46,7 @@ has_order {m} {l} {p} {n} {q} {k} {t} a b h =
       other = b.filled.value;
       fills = a.filled.fills;
       other_fills = other;
-      is_order = ap order_number (both.1 ∙ orders_read _ _ t m p n l q k a.filled.fills other);
+      is_order = passed _ ∙ ap order_number (both.1 ∙ orders_read _ _ t m p n l q k a.filled.fills other);
     }
 
 -- ---- whether two are equal
