@@ -31,9 +31,9 @@ OF_PYTHON = {
 }
 # The structs: where the crate has each, its name there and in Python.
 STRUCTS = {
-    "dns_rdata": ("rdata.rt", "Rdata", "Data"), "dns_rdata_refusal": ("check.rt", "Reason", "Refusal"),
+    "dns_rdata": ("rdata.rt", "Rdata", "Data"), "dns_rdata_refusal": ("rdata.rt", "Reason", "Refusal"),
     "dns_rdata_parts": ("parts.rt", "PartsCursor", "Parts"), "dns_rdata_records": ("records.rt", "RecordsCursor", "Records"),
-    "dns_rdata_record": ("records.rt", "Record", "Record"), "dns_rdata_text_fault": ("why.rt", "TextFault", "TextFault"),
+    "dns_rdata_record": ("records.rt", "Record", "Record"), "dns_rdata_text_fault": ("parse.rt", "TextFault", "TextFault"),
 }
 # The types of their fields in the crate and in dns-rdata-sys, and in Python. Octets of the crate are a pointer and a length.
 FIELD = {"usize": "size_t", "u32": "uint32_t", "u16": "uint16_t", "*const u8": "const uint8_t *"}

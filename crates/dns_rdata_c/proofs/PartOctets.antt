@@ -1,10 +1,8 @@
 -- The parts of octets: what precedes them, how they follow each other, and what they are of a value.
-use Rattle.std.proofs.Common.{◌≡◌, ◌↔◌, ◌∙◌, ◌⊎◌, ℕ, ◌+◌, ◌-◌, ◌*◌, ◌/◌, ◌%◌, ◌^◌, ◌<◌, ◌≤◌, zero, suc, false, inl, inr, Option, Some, None, List, [], ◌∷◌, ◌++◌, length, take, drop, get_or}
-use Rattle.std.proofs.Common.{refl, sym, ap, subst, arith, append_assoc, length-append, length-take-le, true≢false}
+use Rattle.std.proofs.Common.{MatchOption, ◌≡◌, ◌↔◌, ◌∙◌, ◌⊎◌, ℕ, ◌+◌, ◌-◌, ◌*◌, ◌/◌, ◌%◌, ◌^◌, ◌<◌, ◌≤◌, zero, suc, false, inl, inr, Option, Some, None, List, [], ◌∷◌, ◌++◌, length, take, drop, get_or, refl, sym, ap, subst, arith, append_assoc, length-append, length-take-le, true≢false}
 use Rattle.std.specs.{Int.bytes_high_first}
 use Rattle.std.proofs.lemmas.{Bool.Decides.nat_tests, Grind.flat_map-append, List.append-nil, List.drop_all, List.drop_at, List.drop_more, List.drop-drop, List.drop-take, List.get_or-drop, List.length-drop, List.length-take, List.take_at, List.take-append-drop}
-use Rattle.dns_fields.specs.{Octets.At, Labels.AreLabels, Labels.wire, Names.LabelsStand, Names.pointer, Names.LabelsStand.whole, Names.LabelsStand.pointed, Fields.Stands, Fields.Values, declared.Kind.Kind}
-use Rattle.dns_fields.specs.{declared.Kind.TheVariants.Options, declared.Kind.TheVariants.Parameters}
+use Rattle.dns_fields.specs.{Octets.At, Labels.AreLabels, Labels.wire, Names.LabelsStand, Names.pointer, Names.LabelsStand.whole, Names.LabelsStand.pointed, Fields.Stands, Fields.Values, declared.Kind.Kind, declared.Kind.TheVariants.Options, declared.Kind.TheVariants.Parameters}
 use Rattle.dns_fields.specs.Tlvs.{Numbered, tlv, tlvs, IsTlv, AreTlvs, IsTruncated, AllHeld, OptionHeld, OptionValue, ParameterHeld, ParameterValue}
 use Rattle.dns_fields.proofs.Tlvs.{first_tlv, heads_same, no_tlv, tlv_before, length-tlv, truncated_tlv, complete_or_truncated, tlvs_same}
 use Rattle.dns_names_wire.proofs.Strings.{at_then}
@@ -88,10 +86,9 @@ name_there {m} {p} {e} {labels} (pointed front rest target rest_end behind are i
 
 octets_of : (a b : ℕ) → a < 256 → b < 256 → bytes_high_first 2 (a * 256 + b) ≡ a ∷ b ∷ []
 octets_of a b high low =
-    let n = a * 256 + b in
-    let first : n / 256 % 256 ≡ a = omega (arith, high, low) in
-    let second : n % 256 ≡ b = omega (arith, high, low) in
-    ap (λ (x : ℕ). x ∷ n % 256 ∷ []) first ∙ ap (λ (x : ℕ). a ∷ x ∷ []) second
+    let first : (a * 256 + b) / 256 % 256 ≡ a = omega (arith, high, low) in
+    let second : (a * 256 + b) % 256 ≡ b = omega (arith, high, low) in
+    rw (first, second) refl
 
 abbrev code_in : List ℕ → ℕ
 code_in s = get_or s 0 0 * 256 + get_or s 1 0
@@ -155,14 +152,11 @@ part_room {s} {at} {number} {begin} {count} w =
 pub parts_more : {s : List ℕ} {begin end number from count : ℕ} → AreBetween s begin end → IsPartAt s end number from count → AreBetween s begin (from + count)
 parts_more {s} {begin} {end} {number} {from} {count} p w =
     let x : Numbered (List ℕ) = (number, w.octets) in
-    let rest = drop (from + count) s in
-    let more : tlvs (p.read ++ x ∷ []) ≡ tlvs p.read ++ tlv x =
-    flat_map-append tlv p.read (x ∷ []) ∙ ap (λ (o : List ℕ). tlvs p.read ++ o) (append-nil (tlv x)) in
+    let more : tlvs (p.read ++ x ∷ []) ≡ tlvs p.read ++ tlv x = flat_map-append tlv p.read (x ∷ []) ∙ ap (λ (o : List ℕ). tlvs p.read ++ o) (append-nil (tlv x)) in
     record {
       read = p.read ++ x ∷ [];
       are = all_append IsTlv p.read (x ∷ []) p.are (w.fits, tt);
-      is = p.is ∙ ap (λ (o : List ℕ). tlvs p.read ++ o) w.is ∙ sym (append_assoc (tlvs p.read) (tlv x) rest) ∙ ap (λ (o : List ℕ). o ++ rest) (sym more);
-      inside = (part_room w).0;
+      is = rw (more, append_assoc (tlvs p.read) (tlv x) (drop (from + count) s), ← w.is) p.is;
     }
 
 -- those that are left after one
@@ -186,6 +180,11 @@ none_left {s} {p} {t} {i} {at} j a none h = of a.rest a.all a.here where
   of : (rest : List (Numbered (List ℕ))) → AreParts t (drop p s) (a.before ++ rest) → drop at s ≡ tlvs rest → AreFewParts t (drop p s) j
   of [] all here = record { parts = a.before ++ []; all = all; few = omega (arith, h, a.many, length-append a.before []) }
   of (y ∷ ys) all here = absurd (none.none y (tlvs ys) (all_behind IsTlv a.before (y ∷ ys) all.are).0 here)
+
+-- what holds of an option, where another fact holds of none
+pub when_none : {X : Type 0} {N M : Type 0} (P : X → Type 0) (o : Option X) → MatchOption o N P → (N → M) → MatchOption o M P
+when_none P None h f = f h
+when_none P (Some x) h f = h
 
 -- ---- whether parts fill the octets
 
@@ -212,18 +211,31 @@ parts_fill {t} {s} {p} {first} {end} front w all =
     let here : drop first s ≡ tlvs w.read = w.is ∙ ap (λ (o : List ℕ). tlvs w.read ++ o) (drop_all end s all) ∙ append-nil (tlvs w.read) in
     record { before = []; rest = w.read; all = record { is = front ∙ ap (λ (o : List ℕ). Some o) here; are = w.are }; many = refl; here = here }
 
-pub damaged : (t : RecordType) (s : List ℕ) (p first end : ℕ) → after_front t (drop p s) ≡ Some (drop first s) → AreBetween s first end → NoTlv (drop end s) → end < length s
-    → (t ≡ types.OPT → ¬ (IsTruncated (length (drop p s)) (drop end s))) → AreNoParts t (drop p s)
-damaged t s p first end front w last short uncut = record {
+-- what is left after the last part
+pub truncated : {t : RecordType} {s stub : List ℕ} {n first end : ℕ} (p : ℕ) → n ≡ length (drop p s) → stub ≡ drop end s
+    → after_front t (drop p s) ≡ Some (drop first s) → AreBetween s first end → (t ≡ types.OPT) × IsTruncated n stub → AreCutOptions t (drop p s)
+truncated {t} {s} {stub} {n} {first} {end} p size is front w c = record {
+  is_opt = c.0;
+  parts = w.read;
+  stub = drop end s;
+  is = opt_whole t (drop p s) (drop first s) c.0 front ∙ w.is;
+  are = w.are;
+  cut = rw (size, is) at c.1;
+}
+
+pub damaged : {t : RecordType} {s stub : List ℕ} {n first end : ℕ} (p : ℕ) → n ≡ length (drop p s) → stub ≡ drop end s
+    → after_front t (drop p s) ≡ Some (drop first s) → AreBetween s first end → NoTlv (drop end s) → end < length s → (t ≡ types.OPT → ¬ (IsTruncated n stub))
+    → AreNoParts t (drop p s)
+damaged {t} {s} {stub} {n} {first} {end} p size is front w last short uncut = record {
   none = λ parts a.
       let all : drop first s ≡ tlvs parts = same_some (drop first s) (tlvs parts) (sym front ∙ a.is) in
       let both = same_split w.read parts (drop end s) [] w.are a.are last no_octets (sym w.is ∙ all ∙ sym (append-nil (tlvs parts))) in
       omega (arith, short, ap length both.1, length-drop end s);
   uncut = λ c.
       let all = opt_whole t (drop p s) (drop first s) c.is_opt front in
-      let none : NoTlv c.stub = record { none = λ x rest f e. truncated_tlv (length (drop p s)) x rest f (subst (λ (o : List ℕ). IsTruncated (length (drop p s)) o) e c.cut) } in
+      let none : NoTlv c.stub = record { none = λ x rest f e. truncated_tlv (length (drop p s)) x rest f (rw e at c.cut) } in
       let both = same_split w.read c.parts (drop end s) c.stub w.are c.are last none (sym w.is ∙ sym all ∙ c.is) in
-      uncut c.is_opt (subst (λ (o : List ℕ). IsTruncated (length (drop p s)) o) (sym both.1) c.cut);
+      uncut c.is_opt (rw (size, is, both.1) c.cut);
 }
 
 -- ---- an option that is truncated
@@ -355,18 +367,18 @@ same_part {m} {p} {n} {t} {v} h w f =
       | inr c ↦ absurd (not_cut t (region m p n) (left.before ++ left.rest) left.all c.0)
     ]
 
-pub same_few : (m : List ℕ) (p n : ℕ) (t : RecordType) (v : RData) (i : ℕ) → is_partless t ≡ false → AreFewParts t (region m p n) i ⊎ AreCutOptions t (region m p n)
-    → Fills m p n t v → parts_in t v ≤ i
-same_few m p n t v i h few f = elim (tied m p n t v h f) [
-  | inl own ↦ elim few [
-    | inl w ↦ omega (arith, own.many, w.few, ap length (same_parts t (region m p n) own.parts w.parts own.all w.all))
-    | inr c ↦ absurd (not_cut t (region m p n) own.parts own.all c)
-  ]
+pub same_few : {m : List ℕ} {p n : ℕ} {t : RecordType} {v : RData} {i : ℕ} → is_partless t ≡ false → LacksPart m p n t i → Fills m p n t v → parts_in t v ≤ i
+same_few {m} {p} {n} {t} {v} h lacks f = elim (tied m p n t v h f) [
   | inr d ↦ omega (arith, d.1)
+  | inl own ↦ elim lacks [
+    | inl partless ↦ absurd (true≢false (sym partless ∙ h))
+    | inr (within, inl w) ↦ omega (arith, own.many, w.few, ap length (same_parts t (region m p n) own.parts w.parts own.all w.all))
+    | inr (within, inr c) ↦ absurd (not_cut t (region m p n) own.parts own.all c)
+  ]
 ]
 
-pub no_value : (m : List ℕ) (p n : ℕ) (t : RecordType) → is_partless t ≡ false → AreNoParts t (region m p n) → NoValue m p n t
-no_value m p n t h no_parts = record {
+pub no_value : {m : List ℕ} {p n : ℕ} {t : RecordType} → is_partless t ≡ false → AreNoParts t (region m p n) → NoValue m p n t
+no_value {m} {p} {n} {t} h no_parts = record {
   none = λ v f. elim (tied m p n t v h f) [ inl own ↦ no_parts.none own.parts own.all | inr c ↦ no_parts.uncut c.0 ];
 }
 

@@ -1,13 +1,15 @@
 -- What the calls give of RDATA that is looked at in the message.
-use Rattle.std.proofs.Common.{◌≡◌, ℕ, ◌<◌, ◌≤◌, inl, inr, pos, Bool, true, false, List, ◌++◌, length, drop, Some, None, refl, sym, ap, ◌∙◌, arith, true≢false, subst, ◌≢◌, ◌+◌, ◌-◌, Ok, Err, IfErr}
+use Rattle.std.proofs.Common.{◌≡◌, ℕ, ◌<◌, ◌≤◌, inl, inr, ℤ, pos, to_z, of_z, w32, List, ◌++◌, length, drop, Some, None, refl, sym, ap, ◌∙◌, arith, subst, ◌≢◌, ◌+◌, ◌-◌, Ok, Err, IfErr}
+use Rattle.std.specs.declared.cmp.Ordering.TheVariants as orderings
+use Rattle.std.proofs.lemmas.{Cmp.nat_list_cmp_total, Cmp.tied_itself, Map.Lookups.exact_bytes}
 use Rattle.std.{specs.declared.cmp.Ordering.Ordering, specs.Prelude.OnOk, specs.Prelude.MatchResult, proofs.lemmas.Bool.Decides.eqb_tells}
 use Rattle.dns_types.specs.declared.record_type.RecordType.{RecordType}
 use Rattle.dns_types.specs.declared.error.DecodeError.TheVariants as decode
 use Rattle.dns_fields.{specs.Labels.DomainName, specs.Names.IsNameIn, specs.declared.Kind.TheVariants.Name, proofs.Laws.one_end}
 use Rattle.dns_view.{specs.Putting.Put, specs.NameFields.ShowsNameAt, specs.declared.name_ref.NameRef.NameRef, proofs.Puts.put_fits}
-use Rattle.dns_rdata.specs.{declared.record_data.RData.RData, declared.view.RDataRef.RDataRef, Data.Fills, Data.fields_of, Equal.equal, Views.IsViewOf, Views.ComparesAs}
-use Rattle.dns_rdata.proofs.{DataLaws.tells_apart, OrderReads.orders_read}
-use Rattle.dns_rdata_c.specs.{Reading.HasData, Buffers.IsPut, Buffers.IsTooMany, Names.HasName, Calls.HasOrder, Calls.HasEquality, Calls.order_number, Reading.Own, Calls.IsNoOrigin}
+use Rattle.dns_rdata.specs.{declared.record_data.RData.RData, declared.view.RDataRef.RDataRef, Data.Fills, Data.fields_of, Data.data_octets, Views.IsViewOf, Views.ComparesAs}
+use Rattle.dns_rdata.proofs.{OrderReads.orders_read}
+use Rattle.dns_rdata_c.specs.{Reading.HasData, Buffers.IsPut, Buffers.IsTooMany, Names.HasName, Calls.HasOrder, Calls.HasEquality, Calls.order_number, Calls.octets_order, Reading.Own, Calls.IsNoOrigin}
 use Rattle.dns_names_wire.specs.{State.Reading, Terms.StaysBehind}
 use Rattle.dns_rdata_base.specs.Counted.{by_length}
 
@@ -15,9 +17,6 @@ use Rattle.dns_rdata_base.specs.Counted.{by_length}
 pub has_data : {m : List ℕ} {p n : ℕ} {t : RecordType} {r : RDataRef} (P : RData → Type 0) → IsViewOf m p n t r → ((v : RData) → Fills m p n t v → P v)
     → HasData m p n t P
 has_data P a h = record { value = a.filled.value; fills = a.filled.fills; holds = h a.filled.value a.filled.fills }
-
-pub of_value : {m : List ℕ} {p n : ℕ} {t : RecordType} {v : RData} (P : RData → Type 0) → Fills m p n t v → P v → HasData m p n t P
-of_value {v = v} P f h = record { value = v; fills = f; holds = h }
 
 -- ---- octets in a buffer
 
@@ -31,32 +30,39 @@ too_many e full told = record { full = omega (arith, e, full); told = told ∙ e
 
 -- ---- the order of two
 
-pub has_order : {m l : List ℕ} {p n q k : ℕ} {t : RecordType} {r s : RDataRef} {o : Ordering} → IsViewOf m p n t r → IsViewOf l q k t s
-    → ((v w : RData) → Fills m p n t v → Fills l q k t w → ComparesAs t t v w (Some o)) → HasOrder t m p n l q k (order_number o)
-has_order {m} {l} {p} {n} {q} {k} {t} a b h = record {
-  value = a.filled.value;
-  other = b.filled.value;
-  fills = a.filled.fills;
-  other_fills = b.filled.fills;
-  is_order = ap order_number ((h _ _ a.filled.fills b.filled.fills).1 ∙ orders_read _ _ t m p n l q k a.filled.fills b.filled.fills);
-}
+-- a number of an order is the same once it is passed
+passed : (o : Ordering) → to_z w32 (of_z w32 (order_number o)) ≡ order_number o
+passed orderings.Less = refl
+passed orderings.Equal = refl
+passed orderings.Greater = refl
 
-pub no_order : {m l : List ℕ} {p n q k : ℕ} {t : RecordType} {r s : RDataRef} → IsViewOf m p n t r → IsViewOf l q k t s
-    → ((v w : RData) → Fills m p n t v → Fills l q k t w → ComparesAs t t v w None) → ⊥
-no_order a b h = h a.filled.value b.filled.value a.filled.fills b.filled.fills refl
+pub has_order : {m l : List ℕ} {p n q k : ℕ} {t u : RecordType} {r s : RDataRef} {o : Ordering} → IsViewOf m p n t r → IsViewOf l q k u s
+    → ((v w : RData) → Fills m p n t v → Fills l q k u w → ComparesAs t u v w (Some o)) → HasOrder t m p n l q k (to_z w32 (of_z w32 (order_number o)))
+has_order {m} {l} {p} {n} {q} {k} {t} a b h =
+    let both = h _ _ a.filled.fills b.filled.fills in
+    let other = subst (λ (x : RecordType). Fills l q k x b.filled.value) (sym both.0) b.filled.fills in
+    record {
+      value = a.filled.value;
+      other = b.filled.value;
+      fills = a.filled.fills;
+      other_fills = other;
+      is_order = passed _ ∙ ap order_number (both.1 ∙ orders_read _ _ t m p n l q k a.filled.fills other);
+    }
 
 -- ---- whether two are equal
 
-pub has_equality : {m l : List ℕ} {p n q k : ℕ} {t : RecordType} {r s : RDataRef} {same : Bool} → IsViewOf m p n t r → IsViewOf l q k t s
-    → ((v w : RData) → Fills m p n t v → Fills l q k t w → same ≡ equal v w)
-    → (same ≡ true → HasEquality t m p n l q k (pos 1)) × (same ≡ false → HasEquality t m p n l q k (pos 0))
-has_equality {m} {l} {p} {n} {q} {k} {t} {same = same} a b h =
-    let v = a.filled in
-    let w = b.filled in
-    let d = tells_apart v.value w.value t m p n l q k v.fills w.fills in
-    let is = h v.value w.value v.fills w.fills in (
-      λ e. record { value = v.value; other = w.value; fills = v.fills; other_fills = w.fills; tells = inl (refl, d.0 (sym is ∙ e)) },
-      λ e. record { value = v.value; other = w.value; fills = v.fills; other_fills = w.fills; tells = inr (refl, λ o. true≢false (sym (d.1 o) ∙ sym is ∙ e)) },
+zero_is : (o : Ordering) → of_z w32 (order_number o) ≡ 0 → o ≡ orderings.Equal
+zero_is orderings.Less e = absurd (omega (arith, e))
+zero_is orderings.Equal e = refl
+zero_is orderings.Greater e = absurd (omega (arith, e))
+
+pub has_equality : {m l : List ℕ} {p n q k : ℕ} {t : RecordType} {o : ℤ} → HasOrder t m p n l q k o
+    → (of_z w32 o ≡ 0 → HasEquality t m p n l q k (pos 1)) × (¬ (of_z w32 o ≡ 0) → HasEquality t m p n l q k (pos 0))
+has_equality h =
+    let a = data_octets h.value in
+    let equal = λ (b : List ℕ) (e : a ≡ b). subst (λ (s : List ℕ). octets_order a s ≡ pos 0) e (ap order_number (tied_itself nat_list_cmp_total a)) in (
+      λ e. record { value = h.value; other = h.other; fills = h.fills; other_fills = h.other_fills; tells = inl (refl, exact_bytes _ _ (zero_is _ (ap (of_z w32) (sym h.is_order) ∙ e))) },
+      λ d. record { value = h.value; other = h.other; fills = h.fills; other_fills = h.other_fills; tells = inr (refl, λ e. d (ap (of_z w32) (h.is_order ∙ equal (data_octets h.other) e))) },
     )
 
 -- ---- names

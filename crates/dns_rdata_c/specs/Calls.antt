@@ -1,17 +1,16 @@
 -- What the calls give.
-use Rattle.std.specs.Prelude.{◌≡◌, ◌⊎◌, ℕ, ◌<◌, ◌≤◌, ℤ, pos, negsuc, Option, Some, None, List, [], length, false}
+use Rattle.std.specs.Prelude.{◌≡◌, ◌⊎◌, ℕ, ◌<◌, ◌≤◌, ℤ, pos, negsuc, Option, Some, None, List, [], length}
 use Rattle.std.specs.Prelude.{Result, Ok, Err}
 use Rattle.std.specs.{Ordering.nat_cmp, Cmp.Lexicographic.slice_cmp, declared.cmp.Ordering.Ordering}
 use Rattle.std.specs.declared.cmp.Ordering.TheVariants.{Less, Equal, Greater}
-use Rattle.dns_fields.specs.{Labels.DomainName, Names.IsNameIn, Fields.canonical, Fields.all_emittable}
-use Rattle.dns_names_wire.specs.Terms.{Because}
-use Rattle.dns_types.specs.{declared.error.ProtoError.ProtoError, declared.error.DecodeError.DecodeError, declared.error.ParseError.ParseError}
+use Rattle.dns_fields.specs.{Labels.DomainName, Names.IsNameIn}
+use Rattle.dns_types.specs.{declared.error.DecodeError.DecodeError, declared.error.ParseError.ParseError}
 use Rattle.dns_types.specs.declared.record_type.RecordType.{RecordType}
 use Rattle.dns_types.specs.declared.error.DecodeError.TheVariants as decode
 use Rattle.dns_rdata.specs.{declared.record_data.RData.RData, WholeOctets.whole_data}
-use Rattle.dns_rdata.specs.Data.{Fills, fields_of, data_octets}
+use Rattle.dns_rdata.specs.Data.{Fills, data_octets}
 use Rattle.dns_rdata_zone.specs.{ZoneGives.GivesValue, ZoneGives.GivesNone, ZoneFaults.ZoneFault, ZoneTexts.zone_text}
-use Rattle.dns_rdata_c.specs.{declared.check.Reason.Reason, Reading.IsCauseAt}
+use Rattle.dns_rdata_c.specs.{declared.rdata.Reason.Reason, Reading.IsCauseAt}
 use Rattle.dns_rdata_c.specs.Status.{decode_status, parse_status}
 use Rattle.dns_rdata_c.specs.Buffers.{IsPut, IsTooMany}
 
@@ -63,11 +62,6 @@ pub record IsWhy (m : List ℕ) (p n : ℕ) (t : RecordType) (status : ℕ) (why
   pub cause : IsCauseAt m p n t error own offset
 
 -- ---- octets
-
--- the octets are the uncompressed octets of the value
-pub record IsWire (v : RData) (octets : List ℕ) : Type 0 where
-  pub is : octets ≡ whole_data v
-  pub short : length octets ≤ 65535
 
 -- the octets of the value are in the buffer
 pub record PutsWire (v : RData) (old new : List ℕ) (count : ℕ) : Type 0 where
@@ -148,15 +142,3 @@ pub record IsRefusedZoneText (octets : List ℕ) (t : RecordType) (text : List �
 pub record OfZoneText (t : RecordType) (text : List ℕ) (P : List ℕ → Type 0) : Type 0 where
   pub holds : (m : List ℕ) (p n : ℕ) (v : RData) → Fills m p n t v → length (whole_data v) ≤ 65535
       → text ≡ zone_text v → P (whole_data v)
-
--- ---- written octets
-
--- why a value is not written
-abbrev pub IsUnwritten : RData → ProtoError → Type 0
-IsUnwritten v e =
-    Because e (65535 < length (canonical (fields_of v).kinds (fields_of v).values))
-    (all_emittable (fields_of v).kinds (fields_of v).values ≡ false)
-
--- the status by which a value has no octets: memory ran out, or they are too many
-abbrev pub IsUnmade : RData → ℕ → Type 0
-IsUnmade v status = (status ≡ 1) ⊎ ((status ≡ 3) × (65535 < length (whole_data v)))

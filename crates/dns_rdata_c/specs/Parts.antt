@@ -100,7 +100,6 @@ pub record AreBetween (s : List ℕ) (begin end : ℕ) : Type 0 where
   pub read : List (Numbered (List ℕ))
   pub are : AreTlvs read
   pub is : drop begin s ≡ tlvs read ++ drop end s
-  pub inside : end ≤ length s
 
 -- ---- of octets in a message
 

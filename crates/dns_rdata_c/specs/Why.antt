@@ -6,7 +6,7 @@ use Rattle.dns_types.specs.declared.error.ParseError.TheVariants as parse
 use Rattle.dns_types.specs.declared.error.ProtoError.TheVariants as proto
 use Rattle.dns_zone_rows.specs.TokenFaults.{IsTokenAtFault}
 use Rattle.dns_rdata_zone.specs.{ZoneGives.GivesNone, ZoneFaults.ZoneFault}
-use Rattle.dns_rdata_c.specs.{declared.why.TextFault.TextFault, Calls.IsOrigin, Status.decode_status}
+use Rattle.dns_rdata_c.specs.{declared.parse.TextFault.TextFault, Calls.IsOrigin, Status.decode_status}
 
 -- what an error says: the field of a missing token, or what is wrong
 abbrev pub reason_text : ParseError → List ℕ

@@ -5,18 +5,10 @@
 //! (`status`). `c/include/dns_rdata.h` declares the calls and is their document for C.
 #![tactic(auto)]
 
-pub mod check;
-pub mod compare;
-pub mod name_calls;
 pub mod names;
 pub mod parse;
 pub mod parts;
-mod putting;
 pub mod rdata;
-mod reading;
 pub mod records;
 pub mod status;
-pub mod text;
-pub mod types;
-pub mod why;
-pub mod wire;
+pub mod writing;

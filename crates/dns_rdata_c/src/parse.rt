@@ -1,23 +1,24 @@
-//! RDATA from zone file texts.
+//! RDATA from zone file texts, and why a text gives none.
 
-ghost use Rattle.std.specs.Prelude.{◌≡◌, ◌≢◌, ◌<◌, ◌≤◌, ◌⊎◌, [], length as size, IfOk, IfErr, OnOk};
+ghost use Rattle.std.specs.Prelude.{◌≡◌, ◌≢◌, ◌<◌, ◌≤◌, ◌⊎◌, ℕ, List, length as size, IfOk, IfErr};
 ghost use Rattle.std.specs.Option.{option_copied};
-ghost use Rattle.dns_types.specs.RecordTypes.{record_type_of};
+ghost use Rattle.dns_types.specs.{RecordTypes.record_type_of, Errors.IsAbout};
 ghost use Rattle.dns_rdata.specs.{Data.IsEmittable, WholeOctets.whole_data};
 ghost use Rattle.dns_rdata_zone.specs.ZoneGives.{AreDataOf, GivesValue};
-ghost use Rattle.dns_rdata_c.specs.{Buffers.IsPut, Calls.IsOrigin, Calls.IsNoOrigin, Calls.IsNoZoneText, Calls.OfZoneText};
-ghost use Rattle.dns_rdata_c.specs.Calls.{HasZoneData, IsRefusedZoneText, IsUnwritten, IsWire, IsUnmade, PutsWire, LacksRoomForWire};
+ghost use Rattle.dns_rdata_c.specs.{Buffers.IsPut, Buffers.IsTextPut, Buffers.IsTextTooLong, Calls.IsOrigin, Calls.IsNoOrigin, Calls.IsNoZoneText, Calls.OfZoneText};
+ghost use Rattle.dns_rdata_c.specs.{Calls.HasZoneData, Calls.IsRefusedZoneText, Calls.PutsWire, Calls.LacksRoomForWire};
+ghost use Rattle.dns_rdata_c.specs.Why.{reason_text, cause_in, IsFieldAt, IsTextFault, IsWhyNone};
 
-use crate::putting::{MAX_OCTETS, put_octets};
-use crate::status::{BUFFER, MEMORY, NO_DATA_TEXT, OK, ORIGIN, TOO_LONG, status_of_text};
-use dns_rdata::{
-    BinDecodable, BinDecoder, BinEncoder, DecodeError, Name, ProtoError, RData, RecordType,
+use crate::status::{
+    ABSENT, BUFFER, MEMORY, NO_DATA_TEXT, OK, ORIGIN, TOO_LONG, status_of, status_of_text,
 };
-use dns_rdata_zone::from_zone_text;
+use crate::writing::{put_text, told};
+use dns_rdata::{
+    BinDecodable, BinDecoder, BinEncoder, DecodeError, Name, ParseError, ProtoError, RData,
+    RecordType,
+};
+use dns_rdata_zone::{from_zone_text, token_at_fault};
 use std::alloc::Global;
-
-// The first allocation for octets, so that most RDATA needs no second one.
-const FIRST_ROOM: usize = 512;
 
 // The name of these octets, or none where there are none.
 pub(crate) fn origin_of(alloc: Global, octets: &[u8]) -> Result<Option<Name>, u32>
@@ -41,44 +42,9 @@ pub(crate) fn origin_of(alloc: Global, octets: &[u8]) -> Result<Option<Name>, u3
     }
 }
 
-// Appends the uncompressed octets of a value to an empty vector.
-fn emit_to(alloc: Global, octets: &mut Vec<u8>, value: &RData) -> Result<(), ProtoError>
-    requires { octets.old.items ≡ [] }
-    ensures ok { OnOk result (octets.new.items ≡ whole_data value.now) }
-    ensures refused { IfErr result (IsUnwritten value.now) }
-{
-    let mut encoder = BinEncoder::new(alloc, octets);
-    let outcome = value.emit_whole(&mut encoder);
-    let _written = encoder.into_bytes();
-    outcome
-}
-
-// The uncompressed octets of a value, or the status of the error. `RData::emit` would compress the names of CNAME, MX,
-// NS, PTR and SOA, by pointers into the encoder's own message.
+// Writes the uncompressed octets of a value to a buffer, and sets the count of octets. `RData::emit` would compress the
+// names of CNAME, MX, NS, PTR and SOA, by pointers into the encoder's own message.
 #[tactic(auto, using(dns_rdata_zone::proofs::Again::same_length))]
-fn whole_octets(alloc: Global, value: &RData) -> Result<Vec<u8>, u32>
-    requires { IsEmittable value.now }
-    ensures made { IfOk result (λ octets. IsWire value.now octets.items) }
-    ensures refused { IfErr result (IsUnmade value.now) }
-{
-    let Ok(mut octets) = Vec::with_capacity(alloc, FIRST_ROOM) else {
-        return Err(MEMORY);
-    };
-    match emit_to(alloc, &mut octets, value) {
-        Ok(()) => {
-            if octets.len() > MAX_OCTETS {
-                return Err(TOO_LONG);
-            }
-            Ok(octets)
-        }
-        Err(ProtoError::Memory) => Err(MEMORY),
-        Err(ProtoError::MaxBufferSizeExceeded) => Err(TOO_LONG),
-        // Unreachable: the value can be emitted.
-        Err(_) => Err(MEMORY),
-    }
-}
-
-// Writes the uncompressed octets of a value to a buffer, and sets the count of octets.
 fn put_wire(alloc: Global, value: &RData, out: &mut [u8], count: &mut usize) -> u32
     requires { IsEmittable value.now }
     ensures ok { result ≡ OK → PutsWire value.now out.old out.new count.new }
@@ -88,9 +54,24 @@ fn put_wire(alloc: Global, value: &RData, out: &mut [u8], count: &mut usize) -> 
     ensures kept { result ≢ OK → out.new ≡ out.old }
     ensures untold { result ≢ OK → result ≢ BUFFER → count.new ≡ count.old }
 {
-    match whole_octets(alloc, value) {
-        Err(status) => status,
-        Ok(octets) => put_octets(octets.as_slice(), out, count),
+    // Most RDATA needs no second allocation.
+    let Ok(mut octets) = Vec::with_capacity(alloc, 512) else {
+        return MEMORY;
+    };
+    let mut encoder = BinEncoder::new(alloc, &mut octets);
+    let outcome = value.emit_whole(&mut encoder);
+    let octets = encoder.into_bytes().as_slice();
+    match outcome {
+        Ok(()) => {
+            let status = told(octets.len(), out.len(), count);
+            if status == OK {
+                out[..octets.len()].copy_from_slice(octets);
+            }
+            status
+        }
+        Err(ProtoError::MaxBufferSizeExceeded) => TOO_LONG,
+        // Memory ran out: the value can be emitted.
+        Err(_) => MEMORY,
     }
 }
 
@@ -145,5 +126,108 @@ pub extern "C" fn dns_rdata_parse(
     match read_zone_text(alloc, RecordType::from(type_number), text, origin.as_ref()) {
         Err(status) => status,
         Ok(value) => put_wire(alloc, &value, out, count),
+    }
+}
+
+/// What the error of a text is about. Numbers that it does not have are 0.
+#[repr(C)]
+#[derive(Clone, Copy)]
+pub struct TextFault {
+    /// The offset in the text where the token starts that the error is about. `end` is 0 if there is no such token.
+    pub begin: usize,
+    /// The offset where it ends.
+    pub end: usize,
+    /// The offset in the reason where the name of the field starts that the error is about.
+    pub field: usize,
+    /// How many octets the name has: 0 if the error is about no field.
+    pub field_length: usize,
+    /// The status with which the octets of the text are rejected, if that is the error.
+    pub cause: u32,
+}
+
+// The text that an error has: the name of the field of a missing token, or what is wrong. Other errors have none.
+fn reason_of(error: &ParseError) -> &'static str
+    ensures { result.now ≡ reason_text error.now }
+{
+    match error {
+        ParseError::MissingToken(text) | ParseError::Message(text) => *text,
+        _ => "",
+    }
+}
+
+// Where the name of the field is in the text of an error, and how many octets it has.
+fn field_of(error: &ParseError) -> (usize, usize)
+    ensures { IsFieldAt error.now result }
+{
+    let Some(name) = error.field() else {
+        return (0, 0);
+    };
+    let len = name.len();
+    match error {
+        // ` token` follows the name.
+        ParseError::Message(text) => (text.len().saturating_sub(len + 6), len),
+        _ => (0, len),
+    }
+}
+
+// The numbers of the error of a text.
+fn fault_of(record_type: RecordType, text: &[u8], error: &ParseError) -> TextFault
+    ensures { IsTextFault record_type text.now error.now result }
+{
+    let (begin, end) = match token_at_fault(record_type, text, error) {
+        Some(token) => (token.start, token.end),
+        None => (0, 0),
+    };
+    let (field, field_length) = field_of(error);
+    let cause = match error {
+        ParseError::Proto(ProtoError::Decode(cause)) => status_of(*cause),
+        _ => OK,
+    };
+    TextFault {
+        begin,
+        end,
+        field,
+        field_length,
+        cause,
+    }
+}
+
+/// Writes why a text gives no RDATA to a buffer, with a 0 after it, and sets `count` to the length: the name of the
+/// field of a missing token, or what is wrong; nothing if the status of `dns_rdata_parse` says all. Sets the token and
+/// the field that the error is about. If the text gives RDATA, the status is `ABSENT`.
+#[unsafe(no_mangle)]
+pub extern "C" fn dns_rdata_parse_why(
+    alloc: Global,
+    text: &[u8],
+    type_number: u16,
+    origin: &[u8],
+    out: &mut [u8],
+    count: &mut usize,
+    fault: &mut TextFault,
+) -> u32
+    ensures ok { result ≡ OK → IsWhyNone origin.now (record_type_of type_number) text.now
+        (λ e. IsTextPut (reason_text e) out.old out.new count.new × IsTextFault (record_type_of type_number) text.now e fault.new) }
+    ensures buffer { result ≡ BUFFER → IsWhyNone origin.now (record_type_of type_number) text.now
+        (λ e. IsTextTooLong (reason_text e) out.old out.new count.new × IsTextFault (record_type_of type_number) text.now e fault.new) }
+    ensures absent { result ≡ ABSENT → HasZoneData origin.now (record_type_of type_number) text.now (λ v. Unit {0}) }
+    ensures origin { result ≡ ORIGIN → IsNoOrigin origin.now }
+    ensures status { (result ≡ OK) ⊎ (result ≡ MEMORY) ⊎ (result ≡ BUFFER) ⊎ (result ≡ ORIGIN) ⊎ (result ≡ ABSENT) }
+    ensures kept { result ≢ OK → out.new ≡ out.old }
+    ensures untold { result ≢ OK → result ≢ BUFFER → (count.new ≡ count.old) × (fault.new ≡ fault.old) }
+{
+    let origin = match origin_of(alloc, origin) {
+        Ok(origin) => origin,
+        Err(status) => return status,
+    };
+    let record_type = RecordType::from(type_number);
+    match from_zone_text(alloc, record_type, text, origin.as_ref()) {
+        Ok(_) => ABSENT,
+        Err(error) => {
+            if status_of_text(error) == MEMORY {
+                return MEMORY;
+            }
+            *fault = fault_of(record_type, text, &error);
+            put_text(reason_of(&error).as_bytes(), out, count)
+        }
     }
 }

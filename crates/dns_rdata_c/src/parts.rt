@@ -46,8 +46,7 @@ fn is_partless(record_type: RecordType) -> bool
 #[tactic(auto, using(crate::proofs::PartOctets::name_begins, crate::proofs::PartOctets::name_points, crate::proofs::PartOctets::name_goes_on))]
 fn service_end(octets: &[u8], begin: usize) -> Option<usize>
     requires { begin ≤ size octets.now }
-    ensures { MatchOption result (after_name 2 (drop begin octets.now) ≡ None)
-        (λ end. (end ≤ size octets.now) × (after_name 2 (drop begin octets.now) ≡ Some (drop end octets.now))) }
+    ensures { MatchOption result (after_name 2 (drop begin octets.now) ≡ None) (λ end. after_name 2 (drop begin octets.now) ≡ Some (drop end octets.now)) }
 {
     let mut at = begin + 2;
     'labels: while at < octets.len() {
@@ -70,13 +69,11 @@ fn service_end(octets: &[u8], begin: usize) -> Option<usize>
 // Where the parts begin.
 fn front_end(record_type: RecordType, octets: &[u8], begin: usize) -> Option<usize>
     requires { begin ≤ size octets.now }
-    ensures { MatchOption result (after_front record_type (drop begin octets.now) ≡ None)
-        (λ end. (end ≤ size octets.now) × (after_front record_type (drop begin octets.now) ≡ Some (drop end octets.now))) }
+    ensures { MatchOption result (after_front record_type (drop begin octets.now) ≡ None) (λ end. after_front record_type (drop begin octets.now) ≡ Some (drop end octets.now)) }
 {
     match record_type {
         RecordType::OPT => Some(begin),
-        RecordType::HTTPS => service_end(octets, begin),
-        RecordType::SVCB => service_end(octets, begin),
+        RecordType::HTTPS | RecordType::SVCB => service_end(octets, begin),
         _ => None,
     }
 }
@@ -86,10 +83,7 @@ fn front_end(record_type: RecordType, octets: &[u8], begin: usize) -> Option<usi
 fn part_at(octets: &[u8], at: usize) -> Option<Part>
     ensures { MatchOption result (NoTlv (drop at octets.now)) (λ part. IsPartAt octets.now at part.number part.begin part.count) }
 {
-    if at > octets.len() {
-        return None;
-    }
-    let rest = &octets[at..];
+    let rest = octets.get(at..)?;
     if rest.len() < 4 {
         return None;
     }
@@ -104,42 +98,24 @@ fn part_at(octets: &[u8], at: usize) -> Option<Part>
     })
 }
 
-// Where the parts end that follow each other from an offset on.
-#[tactic(auto, using(crate::proofs::PartOctets::parts_more, crate::proofs::PartOctets::part_room))]
-fn parts_end(octets: &[u8], begin: usize) -> usize
-    requires { begin ≤ size octets.now }
-    ensures parts { AreBetween octets.now begin result }
-    ensures none { NoTlv (drop result octets.now) }
-{
-    let mut end = begin;
-    'parts: loop {
-        match part_at(octets, end) {
-            None => return end,
-            Some(part) => end = part.begin + part.count,
-        }
-    }
-}
-
-// The part of this number among those from an offset on.
-#[tactic(auto, using(crate::proofs::PartOctets::step, crate::proofs::PartOctets::part_room))]
-fn nth_part(octets: &[u8], first: usize, index: usize) -> Option<Part>
-    ensures { (p : ℕ) (t : RecordTypeValue) → AreLeft octets.now p t 0 first → MatchOption result (AreFewParts t (drop p octets.now) index)
+// The part of this number among those that follow each other from an offset on, and where they end.
+fn walk_parts(octets: &[u8], first: usize, index: usize) -> (Option<Part>, usize)
+    ensures parts { AreBetween octets.now first result.1 }
+    ensures none { NoTlv (drop result.1 octets.now) }
+    ensures part { (p : ℕ) (t : RecordTypeValue) → AreLeft octets.now p t 0 first → MatchOption result.0 (AreFewParts t (drop p octets.now) index)
         (λ part. IsPartOf octets.now p t index part.number part.begin part.count) }
 {
-    let mut at = first;
+    let mut found = None;
     let mut i = 0;
-    'parts: loop {
-        match part_at(octets, at) {
-            None => return None,
-            Some(part) => {
-                if i == index {
-                    return Some(part);
-                }
-                i += 1;
-                at = part.begin + part.count;
-            }
+    let mut end = first;
+    'parts: while let Some(part) = part_at(octets, end) {
+        if i == index {
+            found = Some(part);
         }
+        i += 1;
+        end = part.begin + part.count;
     }
+    (found, end)
 }
 
 // Whether these octets are a truncated option, in RDATA of so many octets.
@@ -162,48 +138,17 @@ fn stub_status(record_type: RecordType, stub: &[u8], length: u16) -> u32
     ensures status { (result ≡ ABSENT) ⊎ (result ≡ LENGTH) }
 {
     match record_type {
-        RecordType::OPT => { if is_cut(stub, length) { ABSENT } else { LENGTH } }
+        RecordType::OPT if is_cut(stub, length) => ABSENT,
         _ => LENGTH,
-    }
-}
-
-// The part of this number in the RDATA that these octets end with, or the status of the error.
-fn find_part(
-    record_type: RecordType,
-    octets: &[u8],
-    offset: usize,
-    length: u16,
-    index: usize,
-) -> Result<Part, u32>
-    requires { size octets.now ≡ offset + length }
-    ensures found { IfOk result (λ part. IsPartOf octets.now offset record_type index part.number part.begin part.count) }
-    ensures absent { IfErr result (λ s. s ≡ ABSENT → AreFewParts record_type (drop offset octets.now) index ⊎ AreCutOptions record_type (drop offset octets.now)) }
-    ensures name { IfErr result (λ s. s ≡ NAME → HasNoFront record_type (drop offset octets.now)) }
-    ensures damaged { IfErr result (λ s. s ≡ LENGTH → AreNoParts record_type (drop offset octets.now)) }
-    ensures status { IfErr result (λ s. (s ≡ ABSENT) ⊎ (s ≡ NAME) ⊎ (s ≡ LENGTH)) }
-{
-    let Some(first) = front_end(record_type, octets, offset) else {
-        return Err(NAME);
-    };
-    let end = parts_end(octets, first);
-    if end < octets.len() {
-        return Err(stub_status(record_type, &octets[end..], length));
-    }
-    match nth_part(octets, first, index) {
-        None => Err(ABSENT),
-        Some(part) => Ok(part),
     }
 }
 
 // The message up to the end of the RDATA.
 fn data_end(message: &[u8], offset: usize, length: u16) -> Option<&[u8]>
     ensures { MatchOption result (size message.now < offset + length)
-        (λ octets. (offset + length ≤ size message.now) × (octets.now ≡ take (offset + length) message.now)) }
+        (λ octets. (offset + length ≤ size message.now) × (octets.now ≡ take (offset + length) message.now) × (length ≡ size (drop offset octets.now))) }
 {
-    if offset > message.len() || length as usize > message.len() - offset {
-        return None;
-    }
-    Some(&message[..offset + length as usize])
+    message.get(..offset.saturating_add(length as usize))
 }
 
 /// Finds an option of OPT, or a parameter of SVCB or HTTPS: sets its code or key, the offset of its octets in the
@@ -238,15 +183,20 @@ pub extern "C" fn dns_rdata_part(
     let Some(octets) = data_end(rdata.message, rdata.offset, rdata.length) else {
         return MISSING_OCTETS;
     };
-    match find_part(record_type, octets, rdata.offset, rdata.length, index) {
-        Err(status) => status,
-        Ok(part) => {
-            *number = part.number;
-            *begin = part.begin;
-            *count = part.count;
-            OK
-        }
+    let Some(first) = front_end(record_type, octets, rdata.offset) else {
+        return NAME;
+    };
+    let (found, end) = walk_parts(octets, first, index);
+    if end < octets.len() {
+        return stub_status(record_type, &octets[end..], rdata.length);
     }
+    let Some(part) = found else {
+        return ABSENT;
+    };
+    *number = part.number;
+    *begin = part.begin;
+    *count = part.count;
+    OK
 }
 
 /// Sets a cursor to the first option or parameter. It looks at each length once, as `dns_rdata_part` does, and returns

@@ -3,10 +3,10 @@
 ghost use Rattle.std.specs.Prelude.{◌≡◌, ◌≢◌, ◌≤◌, ◌<◌, ◌⊎◌, length as size};
 ghost use Rattle.dns_message.specs.{Headers.HasHeader};
 ghost use Rattle.dns_rdata_c.specs.RecordWalks.{BeginsWalk, NeverBegins, Passes, HasContent, HasRejected, EndsAtDamage, EndsAtPointers, IsAtEnd};
-ghost use Rattle.dns_rdata_c.specs.RecordWalks.{progress, cursor, section_number, told_of};
+ghost use Rattle.dns_rdata_c.specs.RecordWalks.{cursor, told_of};
 
 use crate::status::{ABSENT, DAMAGED, HEADER, OK, POINTERS, QUESTION, RECORD, REFUSED, status_of};
-use dns_message::{Fault, MessageRef, PassedRecord, Progress, Section};
+use dns_message::{Fault, MessageRef, PassedRecord, Progress};
 
 /// Where a walk over the records of a message is. The caller holds it; any numbers in it are safe.
 #[repr(C)]
@@ -46,29 +46,6 @@ pub struct Record {
     pub has_data: u16,
 }
 
-// The number of a section.
-fn number_of(section: Section) -> u32
-    ensures { result ≡ section_number section }
-{
-    match section {
-        Section::Question => 0,
-        Section::Answer => 1,
-        Section::Authority => 2,
-        Section::Additional => 3,
-    }
-}
-
-fn progress_of(records: &RecordsCursor) -> Progress
-    ensures { result ≡ progress records.now }
-{
-    Progress {
-        offset: records.next,
-        passed: records.passed,
-        until: records.until,
-        left: records.left,
-    }
-}
-
 fn cursor_of(place: Progress) -> RecordsCursor
     ensures { result ≡ cursor place }
 {
@@ -88,7 +65,7 @@ fn record_of(offset: usize, step: &PassedRecord) -> Record
         owner: offset,
         rdata: step.fields.rdata,
         index: step.index,
-        section: number_of(step.section),
+        section: step.section as u32,
         ttl: step.fields.ttl,
         type_number: step.fields.record_type,
         class: step.fields.class,
@@ -158,7 +135,12 @@ pub extern "C" fn dns_rdata_records_next(
         return ABSENT;
     };
     let owner = records.next;
-    let mut progress = progress_of(records);
+    let mut progress = Progress {
+        offset: records.next,
+        passed: records.passed,
+        until: records.until,
+        left: records.left,
+    };
     let Some(step) = message.step(&mut progress) else {
         return ABSENT;
     };

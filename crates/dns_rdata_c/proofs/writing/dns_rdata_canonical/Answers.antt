@@ -2,7 +2,7 @@ use Rattle.std.proofs.Common.{arith}
 use Rattle.dns_rdata.proofs.DataLaws.{reads_canonical}
 use Rattle.dns_view.proofs.Puts.{put_size}
 use Rattle.dns_rdata_c.proofs.ViewCalls.{has_data, is_put}
-use Rattle.dns_rdata_c.proofs.wire.dns_rdata_canonical.Goals as goal
+use Rattle.dns_rdata_c.proofs.writing.dns_rdata_canonical.Goals as goal
 
 pub returns-in-Ok-clause-ok : goal.returns-in-Ok-clause-ok
 returns-in-Ok-clause-ok c = λ ok. has_data _ c.in-Ok.ensures.found (λ v f.

@@ -1,7 +1,7 @@
 use Rattle.std.proofs.Common.{inl, inr, refl, Err}
 use Rattle.dns_rdata_c.proofs.ViewCalls.{counted}
 use Rattle.dns_types.specs.declared.error.DecodeError.TheVariants as decode
-use Rattle.dns_rdata_c.proofs.check.dns_rdata_check.Goals as goal
+use Rattle.dns_rdata_c.proofs.rdata.dns_rdata_check.Goals as goal
 
 pub returns-in_default-clause-why : goal.returns-in_default-clause-why
 returns-in_default-clause-why c = λ bad. record {

@@ -1,7 +1,7 @@
 use Rattle.std.proofs.Common.{◌≡◌, rules}
 use Rattle.dns_rdata_c.specs.Why.{reason_text}
 use Rattle.dns_rdata_c.proofs.ZoneReads.{why_none}
-use Rattle.dns_rdata_c.proofs.why.dns_rdata_parse_why.Goals as goal
+use Rattle.dns_rdata_c.proofs.parse.dns_rdata_parse_why.Goals as goal
 
 pub returns-clause-ok : goal.returns-clause-ok
 returns-clause-ok c = λ ok.
