@@ -52,11 +52,11 @@ abbrev first_strings : (kinds : List Kind) → Values kinds → List (List ℕ)
 first_strings (CharacterStrings ∷ kinds) vs = vs.0
 first_strings kinds vs = []
 
-abbrev first_options : (kinds : List Kind) → Values kinds → List (Numbered OptionValue)
+abbrev pub first_options : (kinds : List Kind) → Values kinds → List (Numbered OptionValue)
 first_options (Options ∷ kinds) vs = vs.0
 first_options kinds vs = []
 
-abbrev third_parameters : (kinds : List Kind) → Values kinds → List (Numbered ParameterValue)
+abbrev pub third_parameters : (kinds : List Kind) → Values kinds → List (Numbered ParameterValue)
 third_parameters (a ∷ (b ∷ (Parameters ∷ kinds))) vs = vs.1.1.0
 third_parameters kinds vs = []
 
@@ -64,11 +64,11 @@ strings_first : (v : RData) → strings_in v ≡ first_strings (fields_of v).kin
 strings_first (rdata.TXT x) = refl
 strings_first v = refl
 
-options_first : (v : RData) → options_in v ≡ first_options (fields_of v).kinds (fields_of v).values
+pub options_first : (v : RData) → options_in v ≡ first_options (fields_of v).kinds (fields_of v).values
 options_first (rdata.OPT x) = refl
 options_first v = refl
 
-parameters_third : (v : RData) → parameters_in v ≡ third_parameters (fields_of v).kinds (fields_of v).values
+pub parameters_third : (v : RData) → parameters_in v ≡ third_parameters (fields_of v).kinds (fields_of v).values
 parameters_third (rdata.SVCB x) = refl
 parameters_third v = refl
 

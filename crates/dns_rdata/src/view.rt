@@ -14,7 +14,7 @@ use crate::record_data::RData;
 use dns_names_wire::{BinDecoder, DecodeError, RecordType, Restrict};
 use dns_rows::row::NULL;
 use dns_rows::{Part, Row, row_of};
-use dns_view::skip::skip_row;
+use dns_view::skip::{is_near, skip_row};
 use dns_view::{FieldRef, NameRef, RowView, StringsRef, Tlvs, TypesRef, Walk};
 use std::alloc::{AllocError, Global};
 use std::cmp::Ordering;
@@ -103,8 +103,20 @@ impl<'a> RDataRef<'a> {
         let Some(parts) = parts_of_type(record_type) else {
             return Err(DecodeError::UnknownRecordTypeValue(record_type.into()));
         };
+        let (len, mut unlimited) = (length.unverified(), usize::MAX);
+        // RDATA that is not damaged is mostly checked without a `Result`, which is passed in memory, and its view is returned here.
+        if let Some(view) = RowView::near(
+            decoder.message(),
+            start,
+            record_type,
+            parts,
+            len,
+            &mut unlimited,
+        ) {
+            let _taken = decoder.read_slice(len as usize);
+            return Ok(RDataRef { view });
+        }
         let mut walk = Walk::at(decoder.message(), start);
-        let mut unlimited = usize::MAX;
         let outcome = RowView::read(&mut walk, record_type, parts, length, &mut unlimited);
         let _taken = decoder.read_slice(walk.index() - start);
         match outcome {
@@ -136,11 +148,15 @@ impl<'a> RDataRef<'a> {
         ensures behind { StaysBehind walk.old walk.new }
         ensures pointers { Leaves (RDataPointers record_type length walk.old) left.old left.new }
     {
-        // For the proof: brings in that the offset is inside the message.
-        let _start = walk.index();
+        let start = walk.index();
         let Some(parts) = parts_of_type(record_type) else {
             return Err(DecodeError::UnknownRecordTypeValue(record_type.into()));
         };
+        let len = length.unverified();
+        if let Some(view) = RowView::near(walk.message(), start, record_type, parts, len, left) {
+            let _taken = walk.read_slice(len as usize);
+            return Ok(RDataRef { view });
+        }
         match RowView::read(walk, record_type, parts, length, left) {
             Ok(view) => Ok(RDataRef { view }),
             Err(e) => Err(e),
@@ -175,14 +191,13 @@ impl<'a> RDataRef<'a> {
         let Some(parts) = parts_of_type(record_type) else {
             return Err(DecodeError::UnknownRecordTypeValue(record_type.into()));
         };
+        let (len, mut unlimited) = (length.unverified() as usize, usize::MAX);
+        if is_near(decoder.message(), start, parts, len, &mut unlimited) {
+            let _taken = decoder.read_slice(len);
+            return Ok(());
+        }
         let mut walk = Walk::at(decoder.message(), start);
-        let mut unlimited = usize::MAX;
-        let own = skip_row(
-            &mut walk,
-            parts,
-            length.unverified() as usize,
-            &mut unlimited,
-        );
+        let own = skip_row(&mut walk, parts, len, &mut unlimited);
         let _taken = decoder.read_slice(walk.index() - start);
         own
     }

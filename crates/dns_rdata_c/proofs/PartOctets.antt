@@ -1,16 +1,18 @@
 -- The parts of octets: what precedes them, how they follow each other, and what they are of a value.
 use Rattle.std.proofs.Common.{MatchOption, ◌≡◌, ◌↔◌, ◌∙◌, ◌⊎◌, ℕ, ◌+◌, ◌-◌, ◌*◌, ◌/◌, ◌%◌, ◌^◌, ◌<◌, ◌≤◌, zero, suc, false, inl, inr, Option, Some, None, List, [], ◌∷◌, ◌++◌, length, take, drop, get_or, refl, sym, ap, subst, arith, append_assoc, length-append, length-take-le, true≢false}
 use Rattle.std.specs.{Int.bytes_high_first}
-use Rattle.std.proofs.lemmas.{Bool.Decides.nat_tests, Grind.flat_map-append, List.append-nil, List.drop_all, List.drop_at, List.drop_more, List.drop-drop, List.drop-take, List.get_or-drop, List.length-drop, List.length-take, List.take_at, List.take-append-drop}
-use Rattle.dns_fields.specs.{Octets.At, Labels.AreLabels, Labels.wire, Names.LabelsStand, Names.pointer, Names.LabelsStand.whole, Names.LabelsStand.pointed, Fields.Stands, Fields.Values, declared.Kind.Kind, declared.Kind.TheVariants.Options, declared.Kind.TheVariants.Parameters}
+use Rattle.std.proofs.lemmas.{Bool.Decides.nat_tests, List.append-nil, List.drop_all, List.drop_at, List.drop_more, List.drop-drop, List.drop-take, List.get_or-drop, List.length-drop, List.length-take, List.take_at, List.take-append-drop}
+use Rattle.dns_fields.specs.{Octets.At, Labels.AreLabels, Labels.wire, Names.LabelsStand, Names.pointer, Names.LabelsStand.whole, Names.LabelsStand.pointed, Fields.Stands, Fields.Values}
 use Rattle.dns_fields.specs.Tlvs.{Numbered, tlv, tlvs, IsTlv, AreTlvs, IsTruncated, AllHeld, OptionHeld, OptionValue, ParameterHeld, ParameterValue}
 use Rattle.dns_fields.proofs.Tlvs.{first_tlv, heads_same, no_tlv, tlv_before, length-tlv, truncated_tlv, complete_or_truncated, tlvs_same}
 use Rattle.dns_names_wire.proofs.Strings.{at_then}
-use Rattle.dns_view.{specs.TlvList.NoTlv, proofs.Splits.all_append, proofs.Splits.all_behind, proofs.TlvSteps.no_octets}
+use Rattle.dns_view.{specs.TlvList.NoTlv, proofs.Splits.all_append, proofs.Splits.all_behind, proofs.TlvParts.part_there, proofs.TlvParts.tlvs_more}
+use Rattle.dns_view.proofs.TlvSteps.{two, two_of, octets_of, in_front, no_octets}
 use Rattle.dns_types.specs.declared.record_type.RecordType.{RecordType}
 use Rattle.dns_types.specs.declared.record_type.RecordType.TheVariants as types
 use Rattle.dns_rdata.specs.{declared.record_data.RData.RData, Data.FieldsOf, Data.fields_of, Data.Fills, Data.NoValue, ViewLists.options_in, ViewLists.parameters_in}
 use Rattle.dns_rdata.specs.declared.record_data.RData.TheVariants as rdata
+use Rattle.dns_rdata.proofs.ViewLists.{first_options, options_first, third_parameters, parameters_third}
 use Rattle.dns_rdata_options.specs.OPT.{opt_shape}
 use Rattle.dns_rdata_service.specs.SVCB.{svcb_shape}
 use Rattle.dns_rdata_c.specs.Parts.{after_first, after_name, after_front, HasNoFront, AreParts, AreCutOptions, AreNoParts, AreFewParts, AreLeft, IsPartAt, AreBetween, is_partless, HasPart, LacksPart, IsBefore, parts_in, HoldValue, IsPartIn}
@@ -84,30 +86,16 @@ name_there {m} {p} {e} {labels} (pointed front rest target rest_end behind are i
 
 -- ---- four octets in front
 
-octets_of : (a b : ℕ) → a < 256 → b < 256 → bytes_high_first 2 (a * 256 + b) ≡ a ∷ b ∷ []
-octets_of a b high low =
-    let first : (a * 256 + b) / 256 % 256 ≡ a = omega (arith, high, low) in
-    let second : (a * 256 + b) % 256 ≡ b = omega (arith, high, low) in
-    rw (first, second) refl
-
 abbrev code_in : List ℕ → ℕ
-code_in s = get_or s 0 0 * 256 + get_or s 1 0
+code_in s = two (get_or s 0 0) (get_or s 1 0)
 
 abbrev length_in : List ℕ → ℕ
-length_in s = get_or s 2 0 * 256 + get_or s 3 0
+length_in s = two (get_or s 2 0) (get_or s 3 0)
 
--- four octets are a number and a length
-abbrev Head : List ℕ → Type 0
-Head s = (s ≡ bytes_high_first 2 (code_in s) ++ (bytes_high_first 2 (length_in s) ++ drop 4 s)) × (code_in s < 256 ^ 2) × (length_in s < 256 ^ 2)
-
-head : (s : List ℕ) → ((i : ℕ) → get_or s i 0 < 256) → 4 ≤ length s → Head s
-head (a ∷ (b ∷ (c ∷ (d ∷ s)))) small few = (
-  ap (λ (o : List ℕ). a ∷ (b ∷ (o ++ s))) (sym (octets_of c d (small 2) (small 3)))
-      ∙ ap (λ (o : List ℕ). o ++ (bytes_high_first 2 (c * 256 + d) ++ s)) (sym (octets_of a b (small 0) (small 1))),
-  omega (arith, small 0, small 1),
-  omega (arith, small 2, small 3),
-)
-head s small few = absurd (omega (arith, few))
+-- a number and a length are told by their octets
+told : {s : List ℕ} (k l : ℕ) (rest : List ℕ) → k < 256 ^ 2 → l < 256 ^ 2 → s ≡ bytes_high_first 2 k ++ (bytes_high_first 2 l ++ rest)
+    → (code_in s ≡ k) × (length_in s ≡ l) × (drop 4 s ≡ rest)
+told k l rest h few e = (ap code_in e ∙ two_of k h, ap length_in e ∙ two_of l few, ap (drop 4) e)
 
 -- ---- the part at an offset
 
@@ -115,28 +103,19 @@ pub part_found : (s : List ℕ) (at : ℕ) → ((i : ℕ) → get_or s i 0 < 256
     → IsPartAt s at (code_in (drop at s)) (at + 4) (length_in (drop at s))
 part_found s at small few h =
     let o = drop at s in
-    let w = head o (λ i. subst (λ (k : ℕ). k < 256) (sym (get_or-drop at s i 0)) (small (at + i))) few in
     let l = length_in o in
-    let front = bytes_high_first 2 (code_in o) in
-    let body = take l (drop 4 o) in
-    let size : length body ≡ l = length-take-le l (drop 4 o) (omega (arith, h, length-drop 4 o)) in
-    let behind : drop l (drop 4 o) ≡ drop (at + 4 + l) s = ap (drop l) (drop-drop 4 at s) ∙ drop-drop l (at + 4) s in
-    record {
-      octets = body;
-      fits = (w.1, omega (arith, size, w.2));
-      is = w.0 ∙ ap (λ (r : List ℕ). front ++ (bytes_high_first 2 l ++ r)) (sym (take-append-drop l (drop 4 o)) ∙ ap (λ (r : List ℕ). body ++ r) behind)
-          ∙ ap (λ (k : ℕ). front ++ (bytes_high_first 2 k ++ (body ++ drop (at + 4 + l) s))) (sym size) ∙ sym (tlv_before (code_in o, body) (drop (at + 4 + l) s));
-      begins = refl;
-      told = sym size;
-    }
+    let t = part_there o 0 l (λ i. subst (λ (k : ℕ). k < 256) (sym (get_or-drop at s i 0)) (small (at + i))) (omega (arith, few, h)) refl in
+    let x : Numbered (List ℕ) = (t.key, t.body) in
+    let is : o ≡ tlv x ++ drop (4 + l) o = in_front t in
+    let behind : drop (4 + l) o ≡ drop (at + 4 + l) s = drop-drop (4 + l) at s ∙ ap (λ (k : ℕ). drop k s) (omega arith) in
+    let w = told t.key (length t.body) (t.body ++ drop (4 + l) o) t.is.fits.0 t.is.fits.1 (is ∙ tlv_before x (drop (4 + l) o)) in
+    rw w.0 (record { octets = t.body; fits = t.is.fits; is = is ∙ ap (λ (r : List ℕ). tlv x ++ r) behind; begins = refl; told = w.1 })
 
-pub no_part : (s : List ℕ) → ((i : ℕ) → get_or s i 0 < 256) → (4 ≤ length s → length s - 4 < length_in s) → NoTlv s
-no_part s small h = record {
+pub no_part : (s : List ℕ) → (4 ≤ length s → length s - 4 < length_in s) → NoTlv s
+no_part s h = record {
   none = λ x rest f e.
-      let long : 4 ≤ length s = omega (arith, ap length e, length-append (tlv x) rest, length-tlv x) in
-      let w = head s small long in
-      let t = heads_same (code_in s) x.0 (length_in s) (length x.1) (drop 4 s) (x.1 ++ rest) w.1 f.0 w.2 f.1 (sym w.0 ∙ e ∙ tlv_before x rest) in
-      omega (arith, h long, t.1, ap length t.2, length-append x.1 rest, length-drop 4 s);
+      let w = told x.0 (length x.1) (x.1 ++ rest) f.0 f.1 (e ∙ tlv_before x rest) in
+      omega (arith, h (omega (arith, ap length e, length-append (tlv x) rest, length-tlv x)), w.1, ap length w.2, length-append x.1 rest, length-drop 4 s);
 }
 
 pub part_room : {s : List ℕ} {at number begin count : ℕ} → IsPartAt s at number begin count → (begin + count ≤ length s) × (at < begin + count)
@@ -152,11 +131,10 @@ part_room {s} {at} {number} {begin} {count} w =
 pub parts_more : {s : List ℕ} {begin end number from count : ℕ} → AreBetween s begin end → IsPartAt s end number from count → AreBetween s begin (from + count)
 parts_more {s} {begin} {end} {number} {from} {count} p w =
     let x : Numbered (List ℕ) = (number, w.octets) in
-    let more : tlvs (p.read ++ x ∷ []) ≡ tlvs p.read ++ tlv x = flat_map-append tlv p.read (x ∷ []) ∙ ap (λ (o : List ℕ). tlvs p.read ++ o) (append-nil (tlv x)) in
     record {
       read = p.read ++ x ∷ [];
       are = all_append IsTlv p.read (x ∷ []) p.are (w.fits, tt);
-      is = rw (more, append_assoc (tlvs p.read) (tlv x) (drop (from + count) s), ← w.is) p.is;
+      is = rw (← tlvs_more p.read x, append_assoc (tlvs p.read) (tlv x) (drop (from + count) s), ← w.is) p.is;
     }
 
 -- those that are left after one
@@ -241,23 +219,26 @@ damaged {t} {s} {stub} {n} {first} {end} p size is front w last short uncut = re
 -- ---- an option that is truncated
 
 pub code_alone : (s : List ℕ) (n : ℕ) → ((i : ℕ) → get_or s i 0 < 256) → length s ≡ 2 → IsTruncated n s
-code_alone (a ∷ (b ∷ [])) n small h = (a * 256 + b, omega (arith, small 0, small 1), inl (sym (octets_of a b (small 0) (small 1))))
+code_alone (a ∷ (b ∷ [])) n small h = (two a b, omega (arith, small 0, small 1), inl (sym (octets_of a b (small 0) (small 1))))
 code_alone s n small h = absurd (omega (arith, h))
 
 pub cut_length : (s : List ℕ) (n : ℕ) → IsTruncated n s → length s < 4 → length s ≡ 2
 cut_length s n (code, h, inl e) few = ap length e
 cut_length s n (code, h, inr r) few = let long : length s ≡ suc (suc (suc (suc (length r.1)))) = ap length r.5 in absurd (omega (arith, few, long))
 
-cut_says : (s : List ℕ) (n : ℕ) → Head s → 4 ≤ length s → IsTruncated n s → (length_in s ≤ n) × (length s - 4 < length_in s)
-cut_says s n w few (code, h, inl e) = let short : length s ≡ 2 = ap length e in absurd (omega (arith, few, short))
-cut_says s n w few (code, h, inr r) =
-    let t = heads_same (code_in s) code (length_in s) r.0 (drop 4 s) r.1 w.1 h w.2 r.2 (sym w.0 ∙ r.5) in
-    (omega (arith, t.1, r.3), omega (arith, t.1, ap length t.2, r.4, length-drop 4 s))
+pub cut_says : (s : List ℕ) (n : ℕ) → 4 ≤ length s → IsTruncated n s → (length_in s ≤ n) × (length s - 4 < length_in s)
+cut_says s n few (code, h, inl e) = let short : length s ≡ 2 = ap length e in absurd (omega (arith, few, short))
+cut_says s n few (code, h, inr r) =
+    let w = told code r.0 r.1 h r.2 r.5 in
+    (omega (arith, w.1, r.3), omega (arith, w.1, ap length w.2, r.4, length-drop 4 s))
 
-pub cut_body : (s : List ℕ) (n : ℕ) → ((i : ℕ) → get_or s i 0 < 256) → 4 ≤ length s → ((length_in s ≤ n) × (length s - 4 < length_in s)) ↔ IsTruncated n s
-cut_body s n small few =
-    let w = head s small few in
-    (λ h. (code_in s, w.1, inr (length_in s, drop 4 s, w.2, h.0, omega (arith, h.1, length-drop 4 s), w.0)), cut_says s n w few)
+pub cut_is : (s : List ℕ) (n : ℕ) → ((i : ℕ) → get_or s i 0 < 256) → 4 ≤ length s → length_in s ≤ n → length s - 4 < length_in s → IsTruncated n s
+cut_is (a ∷ (b ∷ (c ∷ (d ∷ s)))) n small few h cut =
+    let code = octets_of a b (small 0) (small 1) in
+    let size = octets_of c d (small 2) (small 3) in
+    let is = ap (λ (o : List ℕ). o ++ (c ∷ (d ∷ s))) (sym code) ∙ ap (λ (o : List ℕ). bytes_high_first 2 (two a b) ++ (o ++ s)) (sym size) in
+    (two a b, omega (arith, small 0, small 1), inr (two c d, s, omega (arith, small 2, small 3), h, omega (arith, cut), is))
+cut_is s n small few h cut = absurd (omega (arith, few))
 
 -- the octets from p on, up to n octets later
 abbrev region : List ℕ → ℕ → ℕ → List ℕ
@@ -286,22 +267,6 @@ length_held Held [] [] h = refl
 length_held Held [] (y ∷ ys) h = absurd h
 length_held Held (x ∷ xs) [] h = absurd h
 length_held Held (x ∷ xs) (y ∷ ys) h = ap (λ (n : ℕ). suc n) (length_held Held xs ys h.2)
-
-abbrev first_options : (kinds : List Kind) → Values kinds → List (Numbered OptionValue)
-first_options (Options ∷ kinds) vs = vs.0
-first_options kinds vs = []
-
-abbrev third_parameters : (kinds : List Kind) → Values kinds → List (Numbered ParameterValue)
-third_parameters (a ∷ (b ∷ (Parameters ∷ kinds))) vs = vs.1.1.0
-third_parameters kinds vs = []
-
-options_first : (v : RData) → options_in v ≡ first_options (fields_of v).kinds (fields_of v).values
-options_first (rdata.OPT x) = refl
-options_first v = refl
-
-parameters_third : (v : RData) → parameters_in v ≡ third_parameters (fields_of v).kinds (fields_of v).values
-parameters_third (rdata.SVCB x) = refl
-parameters_third v = refl
 
 opt_tied : (m : List ℕ) (p n : ℕ) (v : RData) (vs : Values opt_shape) → options_in v ≡ vs.0 → Stands m p opt_shape vs (p + n) → Tied types.OPT (region m p n) v
 opt_tied m p n v vs same s =

@@ -72,13 +72,11 @@ pub extern "C" fn dns_rdata_name_length(message: &[u8], offset: usize, count: &m
     if offset > message.len() {
         return MISSING_OCTETS;
     }
-    match skip_name(message, offset) {
-        Some(end) => {
-            *count = end.saturating_sub(offset);
-            OK
-        }
-        None => NAME,
-    }
+    let Some(end) = skip_name(message, offset) else {
+        return NAME;
+    };
+    *count = end.saturating_sub(offset);
+    OK
 }
 
 /// Writes the text of the name at an offset of the message to a buffer, followed by a zero octet, and sets `count` to
@@ -188,11 +186,9 @@ pub extern "C" fn dns_rdata_type_number(text: &[u8], type_number: &mut u16) -> u
     let Ok(text) = str::from_utf8(text) else {
         return NOT_UTF8;
     };
-    match text.parse::<RecordType>() {
-        Err(_) => NO_TYPE,
-        Ok(kind) => {
-            *type_number = u16::from(kind);
-            OK
-        }
-    }
+    let Ok(record_type) = text.parse::<RecordType>() else {
+        return NO_TYPE;
+    };
+    *type_number = u16::from(record_type);
+    OK
 }

@@ -32,13 +32,8 @@ pub(crate) fn origin_of(alloc: Global, octets: &[u8]) -> Result<Option<Name>, u3
     match Name::read(&mut decoder) {
         Err(DecodeError::Memory) => Err(MEMORY),
         Err(_) => Err(ORIGIN),
-        Ok(name) => {
-            if decoder.is_empty() {
-                Ok(Some(name))
-            } else {
-                Err(ORIGIN)
-            }
-        }
+        Ok(name) if decoder.is_empty() => Ok(Some(name)),
+        Ok(_) => Err(ORIGIN),
     }
 }
 

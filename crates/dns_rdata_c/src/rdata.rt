@@ -35,10 +35,7 @@ pub fn view_at<'a>(alloc: Global, rdata: &Rdata<'a>) -> Result<RDataRef<'a>, u32
         return Err(MISSING_OCTETS);
     };
     let record_type = RecordType::from(rdata.type_number);
-    match RDataRef::read(&mut decoder, record_type, Restrict::new(rdata.length)) {
-        Ok(data) => Ok(data),
-        Err(error) => Err(status_of(error)),
-    }
+    RDataRef::read(&mut decoder, record_type, Restrict::new(rdata.length)).map_err(status_of)
 }
 
 /// The numbers of an error. Those that the status does not use are 0.

@@ -10,7 +10,7 @@ use dns_message::{Fault, MessageRef, PassedRecord, Progress};
 
 /// Where a walk over the records of a message is. The caller holds it; any numbers in it are safe.
 #[repr(C)]
-#[derive(Clone, Copy)]
+#[derive(Clone, Copy, Default)]
 pub struct RecordsCursor {
     /// The offset of the next record.
     pub next: usize,
@@ -88,12 +88,7 @@ pub extern "C" fn dns_rdata_records_begin(message: &[u8], records: &mut RecordsC
     ensures status { (result ≡ OK) ⊎ (result ≡ HEADER) ⊎ (result ≡ QUESTION) ⊎ (result ≡ POINTERS) }
     ensures emptied { result ≢ OK → records.new ≡ record { next = 0; passed = 0; until = 0; left = 0 } }
 {
-    *records = RecordsCursor {
-        next: 0,
-        passed: 0,
-        until: 0,
-        left: 0,
-    };
+    *records = RecordsCursor::default();
     let Ok(message) = MessageRef::read(message) else {
         return HEADER;
     };

@@ -10,6 +10,7 @@ use Rattle.dns_names_wire.specs.{State.Reading, Terms.TookField}
 use Rattle.dns_rows.specs.declared.row.{Rule.Rule}
 use Rattle.dns_rows.specs.declared.row.Rule.TheVariants as rules
 use Rattle.dns_view.specs.{NameEnds.NameEnds, Parts.IsUnasked, Parts.Skips, Parts.moved, RowPointers.FieldPointers}
+use Rattle.dns_view.proofs.PointerRows.{none_in}
 use Rattle.dns_view.proofs.Skips.{skips_as, number_skips, octets_skip, name_skips, string_skips, rest_skips}
 
 -- the offset after so many octets, which the message has
@@ -88,10 +89,10 @@ module _ (rule : Rule) (k : Kind) (start n : ℕ) (d : Reading) (r : Option ℕ)
   string_ends is a b octets =
       told {P = EndsAfter d (get_or d.message d.index 0 + 1)} is refl (λ end e. string_skips (string_there d end octets e) (plain_string rule a b))
 
-  pub letters_ends : {m : List ℕ} {p : ℕ} → k ≡ CharacterString → m ≡ d.message → p ≡ d.index
-      → IfSome r (λ end. Skips rule CharacterString start n (Ok tt) (record { message = m; index = p }) (record { message = m; index = end })) → SkipsTo
-  letters_ends {m} {p} is message index h = told {P = λ end. Skips rule CharacterString start n (Ok tt) d (moved d end)} is refl (λ end e. e)
-      (rw (message, index) at h)
+  pub other_ends : {l : Kind} {m : List ℕ} {p : ℕ} → k ≡ l → (l ≡ Name → ⊥) → m ≡ d.message → p ≡ d.index
+      → IfSome r (λ end. Skips rule k start n (Ok tt) (record { message = m; index = p }) (record { message = m; index = end })) → SkipsTo
+  other_ends {l} is other message index h = if_some {P = λ end. Skips rule k start n (Ok tt) d (moved d end)} r
+      (λ end e. (e, none_in k d (λ name. other (sym is ∙ name)))) (rw (message, index) at h)
 
   pub rest_ends : {p : ℕ} → k ≡ Rest → p ≡ d.index → start ≤ d.index → p < start + n → IfSome r (EndsAfter d (start + n - p)) → SkipsTo
   rest_ends {p} is at before some = told {P = EndsAfter d (start + n - p)} is refl (λ end e.
@@ -110,3 +111,8 @@ name_near rule {k} start n {d} {m} {p} r is message index there =
 
 pub skips_inside : {rule : Rule} {k : Kind} {start n end : ℕ} {d : Reading} → Skips rule k start n (Ok tt) d (moved d end) → end ≤ length d.message
 skips_inside s = (field_inside s.is.took.field).1
+
+-- where a field ends that was taken
+pub taken_to : {rule : Rule} {k : Kind} {start n : ℕ} {d new : Reading} → Skips rule k start n (Ok tt) d new → Skips rule k start n (Ok tt) d (moved d new.index)
+taken_to {rule} {k} {start} {n} {d} {new} s =
+    subst (λ (m : List ℕ). Skips rule k start n (Ok tt) d (record { message = m; index = new.index })) s.is.took.message s

@@ -72,7 +72,7 @@ pub record PartsOn (octets : List ℕ) (offset : ℕ) : Type 0 where
   pub fit : AreTlvs read
   pub only : AreComplete octets → (rest : List (Numbered (List ℕ))) × At octets offset (tlvs rest) (length octets) × AreTlvs rest
 
-tlvs_more : (xs : List (Numbered (List ℕ))) (x : Numbered (List ℕ)) → tlvs xs ++ tlv x ≡ tlvs (xs ++ x ∷ [])
+pub tlvs_more : (xs : List (Numbered (List ℕ))) (x : Numbered (List ℕ)) → tlvs xs ++ tlv x ≡ tlvs (xs ++ x ∷ [])
 tlvs_more xs x = sym (flat_map-append tlv xs (x ∷ []) ∙ ap (λ (t : List ℕ). tlvs xs ++ t) (append-nil (tlv x)))
 
 -- the first of those that are left

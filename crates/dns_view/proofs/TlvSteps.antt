@@ -10,7 +10,7 @@ use Rattle.dns_fields.specs.{Octets.At, Tlvs.Numbered, Tlvs.tlv, Tlvs.tlvs, Tlvs
 use Rattle.dns_fields.proofs.Tlvs.{tlv_before, length-tlv}
 use Rattle.dns_view.specs.{Parameters.IsTlvAt, Tlvs.TlvThere, Tlvs.AreComplete, TlvList.tlvs_after, TlvList.NoTlv}
 
-abbrev two : ℕ → ℕ → ℕ
+abbrev pub two : ℕ → ℕ → ℕ
 two a b = from_be_bytes w16 (a ∷ b ∷ [])
 
 behind : (n : ℕ) (s : List ℕ) → tlvs_after n s ≡ tlvs_after zero (drop n s)
@@ -27,7 +27,7 @@ whole a b c d s h =
 spread : (n l : ℕ) (s : List ℕ) → bytes_high_first 2 n ++ (bytes_high_first 2 l ++ s) ≡ byte_at 1 n ∷ (byte_at 0 n ∷ (byte_at 1 l ∷ (byte_at 0 l ∷ s)))
 spread n l s = refl
 
-two_of : (n : ℕ) → n < 256 ^ 2 → two (byte_at 1 n) (byte_at 0 n) ≡ n
+pub two_of : (n : ℕ) → n < 256 ^ 2 → two (byte_at 1 n) (byte_at 0 n) ≡ n
 two_of n h = from_be_bytes-to_be_bytes_2 n (omega (arith, h))
 
 pub first_one : (x : Numbered (List ℕ)) (rest : List ℕ) → IsTlv x → tlvs_after zero (tlv x ++ rest) ≡ x ∷ tlvs_after zero rest
@@ -46,7 +46,7 @@ first_one x rest f =
 
 -- ---- octets with none in front
 
-octets_of : (a b : ℕ) → a < 256 → b < 256 → bytes_high_first 2 (two a b) ≡ a ∷ b ∷ []
+pub octets_of : (a b : ℕ) → a < 256 → b < 256 → bytes_high_first 2 (two a b) ≡ a ∷ b ∷ []
 octets_of a b h k = be_bytes_2 (a ∷ b ∷ []) (two a b) refl bound refl where
   bound : (i : ℕ) → get_or (a ∷ b ∷ []) i 0 < 256
   bound zero = h
@@ -100,7 +100,7 @@ no_octets = record { none = λ x rest f e. absurd (omega (arith, ap length e, le
 
 -- ---- one is taken
 
-in_front : {s : List ℕ} {end : ℕ} (t : TlvThere s 0 end) → s ≡ tlv (t.key, t.body) ++ drop end s
+pub in_front : {s : List ℕ} {end : ℕ} (t : TlvThere s 0 end) → s ≡ tlv (t.key, t.body) ++ drop end s
 in_front {s} {end} t =
     let x = tlv (t.key, t.body) in
     let n : length x ≡ end = omega (arith, t.is.at.ends) in

@@ -5,7 +5,7 @@ ghost use Rattle.std.specs.{Char.is_ascii_alphanumeric, List.list_all};
 ghost use Rattle.dns_fields.specs.declared.Kind.TheVariants.{Number, Octets, Name, CharacterString, CharacterStrings, Rest, Bitmap};
 ghost use Rattle.dns_rows.specs.Rules.{AreLetters};
 ghost use Rattle.dns_view.specs.{Parts.Skips, Parts.Asks, Parts.Ends, Parts.IsCovered, Parts.IsUnasked, Parts.moved, Parts.step_of as octet_step};
-ghost use Rattle.dns_view.specs.Rows.{IsRowChecked, IsOneField, SkipsRow, asked_length as row_asks};
+ghost use Rattle.dns_view.specs.Rows.{IsRowChecked, IsOneField, SkipsRow, TookRow, asked_length as row_asks};
 ghost use Rattle.dns_view.specs.{Pointers.Leaves, RowPointers.FieldPointers, RowPointers.RowPointers};
 
 use crate::blocks::check_blocks;
@@ -78,7 +78,7 @@ fn string_end(walk: &Walk<'_>) -> Option<usize>
 
 // The offset after the character string at an offset, if the message has all of it and it is letters and digits: NAPTR's
 // flags, or the 1 to 15 of a tag (RFC 8659, 4.1), which must end within the RDATA. `None` for other rules.
-#[inline(never)]
+#[inline]
 fn letters_end(message: &[u8], at: usize, rule: Rule, start: usize, len: usize) -> Option<usize>
     requires within { at ≤ length message.now }
     requires short { len < 65536 }
@@ -108,28 +108,57 @@ fn is_asked(text: &[u8], rule: Rule, end: usize, data_end: usize) -> bool
     }
 }
 
-// The offset after the next field, if a few comparisons tell that it is there and as its rule asks. `None` says nothing
-// about the field.
+// The offset after a field at an offset, if it is there and as its rule asks. `None` says nothing about the field. It is
+// a call, so that the loop over a row keeps what it needs in registers.
+#[inline(never)]
+fn other_end(message: &[u8], at: usize, part: &Part, start: usize, len: usize) -> Option<usize>
+    requires covered { IsCovered part.now.kind part.now.rule }
+    requires within { at ≤ length message.now }
+    requires short { len < 65536 }
+    requires before { start ≤ at }
+    ensures { IfSome result (λ end. Skips part.now.rule part.now.kind start len (Ok tt) (record { message = message.now; index = at })
+        (record { message = message.now; index = end })) }
+{
+    if let Kind::CharacterString = part.kind {
+        return letters_end(message, at, part.rule, start, len);
+    }
+    let mut walk = Walk::at(message, at);
+    match skip_field(&mut walk, part.kind, part.rule, start, len) {
+        Ok(()) => Some(walk.index()),
+        Err(_) => None,
+    }
+}
+
+// The offset after the next field, if it is no name, is there and is as its rule asks. `None` says nothing about the
+// field. Nothing is returned in memory.
 #[inline]
-fn field_end(walk: &Walk<'_>, kind: Kind, rule: Rule, start: usize, len: usize) -> Option<usize>
+fn field_end(walk: &Walk<'_>, part: &Part, start: usize, len: usize) -> Option<usize>
+    requires covered { IsCovered part.now.kind part.now.rule }
     requires short { len < 65536 }
     requires before { start ≤ walk.now.index }
-    ensures { IfSome result (λ end. Skips rule kind start len (Ok tt) walk.now (moved walk.now end)
-        × FieldPointers kind walk.now 0) }
+    ensures { IfSome result (λ end. Skips part.now.rule part.now.kind start len (Ok tt) walk.now (moved walk.now end)
+        × FieldPointers part.now.kind walk.now 0) }
 {
     let at = walk.index();
-    match kind {
-        Kind::Number(width) => match rule {
-            Rule::KnownFlags => None,
+    match part.kind {
+        Kind::Number(width) => match part.rule {
+            Rule::KnownFlags => other_end(walk.message(), at, part, start, len),
             _ => octets_end(walk, width as usize),
         },
         Kind::Octets(count) => octets_end(walk, count as usize),
-        Kind::CharacterString => match rule {
-            Rule::Letters | Rule::Tag => letters_end(walk.message(), at, rule, start, len),
+        Kind::Name => None,
+        Kind::CharacterString => match part.rule {
+            Rule::Letters | Rule::Tag => other_end(walk.message(), at, part, start, len),
             _ => string_end(walk),
         },
-        Kind::Rest if at < start + len => octets_end(walk, start + len - at),
-        _ => None,
+        Kind::Rest => {
+            if at < start + len {
+                octets_end(walk, start + len - at)
+            } else {
+                None
+            }
+        }
+        _ => other_end(walk.message(), at, part, start, len),
     }
 }
 
@@ -138,28 +167,28 @@ fn field_end(walk: &Walk<'_>, kind: Kind, rule: Rule, start: usize, len: usize) 
 #[inline]
 fn near_end(
     walk: &Walk<'_>,
-    kind: Kind,
-    rule: Rule,
+    part: &Part,
     start: usize,
     len: usize,
     left: &mut usize,
 ) -> Option<usize>
+    requires covered { IsCovered part.now.kind part.now.rule }
     requires short { len < 65536 }
     requires before { start ≤ walk.now.index }
-    ensures skips { IfSome result (λ end. Skips rule kind start len (Ok tt) walk.now (moved walk.now end)) }
-    ensures pointers { IfSome result (λ end. Leaves (FieldPointers kind walk.now) left.old left.new) }
+    ensures skips { IfSome result (λ end. Skips part.now.rule part.now.kind start len (Ok tt) walk.now (moved walk.now end)) }
+    ensures pointers { IfSome result (λ end. Leaves (FieldPointers part.now.kind walk.now) left.old left.new) }
     ensures none { IfNone result (left.new ≡ left.old) }
 {
-    match kind {
+    match part.kind {
         Kind::Name => near_name(walk.message(), walk.index(), left),
-        _ => field_end(walk, kind, rule, start, len),
+        _ => field_end(walk, part, start, len),
     }
 }
 
-/// Takes a field as [`skip_field`] does, and takes off `left` how many compression pointers are followed, down to 0: those
-/// of a name, whether it is there or not.
+// Takes a field as `skip_field` does, and takes off `left` how many compression pointers are followed, down to 0: those
+// of a name, whether it is there or not.
 #[inline]
-pub fn pass_field(
+fn pass_field(
     walk: &mut Walk<'_>,
     kind: Kind,
     rule: Rule,
@@ -173,16 +202,9 @@ pub fn pass_field(
     ensures skips { Skips rule kind start len result walk.old walk.new }
     ensures pointers { Leaves (FieldPointers kind walk.old) left.old left.new }
 {
-    // A `Result` is passed in memory, and most fields need none. The calls below take the other fields and make the errors.
-    match field_end(walk, kind, rule, start, len) {
-        Some(end) => {
-            walk.move_to(end);
-            Ok(())
-        }
-        None => match kind {
-            Kind::Name => pass_one_name(walk, rule, start, len, left),
-            _ => skip_field(walk, kind, rule, start, len),
-        },
+    match kind {
+        Kind::Name => pass_one_name(walk, rule, start, len, left),
+        _ => skip_field(walk, kind, rule, start, len),
     }
 }
 
@@ -469,10 +491,48 @@ fn asked_length(row: &[Part]) -> usize
     }
 }
 
+/// Returns whether fields of the row fill the `len` octets of RDATA from an offset, each as its rule asks, and then takes
+/// off `left` how many compression pointers their names follow, down to 0. `false` says nothing about them: [`skip_row`]
+/// tells. It is the quick way for RDATA that is not damaged.
+#[inline]
+pub fn is_near(message: &[u8], start: usize, row: &[Part], len: usize, left: &mut usize) -> bool
+    requires row { IsRowChecked row.now }
+    requires short { len < 65536 }
+    requires within { start ≤ length message.now }
+    ensures took { result ≡ true → TookRow row.now len (record { message = message.now; index = start })
+        (record { message = message.now; index = start + len }) }
+    ensures inside { result ≡ true → start + len ≤ length message.now }
+    ensures pointers { result ≡ true → Leaves (RowPointers row.now len (record { message = message.now; index = start })) left.old left.new }
+    ensures unchanged { result ≡ false → left.new ≡ left.old }
+{
+    if is_one_field(row, len) {
+        return len <= message.len() - start;
+    }
+    if len < asked_length(row) {
+        return false;
+    }
+    let mut near = Walk::at(message, start);
+    let mut unfollowed = *left;
+    let mut count = 0;
+    'near: while count < row.len() {
+        match near_end(&near, &row[count], start, len, &mut unfollowed) {
+            Some(end) => near.move_to(end),
+            None => return false,
+        }
+        count += 1;
+    }
+    if near.index() - start != len {
+        return false;
+    }
+    *left = unfollowed;
+    true
+}
+
 /// Takes the fields of a row, of `len` octets of RDATA from the index of the decoder.
 ///
 /// On error the decoder may be anywhere after the offset where the call began. Takes off `left` how many compression
 /// pointers are followed, down to 0: those of the names up to and with a field that is rejected.
+#[inline(never)]
 pub fn skip_row(
     walk: &mut Walk<'_>,
     row: &[Part],
@@ -484,12 +544,6 @@ pub fn skip_row(
     ensures skips { SkipsRow row.now len result walk.old walk.new }
     ensures pointers { Leaves (RowPointers row.now len walk.old) left.old left.new }
 {
-    if is_one_field(row, len)
-        && let Some(end) = octets_end(walk, len)
-    {
-        walk.move_to(end);
-        return Ok(());
-    }
     let asked = asked_length(row);
     if len < asked {
         return Err(DecodeError::IncorrectRDataLengthRead {
@@ -497,36 +551,8 @@ pub fn skip_row(
             len: asked,
         });
     }
-    skip_fields(walk, row, len, left)
-}
-
-// The same for RDATA of as many octets as the row asks.
-#[inline]
-fn skip_fields(
-    walk: &mut Walk<'_>,
-    row: &[Part],
-    len: usize,
-    left: &mut usize,
-) -> Result<(), DecodeError>
-    requires row { IsRowChecked row.now }
-    requires short { len < 65536 }
-    requires asked { row_asks row.now ≤ len }
-    ensures skips { SkipsRow row.now len result walk.old walk.new }
-    ensures pointers { Leaves (RowPointers row.now len walk.old) left.old left.new }
-{
     let start = walk.index();
-    // Most rows are taken without a `Result`, which is passed in memory, and without a call. What is left after the first
-    // loop is taken by the second one, which makes the errors.
-    let mut near = Walk::at(walk.message(), start);
     let mut count = 0;
-    'near: while count < row.len() {
-        match near_end(&near, row[count].kind, row[count].rule, start, len, left) {
-            Some(end) => near.move_to(end),
-            None => break,
-        }
-        count += 1;
-    }
-    walk.move_to(near.index());
     'fields: while count < row.len() {
         if let Err(e) = pass_field(walk, row[count].kind, row[count].rule, start, len, left) {
             return Err(e);

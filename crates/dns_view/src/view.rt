@@ -1,6 +1,6 @@
 //! A view of RDATA.
 
-ghost use Rattle.std.specs.Prelude.{◌≡◌, ◌+◌, ◌<◌, ◌≤◌, true, false, length, take, drop, IfOk, IfErr, OnOk};
+ghost use Rattle.std.specs.Prelude.{◌≡◌, ◌+◌, ◌<◌, ◌≤◌, true, false, length, take, drop, IfSome, IfNone, IfOk, IfErr, OnOk};
 ghost use Rattle.dns_fields.specs.Fields.{canonical};
 ghost use Rattle.dns_names_wire.specs.Terms.{StaysBehind};
 ghost use Rattle.dns_rows.specs.Table.{kinds_of};
@@ -14,6 +14,7 @@ use crate::check::check_data;
 use crate::field::{FieldRef, field_of, name_field_of};
 use crate::name_ref::NameRef;
 use crate::order::compare_rows;
+use crate::skip::is_near;
 use crate::walk::Walk;
 use dns_rows::Part;
 use dns_types::{DecodeError, RecordType, Restrict};
@@ -76,6 +77,38 @@ impl<'a> RowView<'a> {
             }),
             Err(e) => Err(e),
         }
+    }
+
+    /// The view of the `len` octets of RDATA at an offset of a message, if the quick way tells that fields of the row fill
+    /// them ([`is_near`]), and then takes off `left` how many compression pointers their names follow, down to 0. `None` says
+    /// nothing about them: [`read`](RowView::read) tells. Allocates nothing.
+    #[inline]
+    pub fn near(
+        message: &'a [u8],
+        offset: usize,
+        record_type: RecordType,
+        row: &'static [Part],
+        len: u16,
+        left: &mut usize,
+    ) -> Option<RowView<'a>>
+        requires row { is_row row.now ≡ true }
+        requires within { offset ≤ length message.now }
+        ensures found { IfSome result (λ r. IsViewOf (record { message = message.now; index = offset }) len row.now r × (r.record_type ≡ record_type)) }
+        ensures pointers { IfSome result (λ r. Leaves (RowPointers row.now len (record { message = message.now; index = offset })) left.old left.new) }
+        ensures unchanged { IfNone result (left.new ≡ left.old) }
+    {
+        // For the proof: brings in that the message is octets.
+        let _offset = Walk::at(message, offset).index();
+        if !is_near(message, offset, row, len as usize, left) {
+            return None;
+        }
+        Some(RowView {
+            record_type,
+            len,
+            message,
+            offset,
+            row,
+        })
     }
 
     /// The whole message.

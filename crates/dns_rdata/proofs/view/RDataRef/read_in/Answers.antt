@@ -2,9 +2,18 @@ use Rattle.std.proofs.Common.{◌≢◌, ◌∙◌, ap, refl}
 use Rattle.dns_types.specs.declared.error.DecodeError.TheVariants as decode
 use Rattle.dns_view.specs.Rows.{is_row}
 use Rattle.dns_rdata.specs.ReadErrors.{IsReadError}
-use Rattle.dns_rdata.proofs.Views.{rows_checked, view_found, view_none, view_why}
+use Rattle.dns_rdata.proofs.Views.{rows_checked, starts_at, view_found, view_none, view_why}
 use Rattle.dns_rdata.proofs.Pointers.{never_followed, row_followed}
 use Rattle.dns_rdata.proofs.view.RDataRef.read_in.Goals as goal
+
+pub near-requires-clause-row : goal.near-requires-clause-row
+near-requires-clause-row c = ap is_row c.in-Some.ensures.some ∙ rows_checked c.args.record_type
+
+pub returns-in-Some-near-clause-found : goal.returns-in-Some-near-clause-found
+returns-in-Some-near-clause-found c =
+    view_found c.args.record_type c.args.length c.args.walk.now _ c.in-Some.parts.now c.in-Some-near.view
+    (starts_at refl c.message.ensures c.index-start.ensures.offset) c.in-Some.ensures.some c.in-Some.ensures.read
+    (rw c.unverified-len.ensures at c.in-Some-near.ensures.found)
 
 pub read-requires : goal.read-requires
 read-requires c = record { row = ap is_row c.in-Some.ensures.some ∙ rows_checked c.args.record_type }
@@ -33,8 +42,15 @@ returns-in_default-clause-pointers c = never_followed c.args.record_type c.args.
 
 pub returns-in-Ok-clause-pointers : goal.returns-in-Ok-clause-pointers
 returns-in-Ok-clause-pointers c =
-    row_followed c.args.record_type c.in-Some.parts.now c.args.length c.args.walk.now _ _ c.in-Some.ensures.some c.read.ensures.pointers
+    row_followed c.args.record_type c.in-Some.parts.now c.args.length c.args.walk.now _ _ c.in-Some.ensures.some
+    (rw c.in_default-near.ensures.unchanged at c.read.ensures.pointers)
 
 pub returns-in-Err-clause-pointers : goal.returns-in-Err-clause-pointers
 returns-in-Err-clause-pointers c =
-    row_followed c.args.record_type c.in-Some.parts.now c.args.length c.args.walk.now _ _ c.in-Some.ensures.some c.read.ensures.pointers
+    row_followed c.args.record_type c.in-Some.parts.now c.args.length c.args.walk.now _ _ c.in-Some.ensures.some
+    (rw c.in_default-near.ensures.unchanged at c.read.ensures.pointers)
+
+pub returns-in-Some-near-clause-pointers : goal.returns-in-Some-near-clause-pointers
+returns-in-Some-near-clause-pointers c =
+    row_followed c.args.record_type c.in-Some.parts.now c.args.length c.args.walk.now _ _ c.in-Some.ensures.some
+    (rw (c.message.ensures, c.index-start.ensures.offset, c.unverified-len.ensures) at c.in-Some-near.ensures.pointers)
