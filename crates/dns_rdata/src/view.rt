@@ -103,7 +103,7 @@ impl<'a> RDataRef<'a> {
         let Some(parts) = parts_of_type(record_type) else {
             return Err(DecodeError::UnknownRecordTypeValue(record_type.into()));
         };
-        let (len, mut unlimited) = (length.unverified(), usize::MAX);
+        let len = length.unverified();
         // RDATA that is not damaged is mostly checked without a `Result`, which is passed in memory, and its view is returned here.
         if let Some(view) = RowView::near(
             decoder.message(),
@@ -111,12 +111,13 @@ impl<'a> RDataRef<'a> {
             record_type,
             parts,
             len,
-            &mut unlimited,
+            &mut usize::MAX,
         ) {
             let _taken = decoder.read_slice(len as usize);
             return Ok(RDataRef { view });
         }
         let mut walk = Walk::at(decoder.message(), start);
+        let mut unlimited = usize::MAX;
         let outcome = RowView::read(&mut walk, record_type, parts, length, &mut unlimited);
         let _taken = decoder.read_slice(walk.index() - start);
         match outcome {
@@ -191,12 +192,13 @@ impl<'a> RDataRef<'a> {
         let Some(parts) = parts_of_type(record_type) else {
             return Err(DecodeError::UnknownRecordTypeValue(record_type.into()));
         };
-        let (len, mut unlimited) = (length.unverified() as usize, usize::MAX);
-        if is_near(decoder.message(), start, parts, len, &mut unlimited) {
+        let len = length.unverified() as usize;
+        if is_near(decoder.message(), start, parts, len, &mut usize::MAX) {
             let _taken = decoder.read_slice(len);
             return Ok(());
         }
         let mut walk = Walk::at(decoder.message(), start);
+        let mut unlimited = usize::MAX;
         let own = skip_row(&mut walk, parts, len, &mut unlimited);
         let _taken = decoder.read_slice(walk.index() - start);
         own
