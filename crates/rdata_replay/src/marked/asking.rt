@@ -106,7 +106,7 @@ pub fn ask(marks: &Marks<'_>, call: &str, left: &str, right: &str) -> Result<Str
     ask_both(marks, call, &left.0, &right.0)
 }
 
-// Appends the canonical octets.
+// Appends the canonical octets that a cursor gives.
 fn append_all(value: &RData, octets: &mut Vec<u8>) -> Result<(), AllocError> {
     for octet in value.canonical_octets() {
         octets.push(octet)?;
@@ -116,8 +116,8 @@ fn append_all(value: &RData, octets: &mut Vec<u8>) -> Result<(), AllocError> {
 
 // Appends the canonical octets at the first 300 indices.
 fn append_first(value: &RData, octets: &mut Vec<u8>) -> Result<(), AllocError> {
-    for index in 0..300u16 {
-        let Some(octet) = value.octet_at(u128::from(index)) else {
+    for index in 0..300u128 {
+        let Some(octet) = value.octet_at(index) else {
             break;
         };
         octets.push(octet)?;
@@ -129,13 +129,10 @@ fn append_first(value: &RData, octets: &mut Vec<u8>) -> Result<(), AllocError> {
 pub fn octets(marks: &Marks<'_>, call: &str, text: &str) -> Result<String> {
     let value = value(marks.alloc(), text)?;
     let mut octets = Vec::with_capacity(marks.alloc(), 131072)?;
-    let result = marked!(
-        marks,
-        match call {
-            "octet_at" => append_first(&value.0, &mut octets),
-            _ => append_all(&value.0, &mut octets),
-        }
-    );
+    let result = match call {
+        "octet_at" => marked!(marks, append_first(&value.0, &mut octets)),
+        _ => marked!(marks, append_all(&value.0, &mut octets)),
+    };
     let digits = hex::encode(marks.alloc(), octets.as_slice())?;
     Ok(format!(in marks.alloc(); "{result:?} {digits}")?)
 }

@@ -1,9 +1,8 @@
 //! What words of the lines give before a call.
 
 use crate::calls::values;
-use crate::shared;
 use anyhow::{Context, Result};
-use dns_rdata::{BinDecoder, RecordDataDecodable, RecordType};
+use dns_rdata::{BinDecoder, DecodeError, RecordType};
 use held_data::{Held, record_type};
 use std::alloc::Global;
 
@@ -18,6 +17,13 @@ pub struct Given {
     pub length: u16,
     /// The octets of the message.
     pub message: Vec<u8>,
+}
+
+impl Given {
+    /// A decoder of the message at the offset.
+    pub fn decoder(&self, alloc: Global) -> Result<BinDecoder<'_>, DecodeError> {
+        BinDecoder::at(alloc, self.message.as_slice(), self.offset)
+    }
 }
 
 /// What a text `TYPE PLACE LENGTH OCTETS` gives.
@@ -37,12 +43,5 @@ pub fn value(alloc: Global, text: &str) -> Result<Held> {
         return values::value(alloc, text);
     }
     let given = read_given(alloc, text)?;
-    let mut decoder = BinDecoder::new(alloc, given.message.as_slice());
-    let _before = decoder.read_slice(given.offset)?;
-    Ok(Held::read(&mut decoder, given.record_type, given.length)?)
-}
-
-/// The record whose octets these are.
-pub fn record<T: RecordDataDecodable>(alloc: Global, digits: &str) -> Result<T> {
-    Ok(shared::record::<T>(alloc, hex::decode(alloc, digits)?.as_slice())?)
+    Ok(Held::read(&mut given.decoder(alloc)?, given.record_type, given.length)?)
 }

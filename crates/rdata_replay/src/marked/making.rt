@@ -25,8 +25,7 @@ fn show<E: Debug>(alloc: Global, made: &Result<Held, E>) -> Result<String> {
 pub fn read(marks: &Marks<'_>, text: &str) -> Result<String> {
     let alloc = marks.alloc();
     let given = read_given(alloc, text)?;
-    let mut decoder = BinDecoder::new(alloc, given.message.as_slice());
-    let _before = decoder.read_slice(given.offset)?;
+    let mut decoder = given.decoder(alloc)?;
     let made = marked!(
         marks,
         Held::read(&mut decoder, given.record_type, given.length)
@@ -58,8 +57,7 @@ fn look(
 pub fn view(marks: &Marks<'_>, text: &str) -> Result<String> {
     let alloc = marks.alloc();
     let given = read_given(alloc, text)?;
-    let mut decoder = BinDecoder::new(alloc, given.message.as_slice());
-    let _before = decoder.read_slice(given.offset)?;
+    let mut decoder = given.decoder(alloc)?;
     let mut out = [0u8; 512];
     let (error, count) = marked!(
         marks,
@@ -89,6 +87,7 @@ pub fn value(marks: &Marks<'_>, call: &str, kind: &str, text: &str) -> Result<St
     show(marks.alloc(), &made)
 }
 
+// The text of a value, or the base64 of a certificate.
 fn made_text(alloc: Global, value: &RData, call: &str) -> Result<String, ParseError> {
     match value {
         RData::CERT(cert) if call == "cert_base64" => Ok(cert.cert_base64()?),
@@ -118,30 +117,29 @@ fn made_octets(alloc: Global, call: &str, octets: &[u8]) -> Result<Vec<u8>, Pars
 /// The octets that are made of octets.
 pub fn octets(marks: &Marks<'_>, call: &str, digits: &str) -> Result<String> {
     let octets = hex::decode(marks.alloc(), digits)?;
-    marks.begin()?;
-    marks.shown(made_octets(marks.alloc(), call, octets.as_slice()))
+    shown!(marks, made_octets(marks.alloc(), call, octets.as_slice()))
 }
 
 /// An issuer of a name and pairs.
 pub fn issuer(marks: &Marks<'_>, call: &str, text: &str) -> Result<String> {
     let (name, pairs) = shared::issuer(marks.alloc(), text)?;
-    marks.begin()?;
     match call {
-        "new_issue" => marks.shown(CAA::new_issue(true, name, pairs)),
-        _ => marks.shown(CAA::new_issuewild(true, name, pairs)),
+        "new_issue" => shown!(marks, CAA::new_issue(true, name, pairs)),
+        _ => shown!(marks, CAA::new_issuewild(true, name, pairs)),
     }
 }
 
 /// Where incidents are reported.
 pub fn location(marks: &Marks<'_>, text: &str) -> Result<String> {
     let url = String::from_str(marks.alloc(), text)?;
-    marks.begin()?;
-    marks.shown(CAA::new_iodef(true, url))
+    shown!(marks, CAA::new_iodef(true, url))
 }
 
 /// Types that are synchronized, with a comma between each two.
 pub fn types(marks: &Marks<'_>, text: &str) -> Result<String> {
     let types = shared::types(marks.alloc(), text)?;
-    marks.begin()?;
-    marks.shown(CSYNC::new(marks.alloc(), 123, true, true, types.into_iter()))
+    shown!(
+        marks,
+        CSYNC::new(marks.alloc(), 123, true, true, types.into_iter())
+    )
 }
