@@ -6,7 +6,7 @@ use dns_rdata::caa::{CAA, KeyValue, read_iodef, read_issuer};
 use dns_rdata::{BinDecoder, CSYNC, Name, ProtoError, RData, RecordTypeSet, Restrict};
 use held_data::Held;
 use replay::octets;
-use std::alloc::{AllocError, Global};
+use std::alloc::Global;
 
 /// An issuer, critical or not, or one of wildcards, not critical.
 pub fn issue(alloc: Global, kind: &str, text: &str) -> Result<Held> {
@@ -18,38 +18,38 @@ pub fn issue(alloc: Global, kind: &str, text: &str) -> Result<Held> {
     })))
 }
 
-// Shows a name, and pairs that are copies.
-fn show(name: &Option<Name>, pairs: &[KeyValue], shown: &mut String) -> Result<(), AllocError> {
-    match name {
-        Some(name) => write!(shown, "{name}")?,
-        None => shown.push('-')?,
-    }
+// A name, and pairs that are copies.
+fn issuer_text(alloc: Global, name: &Option<Name>, pairs: &[KeyValue]) -> Result<String> {
+    let mut shown = match name {
+        Some(name) => format!(in alloc; "{name}")?,
+        None => String::from_str(alloc, "-")?,
+    };
     for pair in pairs {
         let copy = pair.clone()?;
         let same = copy == *pair;
         write!(shown, ";{}={} {same}", copy.key(), copy.value())?;
     }
-    Ok(())
+    Ok(shown)
 }
 
 /// The name and the pairs that the value of an issuer has, or that it is rejected.
 pub fn issuer_of(alloc: Global, text: &str) -> Result<String> {
-    let mut shown = String::new(alloc);
     match read_issuer(alloc, text.as_bytes()) {
-        Ok((name, pairs)) => show(&name, pairs.as_slice(), &mut shown)?,
-        Err(ProtoError::Message(_)) => shown.push_str("refused")?,
-        Err(_) => shown.push_str("otherwise")?,
+        Ok((name, pairs)) => issuer_text(alloc, &name, pairs.as_slice()),
+        Err(ProtoError::Message(_)) => Ok(String::from_str(alloc, "refused")?),
+        Err(_) => Ok(String::from_str(alloc, "otherwise")?),
     }
-    Ok(shown)
+}
+
+// The name and the pairs that a record has as its issuer.
+fn issuer_within(alloc: Global, record: &CAA) -> Result<String> {
+    let (name, pairs) = record.value_as_issue()?;
+    issuer_text(alloc, &name, pairs.as_slice())
 }
 
 /// The name and the pairs that a record of these octets has as its issuer.
 pub fn issuer_in(alloc: Global, digits: &str) -> Result<String> {
-    let record = record_of::<CAA>(alloc, digits)?;
-    let (name, pairs) = record.value_as_issue()?;
-    let mut shown = String::new(alloc);
-    show(&name, pairs.as_slice(), &mut shown)?;
-    Ok(shown)
+    issuer_within(alloc, &record_of::<CAA>(alloc, digits)?)
 }
 
 /// The URL that a record of these octets has, or that it is rejected.
@@ -70,11 +70,9 @@ pub fn set_issuer(alloc: Global, digits: &str, text: &str) -> Result<String> {
     let (name, pairs) = issuer(alloc, text)?;
     value.set_issuer_value(name.as_ref(), pairs.as_slice())?;
     let refused = value.set_iodef_value("x").is_err() && value.value_as_iodef().is_err();
-    let mut shown = emitted_digits(alloc, &value)?;
-    write!(shown, " {refused} ")?;
-    let (name, pairs) = value.value_as_issue()?;
-    show(&name, pairs.as_slice(), &mut shown)?;
-    Ok(shown)
+    let digits = emitted_digits(alloc, &value)?;
+    let issuer = issuer_within(alloc, &value)?;
+    Ok(format!(in alloc; "{digits} {refused} {issuer}")?)
 }
 
 /// The URL of a record that is set to another one, which stays where an issuer is rejected, and whether the record is one

@@ -23,15 +23,14 @@ fn said(alloc: Global, kind: &str, text: &str) -> Result<Held> {
     let (record, text) = parts(text)?;
     let record = record_type(record)?;
     match kind {
-        "within" => return within(alloc, record, text),
-        "parse" => return Ok(Held::parse(alloc, record, text)?),
-        "words" => return Ok(Held::of_words(alloc, record, text)?),
-        _ => (),
-    }
-    let octets = octets(alloc, text)?;
-    match kind {
-        "read" => Ok(Held::whole(alloc, octets.as_slice(), record)?),
-        _ => Ok(Held::parse(alloc, record, std::str::from_utf8(octets.as_slice())?)?),
+        "within" => within(alloc, record, text),
+        "parse" => Ok(Held::parse(alloc, record, text)?),
+        "words" => Ok(Held::of_words(alloc, record, text)?),
+        "read" => Ok(Held::whole(alloc, octets(alloc, text)?.as_slice(), record)?),
+        _ => {
+            let octets = octets(alloc, text)?;
+            Ok(Held::parse(alloc, record, std::str::from_utf8(octets.as_slice())?)?)
+        }
     }
 }
 

@@ -26,10 +26,8 @@ pub fn read(marks: &Marks<'_>, text: &str) -> Result<String> {
     let alloc = marks.alloc();
     let given = read_given(alloc, text)?;
     let mut decoder = given.decoder(alloc)?;
-    let made = marked!(
-        marks,
-        Held::read(&mut decoder, given.record_type, given.length)
-    );
+    let (kind, length) = (given.record_type, given.length);
+    let made = marked!(marks, Held::read(&mut decoder, kind, length));
     let shown = show(alloc, &made)?;
     let rest = hex::encode(alloc, decoder.unread().unverified())?;
     Ok(format!(in alloc; "{} {rest} {shown}", decoder.index())?)
@@ -59,10 +57,8 @@ pub fn view(marks: &Marks<'_>, text: &str) -> Result<String> {
     let given = read_given(alloc, text)?;
     let mut decoder = given.decoder(alloc)?;
     let mut out = [0u8; 512];
-    let (error, count) = marked!(
-        marks,
-        look(&mut decoder, given.record_type, given.length, &mut out)
-    );
+    let (kind, length) = (given.record_type, given.length);
+    let (error, count) = marked!(marks, look(&mut decoder, kind, length, &mut out));
     Ok(format!(in alloc; "{error:?} {} {count}", decoder.index())?)
 }
 
@@ -77,13 +73,10 @@ pub fn copy(marks: &Marks<'_>, text: &str) -> Result<String> {
 /// The value of words or of a text.
 pub fn value(marks: &Marks<'_>, call: &str, kind: &str, text: &str) -> Result<String> {
     let kind = record_type(kind)?;
-    let made = marked!(
-        marks,
-        match call {
-            "from_tokens" => Held::of_words(marks.alloc(), kind, text),
-            _ => Held::parse(marks.alloc(), kind, text),
-        }
-    );
+    let made = match call {
+        "from_tokens" => marked!(marks, Held::of_words(marks.alloc(), kind, text)),
+        _ => marked!(marks, Held::parse(marks.alloc(), kind, text)),
+    };
     show(marks.alloc(), &made)
 }
 

@@ -74,8 +74,8 @@ pub fn subnet(marks: &Marks<'_>, text: &str) -> Result<String> {
     let subnet = text.parse::<ClientSubnet>()?;
     let option = EdnsOption::Subnet(subnet);
     marks.begin()?;
-    let of_option = (option.len(), option.is_empty());
-    marks.shown((subnet.len(), subnet.is_empty(), of_option.0, of_option.1))
+    let (len, is_empty) = (option.len(), option.is_empty());
+    marks.shown((subnet.len(), subnet.is_empty(), len, is_empty))
 }
 
 /// How many octets an option of these has, and whether it has none.
