@@ -103,9 +103,9 @@ impl fmt::Display for DisplayOutcome<'_> {
 fn given(alloc: Global, value: &RData) -> Result<Option<Vec<u8>>, AllocError> {
     let mut octets = Vec::new(alloc);
     let mut cursor = value.canonical_octets();
-    for index in 0..1000000u128 {
+    for index in 0..1000000u64 {
         let octet = cursor.next();
-        if octet != value.octet_at(index) {
+        if octet != value.octet_at(u128::from(index)) {
             return Ok(None);
         }
         let Some(octet) = octet else {

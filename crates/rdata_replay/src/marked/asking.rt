@@ -116,8 +116,8 @@ fn append_all(value: &RData, octets: &mut Vec<u8>) -> Result<(), AllocError> {
 
 // Appends the canonical octets at the first 300 indices.
 fn append_first(value: &RData, octets: &mut Vec<u8>) -> Result<(), AllocError> {
-    for index in 0..300u128 {
-        let Some(octet) = value.octet_at(index) else {
+    for index in 0..300u16 {
+        let Some(octet) = value.octet_at(u128::from(index)) else {
             break;
         };
         octets.push(octet)?;
