@@ -14,15 +14,22 @@ pub struct Given {
     pub message: Vec<u8>,
 }
 
+/// What is before and after the first blank of a text.
+pub fn halves(text: &str) -> Result<(&str, &str)> {
+    text.split_once(' ').context("a word is missing")
+}
+
 impl Given {
     /// What a line `TYPE PLACE LENGTH OCTETS` gives. A dash is no octets.
     pub fn of_line(alloc: Global, line: &str) -> Result<Given> {
-        let mut words = line.split_whitespace();
+        let (kind, rest) = halves(line)?;
+        let (offset, rest) = halves(rest)?;
+        let (length, digits) = halves(rest)?;
         Ok(Given {
-            record_type: record_type(words.next().context("a type")?)?,
-            offset: words.next().context("an offset")?.parse::<usize>()?,
-            length: words.next().context("a length")?.parse::<u16>()?,
-            message: hex::decode(alloc, words.next().context("octets")?.trim_matches('-'))?,
+            record_type: record_type(kind)?,
+            offset: offset.parse::<usize>()?,
+            length: length.parse::<u16>()?,
+            message: hex::decode(alloc, digits.trim_matches('-'))?,
         })
     }
 

@@ -1,7 +1,8 @@
 //! Texts that are read as record data.
 
 use crate::columns::PARTS;
-use anyhow::{Context, Result};
+use crate::given::halves;
+use anyhow::Result;
 use dns_rdata::{ParseError, RecordType};
 use dns_rdata_zone::from_zone_text;
 use held_data::Held;
@@ -11,7 +12,7 @@ use std::time::Instant;
 
 /// The type and the text of a line `TYPE TEXT`.
 pub fn text_sample(line: &str) -> Result<(RecordType, &str)> {
-    let (kind, text) = line.split_once(' ').context("a type and a text")?;
+    let (kind, text) = halves(line)?;
     Ok((kind.parse::<RecordType>()?, text))
 }
 

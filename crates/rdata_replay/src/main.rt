@@ -9,6 +9,7 @@
 
 mod answers;
 mod calls;
+mod given;
 mod marked;
 mod recorder;
 mod shared;

@@ -32,7 +32,6 @@ macro_rules! held {
 mod asking;
 mod changing;
 mod emitting;
-mod given;
 mod making;
 mod moving;
 mod numbers;

@@ -1,6 +1,7 @@
 //! Octets and texts that are read or rejected.
 
-use crate::shared::{halves, record, shown};
+use crate::given::given_at;
+use crate::shared::{record, shown};
 use anyhow::{Result, bail};
 use dns_rdata::opt::{ClientSubnet, NSIDPayload};
 use dns_rdata::{
@@ -41,11 +42,8 @@ pub fn end(
 
 /// Why the data at an offset, `PLACE LENGTH OCTETS`, is rejected, or that it is not, and the offset where reading ends.
 pub fn refusal(alloc: Global, kind: &str, text: &str) -> Result<String> {
-    let (offset, rest) = halves(text, ' ')?;
-    let (length, digits) = halves(rest, ' ')?;
-    let message = octets(alloc, digits)?;
-    let mut decoder = BinDecoder::at(alloc, message.as_slice(), offset.parse::<usize>()?)?;
-    let (error, index) = end(&mut decoder, record_type(kind)?, length.parse::<u16>()?);
+    let given = given_at(alloc, kind, text)?;
+    let (error, index) = end(&mut given.decoder(alloc)?, given.record_type, given.length);
     Ok(format!(in alloc; "{error:?} {index}")?)
 }
 

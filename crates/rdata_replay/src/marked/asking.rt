@@ -1,7 +1,7 @@
 //! What values are asked for: how they compare, what they are, their canonical octets and their text.
 
+use crate::given::value;
 use crate::marked::Marks;
-use crate::marked::given::value;
 use crate::shared::hashed;
 use anyhow::Result;
 use dns_rdata::opt::EdnsCode;

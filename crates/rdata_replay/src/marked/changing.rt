@@ -27,21 +27,18 @@ pub fn set_url(marks: &Marks<'_>, digits: &str, url: &str) -> Result<String> {
 pub fn options(marks: &Marks<'_>, call: &str, digits: &str, code: &str) -> Result<String> {
     let mut opt = record_of::<OPT>(marks.alloc(), digits)?;
     let code = EdnsCode::from(code.parse::<u16>()?);
-    match call {
+    let result = match call {
         "insert" => {
             let option = EdnsOption::try_from(marks.alloc(), (code, b"octets"))?;
-            let result = marked!(marks, opt.insert(option));
-            Ok(format!(in marks.alloc(); "{result:?} {opt:?}")?)
+            shown!(marks, opt.insert(option))?
         }
         "remove" => {
             marked!(marks, opt.remove(code));
-            shown(marks.alloc(), opt)
+            return shown(marks.alloc(), opt);
         }
-        _ => {
-            let result = marked!(marks, opt.get_all(code));
-            Ok(format!(in marks.alloc(); "{result:?} {opt:?}")?)
-        }
-    }
+        _ => shown!(marks, opt.get_all(code))?,
+    };
+    Ok(format!(in marks.alloc(); "{result} {opt:?}")?)
 }
 
 /// The serial of the record after one more.

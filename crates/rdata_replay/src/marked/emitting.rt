@@ -1,7 +1,7 @@
 //! Values that are emitted.
 
+use crate::given::value;
 use crate::marked::Marks;
-use crate::marked::given::value;
 use crate::shared::mode_of;
 use anyhow::{Result, bail};
 use dns_rdata::{BinEncodable, BinEncoder, ProtoResult, RData, RDataEncoding};

@@ -1,7 +1,7 @@
 //! Values, texts and octets that calls make.
 
+use crate::given::{read_given, value as value_of};
 use crate::marked::Marks;
-use crate::marked::given::{read_given, value as value_of};
 use crate::shared;
 use anyhow::Result;
 use dns_rdata::caa::CAA;

@@ -1,9 +1,11 @@
-//! What words of the lines give before a call.
+//! Record data in a message and values, as words of the lines say them.
 
 use crate::calls::values;
-use anyhow::{Context, Result};
+use crate::shared::halves;
+use anyhow::Result;
 use dns_rdata::{BinDecoder, DecodeError, RecordType};
 use held_data::{Held, record_type};
+use replay::octets;
 use std::alloc::Global;
 
 /// Octets of a message, and the offset and length of a record's data in it.
@@ -26,15 +28,22 @@ impl Given {
     }
 }
 
+/// What a type and a text `PLACE LENGTH OCTETS` give.
+pub fn given_at(alloc: Global, kind: &str, text: &str) -> Result<Given> {
+    let (offset, rest) = halves(text, ' ')?;
+    let (length, digits) = halves(rest, ' ')?;
+    Ok(Given {
+        record_type: record_type(kind)?,
+        offset: offset.parse::<usize>()?,
+        length: length.parse::<u16>()?,
+        message: octets(alloc, digits)?,
+    })
+}
+
 /// What a text `TYPE PLACE LENGTH OCTETS` gives.
 pub fn read_given(alloc: Global, text: &str) -> Result<Given> {
-    let mut words = text.split(' ');
-    Ok(Given {
-        record_type: record_type(words.next().context("a type")?)?,
-        offset: words.next().context("an offset")?.parse::<usize>()?,
-        length: words.next().context("a length")?.parse::<u16>()?,
-        message: hex::decode(alloc, words.next().context("octets")?)?,
-    })
+    let (kind, rest) = halves(text, ' ')?;
+    given_at(alloc, kind, rest)
 }
 
 /// The value of such a text, or of a word as [`values::value`] reads it, which has a colon.
