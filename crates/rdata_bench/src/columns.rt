@@ -1,7 +1,8 @@
 //! The calls that are measured.
 
+use crate::given::Given;
 use anyhow::Result;
-use dns_rdata::{BinDecoder, BinEncodable, BinEncoder, DecodeError, Name, RData, RecordType};
+use dns_rdata::{BinEncodable, BinEncoder, Name, RData};
 use dns_rdata_zone::ZoneText;
 use held_data::{Held, measured};
 use std::alloc::Global;
@@ -26,100 +27,52 @@ const COPIES: u64 = 8;
 /// Record data in a message, equal values of it and as many others, and what is written into.
 #[derive(Drop)]
 pub struct Sample {
-    record_type: RecordType,
-    message: Vec<u8>,
-    offset: usize,
-    length: u16,
+    /// The record data in its message.
+    pub given: Given,
     values: Vec<Held>,
     others: Vec<Held>,
     nexts: Vec<Held>,
     octets: Vec<u8>,
     text: String,
-    // whether what is made is compared
-    compares: bool,
+    /// Whether what is made is compared.
+    pub compares: bool,
+}
+
+// Equal values of a message.
+fn values_of(alloc: Global, given: &Given, message: &[u8]) -> Result<Vec<Held>> {
+    let mut values = Vec::new(alloc);
+    for _ in 0..COPIES {
+        values.push(given.read(alloc, message)?)?;
+    }
+    Ok(values)
 }
 
 impl Sample {
-    /// The sample of the RDATA at an offset of the message.
-    pub fn new(
-        alloc: Global,
-        record_type: RecordType,
-        message: Vec<u8>,
-        offset: usize,
-        length: u16,
-        compares: bool,
-    ) -> Result<Sample> {
-        let mut sample = Sample {
-            record_type,
-            message,
-            offset,
-            length,
-            values: Vec::new(alloc),
-            others: Vec::new(alloc),
-            nexts: Vec::new(alloc),
+    /// The sample of record data in a message.
+    pub fn new(alloc: Global, given: Given) -> Result<Sample> {
+        let next = given.next(alloc)?;
+        Ok(Sample {
+            values: values_of(alloc, &given, given.message.as_slice())?,
+            others: values_of(alloc, &given, given.message.as_slice())?,
+            nexts: values_of(alloc, &given, next.as_slice())?,
             octets: Vec::with_capacity(alloc, 65536)?,
             text: String::with_capacity(alloc, 4096)?,
-            compares,
-        };
-        for _ in 0..COPIES {
-            let (value, other, next) = (
-                sample.read(alloc)?,
-                sample.read(alloc)?,
-                sample.next_value(alloc)?,
-            );
-            sample.values.push(value)?;
-            sample.others.push(other)?;
-            sample.nexts.push(next)?;
-        }
-        Ok(sample)
-    }
-
-    // Another value, that of the message with the last octet changed that can be.
-    fn next_value(&self, alloc: Global) -> Result<Held> {
-        let value = self.read(alloc)?;
-        for behind in 1..self.message.len() {
-            let mut message = Vec::from_slice(alloc, self.message.as_slice())?;
-            let at = message.len() - behind;
-            message[at] ^= 1;
-            if let Ok(next) = self.read_from(alloc, message.as_slice()) {
-                if next.0 != value.0 {
-                    return Ok(next);
-                }
-            }
-        }
-        Ok(value)
-    }
-
-    /// The type of the data.
-    pub fn record_type(&self) -> RecordType {
-        self.record_type
-    }
-
-    /// How many octets the message has.
-    pub fn len(&self) -> usize {
-        self.message.len()
-    }
-
-    fn read(&self, alloc: Global) -> std::result::Result<Held, DecodeError> {
-        self.read_from(alloc, self.message.as_slice())
-    }
-
-    fn read_from(&self, alloc: Global, message: &[u8]) -> std::result::Result<Held, DecodeError> {
-        let mut decoder = BinDecoder::new(alloc, message);
-        let _before = decoder.read_slice(self.offset)?;
-        Held::read(&mut decoder, self.record_type, self.length)
+            compares: false,
+            given,
+        })
     }
 }
 
-fn reads(alloc: Global, sample: &Sample, passes: u64) -> Result<()> {
+// Reads the data again and again.
+fn reads(alloc: Global, given: &Given, passes: u64) -> Result<()> {
     let times = passes.saturating_mul(COPIES);
-    let message = sample.message.as_slice();
+    let (message, record_type) = (given.message.as_slice(), given.record_type);
     let all = measured::reads(
         alloc,
         message,
-        sample.offset,
-        sample.record_type,
-        sample.length,
+        given.offset,
+        record_type,
+        given.length,
         times,
     );
     anyhow::ensure!(all, "not read");
@@ -127,9 +80,13 @@ fn reads(alloc: Global, sample: &Sample, passes: u64) -> Result<()> {
 }
 
 fn reads_compared(alloc: Global, sample: &Sample, passes: u64) -> Result<()> {
+    let message = sample.given.message.as_slice();
     for _ in 0..passes {
         for other in &sample.others {
-            anyhow::ensure!(sample.read(alloc)?.0 == other.0, "read otherwise");
+            anyhow::ensure!(
+                sample.given.read(alloc, message)?.0 == other.0,
+                "read otherwise"
+            );
         }
     }
     Ok(())
@@ -171,30 +128,18 @@ fn emits_fresh(alloc: Global, sample: &mut Sample, passes: u64) -> Result<()> {
     Ok(())
 }
 
+// Prints the texts of a zone file, or those of the records. OPT has no text of its own.
 #[inline(never)]
-fn prints(sample: &mut Sample, passes: u64) -> Result<()> {
+fn prints(sample: &mut Sample, passes: u64, is_zone: bool) -> Result<()> {
     let Sample { values, text, .. } = sample;
     for _ in 0..passes {
         for value in values.iter() {
             text.clear();
             match &value.0 {
-                // which has no text of its own
+                value if is_zone => write!(text, "{}", ZoneText::new(value))?,
                 RData::OPT(options) => write!(text, "{options:?}")?,
                 value => write!(text, "{value}")?,
             }
-        }
-    }
-    Ok(())
-}
-
-// The texts of a zone file, of OPT too.
-#[inline(never)]
-fn prints_zone_texts(sample: &mut Sample, passes: u64) -> Result<()> {
-    let Sample { values, text, .. } = sample;
-    for _ in 0..passes {
-        for value in values.iter() {
-            text.clear();
-            write!(text, "{}", ZoneText::new(&value.0))?;
         }
     }
     Ok(())
@@ -244,10 +189,8 @@ fn compares(values: &[Held], others: &[Held], passes: u64) -> u64 {
 
 fn orders(values: &[Held], others: &[Held], passes: u64) -> Result<()> {
     let behind = compares(values, others, passes);
-    anyhow::ensure!(
-        behind == 0 || behind == passes.saturating_mul(COPIES),
-        "an order that changes"
-    );
+    let is_same = behind == 0 || behind == passes.saturating_mul(COPIES);
+    anyhow::ensure!(is_same, "an order that changes");
     Ok(())
 }
 
@@ -258,7 +201,7 @@ fn copies(sample: &Sample, passes: u64) -> Result<()> {
     for _ in 0..passes {
         for value in &sample.values {
             let count = value.0.canonical_octets().copy_to(&mut buffer);
-            anyhow::ensure!(count > 0 || sample.length == 0, "no octets");
+            anyhow::ensure!(count > 0 || sample.given.length == 0, "no octets");
         }
     }
     Ok(())
@@ -270,11 +213,11 @@ pub fn column(alloc: Global, sample: &mut Sample, name: &str, rounds: u64) -> Re
     match name {
         "read" if sample.compares => reads_compared(alloc, sample, passes),
         "clone" if sample.compares => clones_compared(sample, passes),
-        "read" => reads(alloc, sample, passes),
+        "read" => reads(alloc, &sample.given, passes),
         "emit" => emits(alloc, sample, passes),
         "fresh" => emits_fresh(alloc, sample, passes),
-        "print" => prints(sample, passes),
-        "zone" => prints_zone_texts(sample, passes),
+        "print" => prints(sample, passes, false),
+        "zone" => prints(sample, passes, true),
         "clone" => clones(sample, passes),
         "equal" => equals(sample, passes),
         "cmp" => orders(sample.values.as_slice(), sample.others.as_slice(), passes),
@@ -292,10 +235,5 @@ pub fn least(
     rounds: u64,
 ) -> Result<u128> {
     let part = rounds / PARTS / COPIES * COPIES;
-    let mut least = u128::MAX;
-    for _ in 0..PARTS {
-        let (_, time) = timed!(rt, column(rt.alloc(), sample, name, part)?);
-        least = least.min(time.as_nanos().saturating_mul(10) / u128::from(part.max(1)));
-    }
-    Ok(least)
+    Ok(least!(rt, PARTS, part, column(rt.alloc(), sample, name, part)?))
 }

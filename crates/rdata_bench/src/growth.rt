@@ -4,6 +4,7 @@
 //! and where they double with the size it is a square.
 
 use crate::columns::{Sample, least};
+use crate::given::Given;
 use crate::names::{write, zone};
 use anyhow::Result;
 use dns_rdata::{Name, RDataEncoding, RecordType};
@@ -41,7 +42,7 @@ fn print_sample(
     size: usize,
     sample: &mut Sample,
 ) -> Result<()> {
-    let octets = sample.len();
+    let octets = sample.given.message.len();
     let rounds = 2_000_000 / (octets as u64).max(1) + 80;
     let tenths = least(rt, sample, column, rounds)?;
     print_line(rt, curve, size, tenths, octets)
@@ -49,17 +50,12 @@ fn print_sample(
 
 fn print_names(rt: &(impl AllocGlobal + Clock + Print), curve: &str, names: &[Name]) -> Result<()> {
     let mut octets = Vec::with_capacity(rt.alloc(), 65536)?;
-    let mut tenths = u128::MAX;
     let mut total = 0usize;
     for name in names {
         total = total.saturating_add(name.len());
     }
-    for _ in 0..20 {
-        octets.clear();
-        let mode = RDataEncoding::StandardRecord;
-        let (_, time) = timed!(rt, write(rt.alloc(), &mut octets, names, mode)?);
-        tenths = tenths.min(time.as_nanos().saturating_mul(10));
-    }
+    let mode = RDataEncoding::StandardRecord;
+    let tenths = least!(rt, 20, 1u64, write(rt.alloc(), &mut octets, names, mode)?);
     print_line(rt, curve, names.len(), tenths, total)
 }
 
@@ -88,6 +84,23 @@ fn of_one_hash(alloc: Global, count: usize) -> Result<Vec<Name>> {
     Ok(names)
 }
 
+// The sample of record data from an offset to the end of a message.
+fn sample(
+    alloc: Global,
+    record_type: RecordType,
+    message: Vec<u8>,
+    offset: usize,
+) -> Result<Sample> {
+    let length = u16::try_from(message.len().saturating_sub(offset)).unwrap_or(u16::MAX);
+    let given = Given {
+        record_type,
+        offset,
+        length,
+        message,
+    };
+    Sample::new(alloc, given)
+}
+
 // A name, and pointers each to the one before; the data is the last.
 fn pointers(alloc: Global, count: usize) -> Result<Sample> {
     let mut message = Vec::from_slice(alloc, b"\x01a\x00")?;
@@ -97,7 +110,7 @@ fn pointers(alloc: Global, count: usize) -> Result<Sample> {
         message.extend_from_slice(&(49152 + target % 16384).to_be_bytes()[6..])?;
         target = offset;
     }
-    Sample::new(alloc, RecordType::NS, message, target, 2, false)
+    sample(alloc, RecordType::NS, message, target)
 }
 
 // So many strings of 255 octets.
@@ -107,8 +120,7 @@ fn strings(alloc: Global, count: usize) -> Result<Sample> {
         message.push(255u8)?;
         message.extend_from_slice([97u8; 255].as_slice())?;
     }
-    let length = u16::try_from(message.len()).unwrap_or(u16::MAX);
-    Sample::new(alloc, RecordType::TXT, message, 0, length, false)
+    sample(alloc, RecordType::TXT, message, 0)
 }
 
 // A bitmap of so many windows, each of 32 octets.
@@ -119,8 +131,7 @@ fn windows(alloc: Global, count: usize) -> Result<Sample> {
         message.push(32u8)?;
         message.extend_from_slice([0x5au8; 32].as_slice())?;
     }
-    let length = u16::try_from(message.len()).unwrap_or(u16::MAX);
-    Sample::new(alloc, RecordType::CSYNC, message, 0, length, false)
+    sample(alloc, RecordType::CSYNC, message, 0)
 }
 
 /// Prints the curves.

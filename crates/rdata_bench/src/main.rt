@@ -26,7 +26,20 @@ macro_rules! timed {
     }};
 }
 
+// The least time in so many turns of a call that takes so many rounds, in tenths of a nanosecond of a round.
+macro_rules! least {
+    ($rt:expr, $turns:expr, $rounds:expr, $call:expr) => {{
+        let mut least = u128::MAX;
+        for _ in 0..$turns {
+            let (_, time) = timed!($rt, $call);
+            least = least.min(time.as_nanos().saturating_mul(10) / u128::from($rounds.max(1)));
+        }
+        least
+    }};
+}
+
 mod columns;
+mod given;
 mod growth;
 mod names;
 mod options;
@@ -34,49 +47,22 @@ mod parsing;
 mod sorting;
 mod views;
 
-use anyhow::{Context, Result};
+use anyhow::Result;
 use columns::{Sample, column, least};
-use held_data::record_type;
+use given::Given;
 use parsing::{measure_text, parses, text_sample};
-use std::alloc::Global;
 use std::io;
 use std::io::BufRead;
 use std::rt::Clock;
 
-const COLUMNS: [&str; 10] = [
-    "read",
-    "emit",
-    "fresh",
-    "print",
-    "zone",
-    "clone",
-    "equal",
-    "cmp",
-    "next",
-    "canonical",
-];
+const COLUMNS: &str = "read\temit\tfresh\tprint\tzone\tclone\tequal\tcmp\tnext\tcanonical";
 
-fn read_sample(alloc: Global, line: &str, compares: bool) -> Result<Sample> {
-    let mut words = line.split_whitespace();
-    let record_type = record_type(words.next().context("a type")?)?;
-    let offset = words.next().context("an offset")?.parse::<usize>()?;
-    let length = words.next().context("a length")?.parse::<u16>()?;
-    let octets = match words.next().context("octets")? {
-        "-" => "",
-        digits => digits,
-    };
-    let message = hex::decode(alloc, octets)?;
-    Sample::new(alloc, record_type, message, offset, length, compares)
-}
-
-fn measure(
-    rt: &(impl Clock + AllocGlobal + Print),
-    sample: &mut Sample,
-    rounds: u64,
-) -> Result<()> {
-    print!(rt; "{}", sample.record_type())?;
-    for name in COLUMNS {
-        let tenths = least(rt, sample, name, rounds)?;
+// Prints the type and the columns of RDATA as a value.
+fn measure_value(rt: &(impl Clock + AllocGlobal + Print), given: Given, rounds: u64) -> Result<()> {
+    print!(rt; "{}", given.record_type)?;
+    let mut sample = Sample::new(rt.alloc(), given)?;
+    for name in COLUMNS.split('\t') {
+        let tenths = least(rt, &mut sample, name, rounds)?;
         print!(rt; "\t{}.{}", tenths / 10, tenths % 10)?;
     }
     println!(rt; "")?;
@@ -95,10 +81,9 @@ fn main(rt: HostRuntime) -> Result<()> {
         ("mixed", _) => options::measure_mixed(&rt),
         ("options", None) => options::measure_options(&rt, 16383),
         ("options", Some(count)) => options::measure_options(&rt, count.parse::<u16>()?),
-        ("parse", Some(rounds)) => measure_texts(&rt, rounds.parse::<u64>()?),
-        ("views", Some(rounds)) => views::measure_views(&rt, rounds.parse::<u64>()?),
         ("names", Some(rounds)) => names::measure_names(&rt, rounds.parse::<u32>()?),
-        (rounds, None) => measure_samples(&rt, rounds.parse::<u64>()?),
+        ("parse" | "views", Some(rounds)) => measure_lines(&rt, &word, rounds.parse::<u64>()?),
+        (rounds, None) => measure_lines(&rt, "values", rounds.parse::<u64>()?),
         (rounds, Some(name)) => {
             let compares = args.next().is_some();
             take_column(&rt, rounds.parse::<u64>()?, name.as_str(), compares)
@@ -106,15 +91,20 @@ fn main(rt: HostRuntime) -> Result<()> {
     }
 }
 
-fn measure_samples(rt: &HostRuntime, rounds: u64) -> Result<()> {
-    print!(rt; "type")?;
-    for name in COLUMNS {
-        print!(rt; "\t{name}")?;
+// Prints a line for each line of standard input: of a text, or of RDATA as a view or as a value.
+fn measure_lines(rt: &HostRuntime, what: &str, rounds: u64) -> Result<()> {
+    match what {
+        "parse" => println!(rt; "type\tparse\tzone")?,
+        "views" => println!(rt; "type\t{}", views::COLUMNS)?,
+        _ => println!(rt; "type\t{COLUMNS}")?,
     }
-    println!(rt; "")?;
     for line in io::BufReader::new(rt.alloc(), rt.reader())?.lines(rt.alloc()) {
-        let mut sample = read_sample(rt.alloc(), line?.as_str(), false)?;
-        measure(rt, &mut sample, rounds)?;
+        let line = line?;
+        match what {
+            "parse" => measure_text(rt, line.as_str(), rounds)?,
+            "views" => views::measure(rt, Given::of_line(rt.alloc(), line.as_str())?, rounds)?,
+            _ => measure_value(rt, Given::of_line(rt.alloc(), line.as_str())?, rounds)?,
+        }
     }
     Ok(())
 }
@@ -128,17 +118,11 @@ fn take_column(rt: &HostRuntime, rounds: u64, name: &str, compares: bool) -> Res
             let (record_type, text) = text_sample(line.as_str())?;
             parses(rt.alloc(), record_type, text, is_zone, rounds)?;
         } else {
-            let mut sample = read_sample(rt.alloc(), line.as_str(), compares)?;
+            let given = Given::of_line(rt.alloc(), line.as_str())?;
+            let mut sample = Sample::new(rt.alloc(), given)?;
+            sample.compares = compares;
             column(rt.alloc(), &mut sample, name, rounds)?;
         }
-    }
-    Ok(())
-}
-
-fn measure_texts(rt: &HostRuntime, rounds: u64) -> Result<()> {
-    println!(rt; "type\tparse\tzone")?;
-    for line in io::BufReader::new(rt.alloc(), rt.reader())?.lines(rt.alloc()) {
-        measure_text(rt, line?.as_str(), rounds)?;
     }
     Ok(())
 }

@@ -1,7 +1,5 @@
 //! Names: 2,000 of one zone are written into one message, whole and with pointers, and read back.
 
-ghost use Rattle.std.specs.Prelude.{◌≡◌, []};
-
 use anyhow::{Result, bail};
 use dns_rdata::{
     BinDecodable, BinDecoder, BinEncodable, BinEncoder, Name, ProtoError, RDataEncoding,
@@ -22,15 +20,14 @@ pub fn zone(alloc: Global, count: usize, different: usize) -> Result<Vec<Name>> 
     Ok(names)
 }
 
-/// Writes the names into one message.
+/// Writes the names into one message, in place of the octets there were.
 pub fn write(
     alloc: Global,
     octets: &mut Vec<u8>,
     names: &[Name],
     mode: RDataEncoding,
-) -> std::result::Result<(), ProtoError>
-    requires { octets.old.items ≡ [] }
-{
+) -> std::result::Result<(), ProtoError> {
+    octets.clear();
     let mut encoder = BinEncoder::new(alloc, octets);
     encoder.with_rdata_behavior(mode);
     for name in names {
@@ -68,7 +65,6 @@ fn measure(
     let mut writing = Duration::from_nanos(0);
     let mut reading = Duration::from_nanos(0);
     for _ in 0..rounds {
-        octets.clear();
         let (_, time) = timed!(rt, write(alloc, &mut octets, names.as_slice(), mode)?);
         writing = writing.saturating_add(time);
         let (same, time) = timed!(rt, read(alloc, octets.as_slice(), names.as_slice())?);

@@ -70,15 +70,12 @@ impl Body {
     }
 }
 
-// So many options: their order, what they hold, whether they are in that order from the last one on, and whether the one
-// that comes last in rising order has another code.
+// So many options, their order, and what they hold.
 #[derive(Drop)]
 struct Options<'a> {
     order: &'a str,
     count: u16,
     body: Body,
-    turned: bool,
-    differs: bool,
 }
 
 impl Options<'_> {
@@ -104,13 +101,14 @@ impl Options<'_> {
         greatest
     }
 
-    // Their octets.
-    fn octets(&self, alloc: Global) -> Result<Vec<u8>> {
+    // Their octets, from the last option on if it is turned. The one that comes last in rising order has another code if they
+    // are to differ.
+    fn octets(&self, alloc: Global, turned: bool, differs: bool) -> Result<Vec<u8>> {
         let greatest = self.greatest();
-        let mut left = self.differs;
+        let mut left = differs;
         let mut octets = Vec::new(alloc);
         for i in 0..self.count {
-            let index = if self.turned { self.count - 1 - i } else { i };
+            let index = if turned { self.count - 1 - i } else { i };
             let number = self.number(index);
             let is_last = left && number == greatest;
             left = left && !is_last;
@@ -119,8 +117,10 @@ impl Options<'_> {
         Ok(octets)
     }
 
-    fn read(&self, alloc: Global) -> Result<Held> {
-        Ok(Held::whole(alloc, self.octets(alloc)?.as_slice(), RecordType::OPT)?)
+    // The value of these octets.
+    fn read(&self, alloc: Global, turned: bool, differs: bool) -> Result<Held> {
+        let octets = self.octets(alloc, turned, differs)?;
+        Ok(Held::whole(alloc, octets.as_slice(), RecordType::OPT)?)
     }
 }
 
@@ -156,18 +156,10 @@ fn measure(
     body: Body,
     count: u16,
 ) -> Result<()> {
-    let mut options = Options {
-        order,
-        count,
-        body,
-        turned: true,
-        differs: false,
-    };
-    let first = options.read(rt.alloc())?;
-    options.turned = false;
-    let (second, read) = timed!(rt, options.read(rt.alloc())?);
-    options.differs = true;
-    let other = options.read(rt.alloc())?;
+    let options = Options { order, count, body };
+    let first = options.read(rt.alloc(), true, false)?;
+    let (second, read) = timed!(rt, options.read(rt.alloc(), false, false)?);
+    let other = options.read(rt.alloc(), false, true)?;
     let (is_equal, equal) = timed!(rt, first.0 == second.0);
     anyhow::ensure!(is_equal, "records that are not equal");
     let (hash, hashed) = timed!(rt, hash_of(&second.0));
@@ -198,10 +190,8 @@ fn print_head(rt: &impl Print) -> Result<()> {
 /// `==`, hash, `cmp` of equal records and of records whose last options differ, all canonical octets one by one, the last of
 /// them, and all of them copied.
 pub fn measure_options(rt: &(impl Clock + AllocGlobal + Print), count: u16) -> Result<()> {
-    anyhow::ensure!(
-        count >= 1 && count <= 16383,
-        "no record holds so many options"
-    );
+    let fits = count >= 1 && count <= 16383;
+    anyhow::ensure!(fits, "no record holds so many options");
     print_head(rt)?;
     for order in ["rising", "falling", "mixed", "two", "last"] {
         measure(rt, order, order, Body::Empty, count)?;

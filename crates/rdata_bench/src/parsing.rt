@@ -1,7 +1,8 @@
 //! Texts that are read as record data.
 
 use crate::columns::PARTS;
-use anyhow::{Context, Result};
+use crate::given::halves;
+use anyhow::Result;
 use dns_rdata::{ParseError, RecordType};
 use dns_rdata_zone::from_zone_text;
 use held_data::Held;
@@ -11,7 +12,7 @@ use std::time::Instant;
 
 /// The type and the text of a line `TYPE TEXT`.
 pub fn text_sample(line: &str) -> Result<(RecordType, &str)> {
-    let (kind, text) = line.split_once(' ').context("a type and a text")?;
+    let (kind, text) = halves(line)?;
     Ok((kind.parse::<RecordType>()?, text))
 }
 
@@ -44,38 +45,28 @@ pub fn parses(
     Ok(())
 }
 
-// Prints the nanoseconds of one reading of the text in the quickest part of the rounds, and nothing where it is not read so.
-fn measure_form(
-    rt: &(impl Clock + AllocGlobal + Print),
-    record_type: RecordType,
-    text: &str,
-    is_zone: bool,
-    rounds: u64,
-) -> Result<()> {
-    if parses(rt.alloc(), record_type, text, is_zone, 1).is_err() {
-        return Ok(());
-    }
-    let part = rounds / PARTS;
-    let mut least = u128::MAX;
-    for _ in 0..PARTS {
-        let (_, time) = timed!(rt, parses(rt.alloc(), record_type, text, is_zone, part)?);
-        least = least.min(time.as_nanos().saturating_mul(10) / u128::from(part.max(1)));
-    }
-    print!(rt; "{}.{}", least / 10, least % 10)?;
-    Ok(())
-}
-
-/// Prints the type, and the nanoseconds of one reading of the text: as hickory-proto reads it, and as a zone file's.
+/// Prints the type, and the nanoseconds of one reading of the text in the quickest part of the rounds: as hickory-proto reads
+/// it, and as a zone file's; nothing where it is not read so.
 pub fn measure_text(
     rt: &(impl Clock + AllocGlobal + Print),
     line: &str,
     rounds: u64,
 ) -> Result<()> {
     let (record_type, text) = text_sample(line)?;
-    print!(rt; "{record_type}\t")?;
-    measure_form(rt, record_type, text, false, rounds)?;
-    print!(rt; "\t")?;
-    measure_form(rt, record_type, text, true, rounds)?;
+    print!(rt; "{record_type}")?;
+    let part = rounds / PARTS;
+    for is_zone in [false, true] {
+        print!(rt; "\t")?;
+        if parses(rt.alloc(), record_type, text, is_zone, 1).is_ok() {
+            let least = least!(
+                rt,
+                PARTS,
+                part,
+                parses(rt.alloc(), record_type, text, is_zone, part)?
+            );
+            print!(rt; "{}.{}", least / 10, least % 10)?;
+        }
+    }
     println!(rt; "")?;
     Ok(())
 }

@@ -2,9 +2,9 @@
 //! to each is a line: the status, a tab, and the output. In both `\n` stands for a line end, `\t` for a tab and `\\` for a
 //! backslash. Where a view of octets that are read is another than their value, or fails otherwise, the status is 9.
 
+use crate::shared::run_of;
 use crate::viewed::is_viewed;
 use anyhow::Result;
-use rdata_command::run;
 use replay::fields_of;
 use std::alloc::{AllocError, Global};
 use std::io::{self, BufRead, BufReader, BufWriter, Write};
@@ -25,12 +25,10 @@ fn push_escaped(all: &mut String, text: &str) -> std::result::Result<(), AllocEr
 // The result of a line, as a line.
 fn answer(alloc: Global, line: &str) -> Result<String> {
     let words = fields_of(alloc, line)?;
-    let mut out: Vec<u8> = Vec::new(alloc);
-    let status = run(alloc, words.as_slice(), &mut out, &mut io::sink());
-    let output = std::str::from_utf8(out.as_slice())?;
-    let is_same = is_viewed(alloc, words.as_slice(), status, output)?;
+    let (status, output) = run_of(alloc, words.as_slice())?;
+    let is_same = is_viewed(alloc, words.as_slice(), status, output.as_str())?;
     let mut all = format!(in alloc; "{}\t", if is_same { status } else { 9 })?;
-    push_escaped(&mut all, output)?;
+    push_escaped(&mut all, output.as_str())?;
     all.push('\n')?;
     Ok(all)
 }

@@ -5,8 +5,8 @@
 mod changing;
 mod encoder;
 mod lists;
-mod made;
-mod made_certs;
+pub mod made;
+pub mod made_certs;
 mod made_services;
 mod made_sets;
 mod numbers;
@@ -44,14 +44,8 @@ fn answer_to_none(alloc: Global, command: &str) -> Result<String> {
 
 fn answer_to_one(alloc: Global, command: &str, word: &str) -> Result<String> {
     match command {
-        "emitted" => values::emitted(alloc, word),
-        "unemitted" => values::unemitted(alloc, word),
-        "debugged" => values::debugged(alloc, word),
-        "printed" => values::printed(alloc, word),
-        "displayed" => values::displayed(alloc, word),
-        "told" => values::told(alloc, word),
-        "target" => values::target(alloc, word),
-        "canonical" => values::canonical(alloc, word),
+        "emitted" | "unemitted" | "target" | "told" => values::of_one(alloc, command, word),
+        "canonical" | "debugged" | "displayed" | "printed" => values::of_one(alloc, command, word),
         "naptr" => reading::naptr(alloc, word),
         "flags" => reading::flags(alloc, word),
         "base64" => made_certs::base64(alloc, word),
@@ -85,8 +79,7 @@ fn answer_to_one(alloc: Global, command: &str, word: &str) -> Result<String> {
 
 fn answer_to_two(alloc: Global, command: &str, first: &str, second: &str) -> Result<String> {
     match command {
-        "compare" => values::compare(alloc, first, second),
-        "cursors" => values::cursors(alloc, first, second),
+        "compare" | "cursors" => values::of_two(alloc, command, first, second),
         "octet" => values::octet(alloc, first, second),
         "refusal" => reading::refusal(alloc, first, second),
         "own-refusal" => reading::own_refusal(alloc, first, second),
@@ -95,8 +88,7 @@ fn answer_to_two(alloc: Global, command: &str, first: &str, second: &str) -> Res
         "are-words" => reading::are_words(alloc, first, second),
         "is-long-text" => reading::is_long_text(alloc, first, second),
         "is-text" => reading::is_text(alloc, first, second),
-        "unread" => reading::unread(alloc, first, second),
-        "field" => reading::field(alloc, first, second),
+        "unread" | "field" => reading::unread(alloc, command, first, second),
         "set-issuer" => made_sets::set_issuer(alloc, first, second),
         "set-url" => made_sets::set_url(alloc, first, second),
         "same-sets" => made_sets::same_sets(alloc, first, second),

@@ -9,6 +9,7 @@
 
 mod answers;
 mod calls;
+mod given;
 mod marked;
 mod recorder;
 mod shared;
@@ -16,10 +17,9 @@ mod viewed;
 mod wire_calls;
 
 use anyhow::{Result, bail};
-use rdata_command::run;
-use replay::{Interpreter, replay};
+use replay::{Interpreter, fields_of, replay};
+use shared::run_of;
 use std::alloc::Global;
-use std::io;
 use viewed::{canonical_line, is_viewed};
 
 /// The program: a line has the status and the output that are wanted, and the words.
@@ -30,19 +30,18 @@ impl Interpreter for Commands {
         let [wanted_status, wanted, words @ ..] = fields else {
             bail!("a status or an output is missing");
         };
-        let mut out: Vec<u8> = Vec::new(alloc);
-        let status = run(alloc, words, &mut out, &mut io::sink());
-        let output = String::from_utf8(out)?;
+        let (status, output) = run_of(alloc, words)?;
         if status != wanted_status.as_str().parse::<u8>()? || output.as_str() != wanted.as_str() {
             return Ok(Some(output));
         }
-        if !is_viewed(alloc, words, status, output.as_str())? {
-            return Ok(Some(String::from_str(alloc, "viewed otherwise")?));
-        }
-        if !reads_again(alloc, words, output.as_str())? {
-            return Ok(Some(String::from_str(alloc, "read again as other octets")?));
-        }
-        Ok(None)
+        let difference = if !is_viewed(alloc, words, status, output.as_str())? {
+            "viewed otherwise"
+        } else if !reads_again(alloc, words, output.as_str())? {
+            "read again as other octets"
+        } else {
+            return Ok(None);
+        };
+        Ok(Some(String::from_str(alloc, difference)?))
     }
 }
 
@@ -71,26 +70,17 @@ impl Interpreter for CallsOf {
 
 // Whether the canonical octets of what was read, read again, are told as the same.
 fn reads_again(alloc: Global, words: &[String], output: &str) -> Result<bool> {
-    let Some(octets) = canonical_line(output) else {
+    let ([command, kind, ..], Some(octets)) = (words, canonical_line(output)) else {
         return Ok(true);
-    };
-    let [command, kind, ..] = words else {
-        bail!("a command or a type is missing");
     };
     if command.as_str() != "read" {
         return Ok(true);
     }
     let length = octets.trim_matches('-').len() / 2;
-    let mut words = Vec::new(alloc);
-    for word in ["read", kind.as_str(), "0"] {
-        words.push(String::from_str(alloc, word)?)?;
-    }
-    words.push(format!(in alloc; "{length}")?)?;
-    words.push(String::from_str(alloc, octets)?)?;
-    let mut out: Vec<u8> = Vec::new(alloc);
-    let status = run(alloc, words.as_slice(), &mut out, &mut io::sink());
-    let text = std::str::from_utf8(out.as_slice())?;
-    Ok(status == 0 && canonical_line(text) == Some(octets))
+    let line = format!(in alloc; "read\t{kind}\t0\t{length}\t{octets}")?;
+    let words = fields_of(alloc, line.as_str())?;
+    let (status, output) = run_of(alloc, words.as_slice())?;
+    Ok(status == 0 && canonical_line(output.as_str()) == Some(octets))
 }
 
 fn main(rt: HostRuntime) -> Result<()> {

@@ -13,10 +13,25 @@ macro_rules! marked {
     }};
 }
 
+// What a call between the two marks returns, as `Debug` prints it.
+macro_rules! shown {
+    ($marks:expr, $call:expr) => {{
+        $marks.begin()?;
+        $marks.shown($call)
+    }};
+}
+
+// A value that a call between the two marks returns, as `Debug` prints it.
+macro_rules! held {
+    ($marks:expr, $call:expr) => {{
+        $marks.begin()?;
+        $marks.held(Held($call))
+    }};
+}
+
 mod asking;
 mod changing;
 mod emitting;
-mod given;
 mod making;
 mod moving;
 mod numbers;
@@ -24,6 +39,7 @@ mod texts;
 
 use crate::shared;
 use anyhow::{Result, bail};
+use held_data::Held;
 use replay::fields_of;
 use std::alloc::Global;
 use std::fmt::Debug;
@@ -58,6 +74,12 @@ impl Marks<'_> {
         self.end()?;
         shared::shown(self.alloc(), answer)
     }
+
+    /// The same of a value.
+    pub fn held(&self, value: Held) -> Result<String> {
+        self.end()?;
+        shared::shown(self.alloc(), &value.0)
+    }
 }
 
 // What a call with its words returns.
@@ -86,9 +108,8 @@ fn answer_to_one(marks: &Marks<'_>, call: &str, text: &str) -> Result<String> {
         "set_subnet" => changing::set_subnet(marks, text),
         "A" | "AAAA" | "IpNet" | "ClientSubnet" => numbers::parsed(marks, call, text),
         "RecordType" | "SvcParamKey" | "ttl" | "flags" => numbers::parsed(marks, call, text),
-        "decode" | "encode" | "cert" | "option" | "nsid" | "subnet" => {
-            making::octets(marks, call, text)
-        }
+        "decode" | "encode" | "cert" => making::octets(marks, call, text),
+        "option" | "nsid" | "subnet" => making::octets(marks, call, text),
         _ => answer_to_text(marks, call, text),
     }
 }

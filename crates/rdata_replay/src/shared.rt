@@ -4,22 +4,51 @@ use crate::recorder::Recorder;
 use anyhow::{Context, Result};
 use dns_rdata::caa::KeyValue;
 use dns_rdata::{
-    BinDecoder, BinEncodable, BinEncoder, DecodeError, Name, ProtoError, RecordDataDecodable,
-    RecordType, Restrict,
+    BinDecoder, BinEncodable, BinEncoder, DecodeError, Name, ProtoError, ProtoResult,
+    RDataEncoding, RecordDataDecodable, RecordType, Restrict,
 };
-use std::alloc::Global;
+use rdata_command::run;
+use replay::octets;
+use std::alloc::{AllocError, Global};
 use std::fmt::Debug;
 use std::hash::{DefaultHasher, Hash, Hasher};
+use std::io;
 
 /// A result as `Debug` prints it.
 pub fn shown<T: Debug + Drop>(alloc: Global, answer: T) -> Result<String> {
     Ok(format!(in alloc; "{answer:?}")?)
 }
 
+/// The status of a run of the program with these words, and its output.
+pub fn run_of(alloc: Global, words: &[String]) -> Result<(u8, String)> {
+    let mut out: Vec<u8> = Vec::new(alloc);
+    let status = run(alloc, words, &mut out, &mut io::sink());
+    Ok((status, String::from_utf8(out)?))
+}
+
 /// The record whose data is all of the octets, of which at most 65535 count.
 pub fn record<T: RecordDataDecodable>(alloc: Global, octets: &[u8]) -> Result<T, DecodeError> {
     let length = octets.len().min(65535) as u16;
     T::read_data(&mut BinDecoder::new(alloc, octets), Restrict::new(length))
+}
+
+/// The record whose data these octets are, as the words of a line have them.
+pub fn record_of<T: RecordDataDecodable>(alloc: Global, digits: &str) -> Result<T> {
+    Ok(record::<T>(alloc, octets(alloc, digits)?.as_slice())?)
+}
+
+/// The mode of an encoder that a word says.
+pub fn mode_of(word: &str) -> RDataEncoding {
+    match word {
+        "standard" | "shared" => RDataEncoding::StandardRecord,
+        "canonical" => RDataEncoding::Canonical,
+        _ => RDataEncoding::Other,
+    }
+}
+
+/// Appends the name of a text to an encoder.
+pub fn put(encoder: &mut BinEncoder<'_>, text: &str) -> ProtoResult<()> {
+    Name::from_ascii(encoder.allocator(), text)?.emit(encoder)
 }
 
 /// The octets that a value appends to an encoder without any.
@@ -51,13 +80,50 @@ pub fn feed_the_same<T: Hash>(left: &T, right: &T) -> Result<bool> {
     Ok(octets == others)
 }
 
+/// What is before and after the first of these characters in a text.
+pub fn halves(text: &str, by: char) -> Result<(&str, &str)> {
+    text.split_once(by).context("a word is missing")
+}
+
+/// The parts of a text with a comma between each two, as octets. A dash is none.
+pub fn slices(alloc: Global, text: &str) -> Result<Vec<&[u8]>, AllocError> {
+    let mut all = Vec::new(alloc);
+    if text != "-" {
+        for part in text.split(',') {
+            all.push(part.as_bytes())?;
+        }
+    }
+    Ok(all)
+}
+
+/// The same parts as texts.
+pub fn strings(alloc: Global, text: &str) -> Result<Vec<String>, AllocError> {
+    let mut all = Vec::new(alloc);
+    if text != "-" {
+        for part in text.split(',') {
+            all.push(String::from_str(alloc, part)?)?;
+        }
+    }
+    Ok(all)
+}
+
+/// The types whose numbers are these parts.
+pub fn types(alloc: Global, text: &str) -> Result<Vec<RecordType>> {
+    let mut all = Vec::new(alloc);
+    for number in strings(alloc, text)? {
+        all.push(RecordType::from(number.as_str().parse::<u16>()?))?;
+    }
+    Ok(all)
+}
+
 // The pair of a text `KEY=VALUE`.
 fn pair(alloc: Global, text: &str) -> Result<KeyValue> {
-    let (key, value) = text.split_once('=').context("a value")?;
-    Ok(KeyValue::new(
+    let (key, value) = halves(text, '=')?;
+    let (key, value) = (
         String::from_str(alloc, key)?,
         String::from_str(alloc, value)?,
-    ))
+    );
+    Ok(KeyValue::new(key, value))
 }
 
 /// The name and the pairs of a text `NAME;PAIR;PAIR ..`, where a dash is no name.
@@ -66,22 +132,8 @@ pub fn issuer(alloc: Global, text: &str) -> Result<(Option<Name>, Vec<KeyValue>)
     for text in text.split(';').skip(1) {
         pairs.push(pair(alloc, text)?)?;
     }
-    let name = text.split(';').next().unwrap_or("-");
-    let name = if name == "-" {
-        None
-    } else {
-        Some(Name::from_ascii(alloc, name)?)
-    };
-    Ok((name, pairs))
-}
-
-/// The types of numbers with a comma between each two. A dash is none.
-pub fn types(alloc: Global, text: &str) -> Result<Vec<RecordType>> {
-    let mut all = Vec::new(alloc);
-    if text != "-" {
-        for number in text.split(',') {
-            all.push(RecordType::from(number.parse::<u16>()?))?;
-        }
-    }
-    Ok(all)
+    Ok(match text.split(';').next() {
+        None | Some("-") => (None, pairs),
+        Some(name) => (Some(Name::from_ascii(alloc, name)?), pairs),
+    })
 }

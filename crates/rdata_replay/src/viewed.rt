@@ -49,8 +49,7 @@ fn has_whole(alloc: Global, view: &RDataRef<'_>, held: &Held) -> Result<bool> {
         Err(ProtoError::Memory) => return Ok(false),
         Err(_) => return Ok(view.put_whole(&mut []) > 65535),
     };
-    let mut out = Vec::new(alloc);
-    out.resize(wanted.len(), 0u8)?;
+    let mut out = vec![in alloc; 0u8; wanted.len()]?;
     Ok(view.put_whole(out.as_mut_slice()) == wanted.len() && out.as_slice() == wanted.as_slice())
 }
 
@@ -69,28 +68,26 @@ fn has_types(view: &RDataRef<'_>, held: &Held) -> bool {
 // Whether the value of a view has these canonical octets, their key, and the view's types, name and uncompressed octets.
 fn has_value(alloc: Global, view: &RDataRef<'_>, wanted: &[u8]) -> Result<bool> {
     let held = Held::of_view(alloc, view)?;
-    let mut out = Vec::new(alloc);
-    out.resize(wanted.len().saturating_add(1), 0u8)?;
+    let mut out = vec![in alloc; 0u8; wanted.len().saturating_add(1)]?;
     let count = held.0.canonical_octets().copy_to(out.as_mut_slice());
     let same = &out.as_slice()[..count] == wanted && held.0.order_key() == first_eight(wanted);
     let same = same && has_types(view, &held);
     Ok(same && has_target(alloc, view, &held)? && has_whole(alloc, view, &held)?)
 }
 
+// Whether a view has these canonical octets and puts the first of them into a buffer of so many.
+fn puts(alloc: Global, view: &RDataRef<'_>, wanted: &[u8], room: usize) -> Result<bool> {
+    let mut out = vec![in alloc; 0u8; room.min(wanted.len())]?;
+    let count = view.put_canonical(out.as_mut_slice());
+    Ok(count == wanted.len() && out.as_slice() == &wanted[..out.len()])
+}
+
 // Whether a view has these canonical octets, in a buffer of their number and in one of an octet less, and their key.
 fn has_canonical(alloc: Global, view: &RDataRef<'_>, digits: &str) -> Result<bool> {
     let wanted = octets(alloc, digits.trim_matches('-'))?;
     let wanted = wanted.as_slice();
-    let mut out = Vec::new(alloc);
-    out.resize(wanted.len(), 0u8)?;
-    if view.put_canonical(out.as_mut_slice()) != wanted.len() || out.as_slice() != wanted {
-        return Ok(false);
-    }
-    let fewer = wanted.len().saturating_sub(1);
-    let mut out = Vec::new(alloc);
-    out.resize(fewer, 0u8)?;
-    let count = view.put_canonical(out.as_mut_slice());
-    let same = count == wanted.len() && out.as_slice() == &wanted[..fewer];
+    let same = puts(alloc, view, wanted, wanted.len())?;
+    let same = same && puts(alloc, view, wanted, wanted.len().saturating_sub(1))?;
     let same = same && view.order_key() == first_eight(wanted) && view.equals(view);
     Ok(same && has_value(alloc, view, wanted)?)
 }

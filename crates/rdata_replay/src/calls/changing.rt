@@ -1,21 +1,21 @@
 //! Messages that begin inside a vector or are read from an offset, and records that are changed part by part.
 
-use crate::shared::{emitted_digits, record};
+use crate::shared::{emitted_digits, halves, put, record_of, shown};
 use anyhow::{Result, bail};
 use dns_rdata::opt::{EdnsCode, EdnsOption, OPT};
 use dns_rdata::svcb::{Alpn, SvcParamKey, SvcParamValue, Unknown};
 use dns_rdata::{
-    A, BinDecodable, BinDecoder, BinEncodable, BinEncoder, MX, Name, Octets, ProtoResult, RData,
-    RDataEncoding, RecordData, SVCB,
+    A, BinDecodable, BinDecoder, BinEncoder, MX, Name, Octets, ProtoResult, RData, RDataEncoding,
+    RecordData, SVCB,
 };
 use held_data::Held;
 use replay::octets;
 use std::alloc::Global;
 
 // Appends names, with a comma between each two.
-fn emit_names(alloc: Global, encoder: &mut BinEncoder<'_>, names: &str) -> ProtoResult<()> {
+fn put_names(encoder: &mut BinEncoder<'_>, names: &str) -> ProtoResult<()> {
     for name in names.split(',') {
-        Name::from_ascii(alloc, name)?.emit(encoder)?;
+        put(encoder, name)?;
     }
     Ok(())
 }
@@ -24,7 +24,7 @@ fn emit_names(alloc: Global, encoder: &mut BinEncoder<'_>, names: &str) -> Proto
 pub fn after(alloc: Global, before: &str, names: &str) -> Result<String> {
     let mut vector = octets(alloc, before)?;
     let mut encoder = BinEncoder::new(alloc, &mut vector);
-    emit_names(alloc, &mut encoder, names)?;
+    put_names(&mut encoder, names)?;
     encoder.into_bytes();
     Ok(hex::encode(alloc, vector.as_slice())?)
 }
@@ -38,7 +38,7 @@ fn named_from(
 ) -> ProtoResult<usize> {
     let mut encoder = BinEncoder::with_offset(alloc, vector, offset)?;
     let _mode = encoder.with_rdata_behavior(RDataEncoding::StandardRecord);
-    emit_names(alloc, &mut encoder, names)?;
+    put_names(&mut encoder, names)?;
     let len = encoder.len();
     encoder.into_bytes();
     Ok(len)
@@ -47,16 +47,14 @@ fn named_from(
 /// The octets of a vector that has these, with names appended to the message that begins at `OFFSET` of it, and the
 /// message's length; or why there is no such message.
 pub fn from_offset(alloc: Global, start: &str, names: &str) -> Result<String> {
-    let Some((offset, before)) = start.split_once(' ') else {
-        bail!("no octets");
-    };
+    let (offset, before) = halves(start, ' ')?;
     let mut vector = octets(alloc, before)?;
     match named_from(alloc, &mut vector, offset.parse::<usize>()?, names) {
         Ok(len) => {
             let digits = hex::encode(alloc, vector.as_slice())?;
             Ok(format!(in alloc; "{digits} {len}")?)
         }
-        Err(error) => Ok(format!(in alloc; "{error:?}")?),
+        Err(error) => shown(alloc, error),
     }
 }
 
@@ -71,7 +69,7 @@ pub fn at(alloc: Global, offset: &str, message: &str) -> Result<String> {
             let past = decoder.clone(message.len() + 1).is_err();
             Ok(format!(in alloc; "{address:?} {} {next:?} {past}", decoder.index())?)
         }
-        Err(error) => Ok(format!(in alloc; "{error:?}")?),
+        Err(error) => shown(alloc, error),
     }
 }
 
@@ -97,7 +95,7 @@ pub fn service(alloc: Global) -> Result<String> {
 /// The octets of a record of options, in which the cookies are replaced by one of these octets; whether it then has a
 /// cookie and a subnet; and how many options.
 pub fn replaced(alloc: Global, digits: &str, cookie: &str) -> Result<String> {
-    let mut opt = record::<OPT>(alloc, octets(alloc, digits)?.as_slice())?;
+    let mut opt = record_of::<OPT>(alloc, digits)?;
     let cookie = octets(alloc, cookie)?;
     opt.replace(EdnsOption::try_from(alloc, (EdnsCode::Cookie, cookie.as_slice()))?)?;
     let (cookie, subnet) = (
@@ -126,6 +124,7 @@ pub fn moved(alloc: Global) -> Result<String> {
     }
 }
 
+// The host `mail.` of preference 10.
 fn mail(alloc: Global) -> ProtoResult<MX> {
     Ok(MX::new(10, Name::from_ascii(alloc, "mail.")?))
 }

@@ -8,6 +8,7 @@ use dns_rdata::{
 use held_data::Held;
 use std::alloc::Global;
 
+// Appends SRV, ANAME and CNAME.
 fn emit_in_mode(alloc: Global, encoder: &mut BinEncoder<'_>) -> ProtoResult<()> {
     SRV::new(1, 2, 3, Name::from_ascii(alloc, "B.")?).emit(encoder)?;
     ANAME(Name::from_ascii(alloc, "B.")?).emit(encoder)?;

@@ -1,13 +1,15 @@
 //! Values that are made of their fields.
 
-use super::{made_certs, made_services, made_sets, options};
-use anyhow::{Context, Result};
+use super::made_certs::{certificate_of_octets, of_octets};
+use super::{made_services, made_sets, options};
+use crate::shared::{halves, slices, strings};
+use anyhow::Result;
 use dns_rdata::{
-    A, BinDecodable, BinDecoder, CNAME, HINFO, MX, NULL, Name, OPENPGPKEY, RData, RecordData, SOA,
-    TXT,
+    A, BinDecodable, BinDecoder, CNAME, HINFO, MX, NULL, Name, RData, RecordData, SOA, TXT,
 };
 use held_data::{Held, record_type};
 use std::alloc::{AllocError, Global};
+use std::boxed::BoxedSlice;
 use std::net::{IpAddr, Ipv4Addr, Ipv6Addr};
 
 // An address, as A or as AAAA.
@@ -20,44 +22,18 @@ fn of_address(kind: &str, text: &str) -> Result<Held> {
     }))
 }
 
-// Two texts of a machine and its system.
-fn machine(alloc: Global, text: &str) -> Result<Held> {
-    let (cpu, os) = text.split_once(',').context("a system")?;
-    let (cpu, os) = (String::from_str(alloc, cpu)?, String::from_str(alloc, os)?);
-    Ok(Held(RData::HINFO(HINFO::new(cpu, os))))
+/// The octets of a text in a box.
+pub fn boxed(alloc: Global, text: &str) -> Result<BoxedSlice<u8>, AllocError> {
+    Ok(Vec::from_slice(alloc, text.as_bytes())?.into_boxed_slice())
 }
 
-fn machine_of_octets(alloc: Global, text: &str) -> Result<Held> {
-    let (cpu, os) = text.split_once(',').context("a system")?;
-    let cpu = Vec::from_slice(alloc, cpu.as_bytes())?.into_boxed_slice();
-    let os = Vec::from_slice(alloc, os.as_bytes())?.into_boxed_slice();
-    Ok(Held(RData::HINFO(HINFO::from_bytes(cpu, os))))
-}
-
-// A key.
-fn key(alloc: Global, text: &str) -> Result<Held, AllocError> {
-    let text = String::from_str(alloc, text)?;
-    Ok(Held(RData::OPENPGPKEY(OPENPGPKEY::new(text.into_bytes()))))
-}
-
-// Texts, with a comma between each two.
-fn texts(alloc: Global, text: &str) -> Result<Held, AllocError> {
-    let mut all = Vec::new(alloc);
-    for text in text.split(',') {
-        all.push(String::from_str(alloc, text)?)?;
-    }
-    Ok(Held(RData::TXT(TXT::new(all)?)))
-}
-
-// Strings, with a comma between each two. A dash is none.
-fn strings(alloc: Global, text: &str) -> Result<Held, AllocError> {
-    let mut all: Vec<&[u8]> = Vec::new(alloc);
-    if text != "-" {
-        for string in text.split(',') {
-            all.push(string.as_bytes())?;
-        }
-    }
-    Ok(Held(RData::TXT(TXT::from_bytes(all)?)))
+// A machine and its system, as texts or as octets.
+fn machine(alloc: Global, kind: &str, text: &str) -> Result<Held> {
+    let (cpu, os) = halves(text, ',')?;
+    Ok(Held(RData::HINFO(match kind {
+        "hinfo" => HINFO::new(String::from_str(alloc, cpu)?, String::from_str(alloc, os)?),
+        _ => HINFO::from_bytes(boxed(alloc, cpu)?, boxed(alloc, os)?),
+    })))
 }
 
 // Octets that have no form.
@@ -69,19 +45,19 @@ fn null(alloc: Global, text: &str) -> Result<Held> {
 
 // The host that takes mail, `NUMBER NAME`.
 fn mail(alloc: Global, text: &str) -> Result<Held> {
-    let (preference, host) = text.split_once(' ').context("a host")?;
+    let (preference, host) = halves(text, ' ')?;
     let preference = preference.parse::<u16>()?;
-    let host = Name::from_ascii(alloc, host)?;
-    Ok(Held(RData::MX(MX::new(preference, host))))
+    Ok(Held(RData::MX(MX::new(preference, Name::from_ascii(alloc, host)?))))
 }
 
 // The start of a zone of the greatest numbers, `NAME NAME`.
 fn zone(alloc: Global, text: &str) -> Result<Held> {
-    let (mname, rname) = text.split_once(' ').context("a mailbox")?;
-    let mname = Name::from_ascii(alloc, mname)?;
-    let rname = Name::from_ascii(alloc, rname)?;
-    let soa = SOA::new(mname, rname, u32::MAX, -1, -1, -1, u32::MAX);
-    Ok(Held(RData::SOA(soa)))
+    let (mname, rname) = halves(text, ' ')?;
+    let (mname, rname) = (
+        Name::from_ascii(alloc, mname)?,
+        Name::from_ascii(alloc, rname)?,
+    );
+    Ok(Held(RData::SOA(SOA::new(mname, rname, u32::MAX, -1, -1, -1, u32::MAX))))
 }
 
 // The start of a zone, read by its own type and to the end.
@@ -96,18 +72,18 @@ fn zone_of_octets(alloc: Global, text: &str) -> Result<Held> {
 /// The value of a kind and a text.
 pub fn value(alloc: Global, kind: &str, text: &str) -> Result<Held> {
     match kind {
-        "tlsa" | "smimea" | "sshfp" => made_certs::digest(alloc, kind, text),
-        "cert" => made_certs::certificate(alloc, text),
-        "cert-octets" => made_certs::certificate_of_octets(alloc, text),
+        "tlsa" | "smimea" | "sshfp" => Ok(Held(of_octets(kind, hex::decode(alloc, text)?))),
+        "cert" | "openpgpkey" => {
+            Ok(Held(of_octets(kind, Vec::from_slice(alloc, text.as_bytes())?)))
+        }
+        "cert-octets" => certificate_of_octets(alloc, text),
         "issue" | "issue-not-critical" | "issuewild" => made_sets::issue(alloc, kind, text),
         "csync" => made_sets::synchronized(alloc, text),
         "service" => made_services::service(alloc, text),
-        "hinfo" => machine(alloc, text),
-        "hinfo-octets" => machine_of_octets(alloc, text),
-        "txt" => Ok(texts(alloc, text)?),
-        "openpgpkey" => Ok(key(alloc, text)?),
+        "hinfo" | "hinfo-octets" => machine(alloc, kind, text),
+        "txt" => Ok(Held(RData::TXT(TXT::new(strings(alloc, text)?)?))),
+        "txt-octets" => Ok(Held(RData::TXT(TXT::from_bytes(slices(alloc, text)?)?))),
         "opt" => options::value(alloc, text),
-        "txt-octets" => Ok(strings(alloc, text)?),
         "null" => null(alloc, text),
         "mx" => mail(alloc, text),
         "cname" => Ok(Held(RData::CNAME(CNAME(Name::from_ascii(alloc, text)?)))),

@@ -1,33 +1,27 @@
-//! Certificates that are made of their fields, and their texts.
+//! Certificates and keys that are made of their fields, and their texts.
 
 use anyhow::Result;
 use dns_rdata::cert::{self, CERT, CertType};
 use dns_rdata::sshfp::{self, FingerprintType, SSHFP};
 use dns_rdata::tlsa::{CertUsage, Matching, Selector, TLSA};
-use dns_rdata::{HEX, RData, SMIMEA};
+use dns_rdata::{HEX, OPENPGPKEY, RData, RecordData, SMIMEA};
 use held_data::Held;
 use std::alloc::Global;
 
-/// Octets after three fields, or two of SSHFP.
-pub fn digest(alloc: Global, kind: &str, digits: &str) -> Result<Held> {
-    let data = hex::decode(alloc, digits)?;
-    Ok(Held(match kind {
-        "tlsa" => RData::TLSA(TLSA::new(CertUsage::DaneEe, Selector::Spki, Matching::Sha256, data)),
-        "smimea" => RData::SMIMEA(SMIMEA::new(
-            CertUsage::DaneEe,
-            Selector::Full,
-            Matching::Raw,
-            data,
-        )),
-        _ => RData::SSHFP(SSHFP::new(sshfp::Algorithm::RSA, FingerprintType::SHA256, data)),
-    }))
-}
-
-/// A certificate whose data is a text.
-pub fn certificate(alloc: Global, text: &str) -> Result<Held> {
-    let data = Vec::from_slice(alloc, text.as_bytes())?;
-    let made = CERT::new(CertType::PKIX, 12345, cert::Algorithm::RSASHA256, data);
-    Ok(Held(RData::CERT(made)))
+/// The record of a kind whose last field is these octets.
+pub fn of_octets(kind: &str, octets: Vec<u8>) -> RData {
+    let (usage, selector, matching) = (CertUsage::DaneEe, Selector::Spki, Matching::Sha256);
+    let (rsa, print) = (sshfp::Algorithm::RSA, FingerprintType::SHA256);
+    let signed = cert::Algorithm::RSASHA256;
+    match kind {
+        "tlsa" | "TLSA" => TLSA::new(usage, selector, matching, octets).into_rdata(),
+        "smimea" => SMIMEA::new(usage, Selector::Full, Matching::Raw, octets).into_rdata(),
+        "SMIMEA" => SMIMEA::new(usage, selector, matching, octets).into_rdata(),
+        "sshfp" | "SSHFP" => SSHFP::new(rsa, print, octets).into_rdata(),
+        "openpgpkey" | "OPENPGPKEY" => OPENPGPKEY::new(octets).into_rdata(),
+        "cert" => CERT::new(CertType::PKIX, 12345, signed, octets).into_rdata(),
+        _ => CERT::new(CertType::PKIX, 1, signed, octets).into_rdata(),
+    }
 }
 
 /// A certificate of its octets.

@@ -1,6 +1,7 @@
 //! Services that are made of keys and values.
 
-use anyhow::{Context, Result};
+use crate::shared::halves;
+use anyhow::Result;
 use dns_rdata::svcb::{DohPath, SvcParamKey, SvcParamValue, Unknown};
 use dns_rdata::{Name, Octets, RData, SVCB, SmallOctets};
 use held_data::Held;
@@ -29,7 +30,7 @@ fn held(alloc: Global, kind: &str, text: &str) -> Result<SvcParamValue> {
 
 // A parameter, `KEY=KIND:TEXT`.
 fn parameter(alloc: Global, word: &str) -> Result<(SvcParamKey, SvcParamValue)> {
-    let (name, value) = word.split_once('=').context("a value")?;
+    let (name, value) = halves(word, '=')?;
     let (kind, text) = parts(value)?;
     Ok((key(name)?, held(alloc, kind, text)?))
 }

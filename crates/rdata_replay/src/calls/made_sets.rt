@@ -1,12 +1,12 @@
 //! Issuers, synchronized types, and sets of types.
 
-use crate::shared::{emitted_digits, feed_the_same, issuer, record, types};
+use crate::shared::{emitted_digits, feed_the_same, issuer, record_of, types};
 use anyhow::Result;
 use dns_rdata::caa::{CAA, KeyValue, read_iodef, read_issuer};
-use dns_rdata::{BinDecoder, CSYNC, DecodeError, Name, ProtoError, RData, RecordTypeSet, Restrict};
+use dns_rdata::{BinDecoder, CSYNC, Name, ProtoError, RData, RecordTypeSet, Restrict};
 use held_data::Held;
 use replay::octets;
-use std::alloc::{AllocError, Global};
+use std::alloc::Global;
 
 /// An issuer, critical or not, or one of wildcards, not critical.
 pub fn issue(alloc: Global, kind: &str, text: &str) -> Result<Held> {
@@ -18,43 +18,43 @@ pub fn issue(alloc: Global, kind: &str, text: &str) -> Result<Held> {
     })))
 }
 
-// Shows a name, and pairs that are copies.
-fn show(name: &Option<Name>, pairs: &[KeyValue], shown: &mut String) -> Result<(), AllocError> {
-    match name {
-        Some(name) => write!(shown, "{name}")?,
-        None => shown.push('-')?,
-    }
+// A name, and pairs that are copies.
+fn issuer_text(alloc: Global, name: &Option<Name>, pairs: &[KeyValue]) -> Result<String> {
+    let mut shown = match name {
+        Some(name) => format!(in alloc; "{name}")?,
+        None => String::from_str(alloc, "-")?,
+    };
     for pair in pairs {
         let copy = pair.clone()?;
         let same = copy == *pair;
         write!(shown, ";{}={} {same}", copy.key(), copy.value())?;
     }
-    Ok(())
+    Ok(shown)
 }
 
 /// The name and the pairs that the value of an issuer has, or that it is rejected.
 pub fn issuer_of(alloc: Global, text: &str) -> Result<String> {
-    let mut shown = String::new(alloc);
     match read_issuer(alloc, text.as_bytes()) {
-        Ok((name, pairs)) => show(&name, pairs.as_slice(), &mut shown)?,
-        Err(ProtoError::Message(_)) => shown.push_str("refused")?,
-        Err(_) => shown.push_str("otherwise")?,
+        Ok((name, pairs)) => issuer_text(alloc, &name, pairs.as_slice()),
+        Err(ProtoError::Message(_)) => Ok(String::from_str(alloc, "refused")?),
+        Err(_) => Ok(String::from_str(alloc, "otherwise")?),
     }
-    Ok(shown)
+}
+
+// The name and the pairs that a record has as its issuer.
+fn issuer_within(alloc: Global, record: &CAA) -> Result<String> {
+    let (name, pairs) = record.value_as_issue()?;
+    issuer_text(alloc, &name, pairs.as_slice())
 }
 
 /// The name and the pairs that a record of these octets has as its issuer.
 pub fn issuer_in(alloc: Global, digits: &str) -> Result<String> {
-    let record = record::<CAA>(alloc, octets(alloc, digits)?.as_slice())?;
-    let (name, pairs) = record.value_as_issue()?;
-    let mut shown = String::new(alloc);
-    show(&name, pairs.as_slice(), &mut shown)?;
-    Ok(shown)
+    issuer_within(alloc, &record_of::<CAA>(alloc, digits)?)
 }
 
 /// The URL that a record of these octets has, or that it is rejected.
 pub fn url_in(alloc: Global, digits: &str) -> Result<String> {
-    let record = record::<CAA>(alloc, octets(alloc, digits)?.as_slice())?;
+    let record = record_of::<CAA>(alloc, digits)?;
     Ok(String::from_str(alloc, record.value_as_iodef().unwrap_or("refused"))?)
 }
 
@@ -66,21 +66,19 @@ pub fn url_of(alloc: Global, digits: &str) -> Result<String> {
 
 /// The issuer of a record that is set to another one, which stays where a URL is rejected; and the record's octets.
 pub fn set_issuer(alloc: Global, digits: &str, text: &str) -> Result<String> {
-    let mut value = record::<CAA>(alloc, octets(alloc, digits)?.as_slice())?;
+    let mut value = record_of::<CAA>(alloc, digits)?;
     let (name, pairs) = issuer(alloc, text)?;
     value.set_issuer_value(name.as_ref(), pairs.as_slice())?;
     let refused = value.set_iodef_value("x").is_err() && value.value_as_iodef().is_err();
-    let mut shown = emitted_digits(alloc, &value)?;
-    write!(shown, " {refused} ")?;
-    let (name, pairs) = value.value_as_issue()?;
-    show(&name, pairs.as_slice(), &mut shown)?;
-    Ok(shown)
+    let digits = emitted_digits(alloc, &value)?;
+    let issuer = issuer_within(alloc, &value)?;
+    Ok(format!(in alloc; "{digits} {refused} {issuer}")?)
 }
 
 /// The URL of a record that is set to another one, which stays where an issuer is rejected, and whether the record is one
 /// that is made of it.
 pub fn set_url(alloc: Global, digits: &str, url: &str) -> Result<String> {
-    let mut value = record::<CAA>(alloc, octets(alloc, digits)?.as_slice())?;
+    let mut value = record_of::<CAA>(alloc, digits)?;
     value.set_iodef_value(url)?;
     let refused = value.set_issuer_value(None, &[]).is_err() && value.value_as_issue().is_err();
     let made = CAA::new_iodef(false, String::from_str(alloc, url)?)? == value;
@@ -94,13 +92,16 @@ pub fn synchronized(alloc: Global, text: &str) -> Result<Held> {
     Ok(Held(RData::CSYNC(made)))
 }
 
+// The set of types.
 fn set_of(alloc: Global, text: &str) -> Result<RecordTypeSet> {
     Ok(RecordTypeSet::new(alloc, types(alloc, text)?.into_iter())?)
 }
 
-fn set_of_octets(alloc: Global, octets: &[u8]) -> Result<RecordTypeSet, DecodeError> {
-    let length = octets.len().min(65535) as u16;
-    RecordTypeSet::read_data(&mut BinDecoder::new(alloc, octets), Restrict::new(length))
+// The set that octets are read as.
+fn set_of_octets(alloc: Global, digits: &str) -> Result<RecordTypeSet> {
+    let octets = octets(alloc, digits)?;
+    let length = Restrict::new(octets.len().min(65535) as u16);
+    Ok(RecordTypeSet::read_data(&mut BinDecoder::new(alloc, octets.as_slice()), length)?)
 }
 
 /// The octets of the set of types, whether they are read as an equal one and a copy is equal, how many types there are,
@@ -108,8 +109,7 @@ fn set_of_octets(alloc: Global, octets: &[u8]) -> Result<RecordTypeSet, DecodeEr
 pub fn set(alloc: Global, text: &str) -> Result<String> {
     let set = set_of(alloc, text)?;
     let mut shown = emitted_digits(alloc, &set)?;
-    let octets = octets(alloc, shown.as_str())?;
-    let read = set_of_octets(alloc, octets.as_slice())?;
+    let read = set_of_octets(alloc, shown.as_str())?;
     let kept = read == set && set.clone()? == read;
     write!(shown, " {kept} {}", set.len())?;
     for kind in set.iter() {
@@ -120,8 +120,7 @@ pub fn set(alloc: Global, text: &str) -> Result<String> {
 
 /// The octets that a set is emitted as which is read from other ones.
 pub fn shortest(alloc: Global, digits: &str) -> Result<String> {
-    let set = set_of_octets(alloc, octets(alloc, digits)?.as_slice())?;
-    emitted_digits(alloc, &set)
+    emitted_digits(alloc, &set_of_octets(alloc, digits)?)
 }
 
 /// Whether two sets are equal, and whether they feed a hasher the same.

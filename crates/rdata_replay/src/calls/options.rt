@@ -1,7 +1,7 @@
 //! Options of OPT.
 
-use crate::shared::{emitted_digits, record, shown};
-use anyhow::{Context, Result};
+use crate::shared::{emitted_digits, halves, record_of, shown};
+use anyhow::Result;
 use dns_rdata::opt::{ClientSubnet, EdnsCode, EdnsOption, IpNet, NSIDPayload, OPT};
 use dns_rdata::{Octets, RData};
 use dns_rdata_options::order::opt_order;
@@ -13,7 +13,7 @@ use std::net::IpAddr;
 
 /// How many options a record has, how many of them are cookies, and whether it gives a cookie and padding.
 pub fn options(alloc: Global, digits: &str) -> Result<String> {
-    let opt = record::<OPT>(alloc, octets(alloc, digits)?.as_slice())?;
+    let opt = record_of::<OPT>(alloc, digits)?;
     let (count, cookies) = (opt.as_ref().len(), opt.get_all(EdnsCode::Cookie)?.len());
     let cookie = opt.get(EdnsCode::Cookie).is_some();
     let padding = opt.get(EdnsCode::Padding).is_some();
@@ -22,41 +22,33 @@ pub fn options(alloc: Global, digits: &str) -> Result<String> {
 
 /// The text of a record of these octets, in brackets.
 pub fn text(alloc: Global, digits: &str) -> Result<String> {
-    let opt = record::<OPT>(alloc, octets(alloc, digits)?.as_slice())?;
+    let opt = record_of::<OPT>(alloc, digits)?;
     Ok(format!(in alloc; "[{opt}]")?)
 }
 
 /// How the records of these octets are ordered, where that is told without a cursor.
 pub fn order(alloc: Global, left: &str, right: &str) -> Result<String> {
-    let left = record::<OPT>(alloc, octets(alloc, left)?.as_slice())?;
-    let right = record::<OPT>(alloc, octets(alloc, right)?.as_slice())?;
-    anyhow::ensure!(
-        opt_is_emittable(&left) && opt_is_emittable(&right),
-        "not emitted"
-    );
+    let left = record_of::<OPT>(alloc, left)?;
+    let right = record_of::<OPT>(alloc, right)?;
+    let emittable = opt_is_emittable(&left) && opt_is_emittable(&right);
+    anyhow::ensure!(emittable, "not emitted");
     shown(alloc, opt_order(&left, &right))
 }
 
 // An option `CODE=OCTETS` of a code by its number, or by `unknown` and it; or a subnet `subnet=ADDRESS NUMBER NUMBER`.
 fn option(alloc: Global, text: &str) -> Result<(EdnsCode, EdnsOption)> {
-    let (code, value) = text.split_once('=').context("a value")?;
+    let (code, value) = halves(text, '=')?;
     if code == "subnet" {
         return Ok((EdnsCode::Subnet, EdnsOption::Subnet(subnet_of(value)?)));
     }
     let octets = Octets::from_vec(octets(alloc, value)?);
-    match code.strip_prefix("unknown") {
-        Some(number) => {
-            let number = number.parse::<u16>()?;
-            Ok((
-                EdnsCode::Unknown(number),
-                EdnsOption::Unknown(number, octets),
-            ))
-        }
-        None => {
-            let number = code.parse::<u16>()?;
-            Ok((EdnsCode::from(number), EdnsOption::Unknown(number, octets)))
-        }
-    }
+    let unknown = code.strip_prefix("unknown");
+    let number = unknown.unwrap_or(code).parse::<u16>()?;
+    let code = match unknown {
+        Some(_) => EdnsCode::Unknown(number),
+        None => EdnsCode::from(number),
+    };
+    Ok((code, EdnsOption::Unknown(number, octets)))
 }
 
 /// The record of such options with a semicolon between each two.
@@ -70,7 +62,7 @@ pub fn value(alloc: Global, text: &str) -> Result<Held> {
 
 /// The options of a record of these octets, after which an option `CODE=OCTETS` was inserted.
 pub fn inserted(alloc: Global, digits: &str, text: &str) -> Result<String> {
-    let mut opt = record::<OPT>(alloc, octets(alloc, digits)?.as_slice())?;
+    let mut opt = record_of::<OPT>(alloc, digits)?;
     let (_, option) = option(alloc, text)?;
     opt.insert(option)?;
     Ok(format!(in alloc; "{:?}", opt.as_ref())?)
@@ -90,13 +82,10 @@ pub fn insert(alloc: Global) -> Result<String> {
 
 // The subnet of a text `ADDRESS NUMBER NUMBER`.
 fn subnet_of(text: &str) -> Result<ClientSubnet> {
-    let (address, numbers) = text.split_once(' ').context("numbers")?;
-    let (source, scope) = numbers.split_once(' ').context("a scope")?;
-    Ok(ClientSubnet::new(
-        address.parse::<IpAddr>()?,
-        source.parse::<u8>()?,
-        scope.parse::<u8>()?,
-    ))
+    let (address, numbers) = halves(text, ' ')?;
+    let (source, scope) = halves(numbers, ' ')?;
+    let (source, scope) = (source.parse::<u8>()?, scope.parse::<u8>()?);
+    Ok(ClientSubnet::new(address.parse::<IpAddr>()?, source, scope))
 }
 
 /// The octets of a subnet, and whether they are read as the other one; or that it has none.
@@ -143,7 +132,7 @@ pub fn nets(alloc: Global, text: &str) -> Result<String> {
 
 /// Whether the subnet of a net `ADDRESS NUMBER` is one that is made, with no scope.
 pub fn net(alloc: Global, text: &str) -> Result<String> {
-    let (address, length) = text.split_once(' ').context("a length")?;
+    let (address, length) = halves(text, ' ')?;
     let (address, length) = (address.parse::<IpAddr>()?, length.parse::<u8>()?);
     let net = IpNet::new(address, length);
     let made = ClientSubnet::new(address, length, 0);

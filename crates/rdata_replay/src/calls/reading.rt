@@ -1,7 +1,8 @@
 //! Octets and texts that are read or rejected.
 
+use crate::given::given_at;
 use crate::shared::{record, shown};
-use anyhow::{Context, Result, bail};
+use anyhow::{Result, bail};
 use dns_rdata::opt::{ClientSubnet, NSIDPayload};
 use dns_rdata::{
     BinDecodable, BinDecoder, CERT, CSYNC, DecodeError, NAPTR, OPT, RDataRef, RecordType, Restrict,
@@ -41,12 +42,8 @@ pub fn end(
 
 /// Why the data at an offset, `PLACE LENGTH OCTETS`, is rejected, or that it is not, and the offset where reading ends.
 pub fn refusal(alloc: Global, kind: &str, text: &str) -> Result<String> {
-    let (offset, rest) = text.split_once(' ').context("a length")?;
-    let (length, digits) = rest.split_once(' ').context("octets")?;
-    let message = octets(alloc, digits)?;
-    let mut decoder = BinDecoder::new(alloc, message.as_slice());
-    let _before = decoder.read_slice(offset.parse::<usize>()?)?;
-    let (error, index) = end(&mut decoder, record_type(kind)?, length.parse::<u16>()?);
+    let given = given_at(alloc, kind, text)?;
+    let (error, index) = end(&mut given.decoder(alloc)?, given.record_type, given.length);
     Ok(format!(in alloc; "{error:?} {index}")?)
 }
 
@@ -115,34 +112,21 @@ pub fn is_text(alloc: Global, kind: &str, digits: &str) -> Result<String> {
 
 /// Whether 200,000 times an octet is the text of a value.
 pub fn is_long_text(alloc: Global, kind: &str, digits: &str) -> Result<String> {
-    let octet = u8::from_str_radix(digits, 16)?;
-    let mut octets = Vec::with_capacity(alloc, 200000)?;
-    octets.resize(200000, octet)?;
-    let text = std::str::from_utf8(octets.as_slice())?;
-    shown(alloc, Held::parse(alloc, record_type(kind)?, text).is_ok())
+    is_text(alloc, kind, format!(in alloc; "200000*{digits}")?.as_str())
 }
 
 /// Whether words are those of a value.
 pub fn are_words(alloc: Global, kind: &str, words: &str) -> Result<String> {
-    shown(
-        alloc,
-        Held::of_words(alloc, record_type(kind)?, words).is_ok(),
-    )
+    let value = Held::of_words(alloc, record_type(kind)?, words);
+    shown(alloc, value.is_ok())
 }
 
-/// Why words are rejected, as the error and as its text, or `read`.
-pub fn unread(alloc: Global, kind: &str, words: &str) -> Result<String> {
+/// Why words are rejected, as the error and as its text, or for `field` the name of the field that it is about; or `read`.
+pub fn unread(alloc: Global, command: &str, kind: &str, words: &str) -> Result<String> {
     match Held::of_words(alloc, record_type(kind)?, words) {
         Ok(_) => Ok(String::from_str(alloc, "read")?),
+        Err(error) if command == "field" => shown(alloc, error.field()),
         Err(error) => Ok(format!(in alloc; "{error:?} {error}")?),
-    }
-}
-
-/// The name of the field that the error about these words names, or `read`.
-pub fn field(alloc: Global, kind: &str, words: &str) -> Result<String> {
-    match Held::of_words(alloc, record_type(kind)?, words) {
-        Ok(_) => Ok(String::from_str(alloc, "read")?),
-        Err(error) => shown(alloc, error.field()),
     }
 }
 

@@ -1,7 +1,7 @@
 //! Service bindings, and the values of their parameters.
 
 use crate::shared;
-use crate::shared::{emitted, emitted_digits, record};
+use crate::shared::{emitted, emitted_digits, record, strings};
 use anyhow::{Result, bail};
 use dns_rdata::svcb::{
     Alpn, DohPath, EchConfigList, IpHint, Mandatory, SvcParamKey, SvcParamValue, Unknown,
@@ -11,7 +11,7 @@ use dns_rdata::{
     TokenList,
 };
 use replay::octets;
-use std::alloc::{AllocError, Global};
+use std::alloc::Global;
 use std::fmt;
 
 /// How many parameters a record has of so many without octets, from key 7 on.
@@ -22,10 +22,8 @@ pub fn keys(alloc: Global, count: &str) -> Result<String> {
         octets.extend_from_slice(&number.wrapping_add(7).to_be_bytes())?;
         octets.extend_from_slice(b"\x00\x00")?;
     }
-    shared::shown(
-        alloc,
-        record::<SVCB>(alloc, octets.as_slice())?.svc_params.len(),
-    )
+    let service = record::<SVCB>(alloc, octets.as_slice())?;
+    shared::shown(alloc, service.svc_params.len())
 }
 
 // The text of a value, whether it is emitted as these octets, and whether a copy is equal.
@@ -69,20 +67,9 @@ pub fn key_order(alloc: Global, left: &str, right: &str) -> Result<String> {
     Ok(format!(in alloc; "{:?} {}", left.cmp(&right), left == right)?)
 }
 
-// The protocols of names with a comma between each two. A dash is none.
-fn protocols_of(alloc: Global, text: &str) -> Result<Alpn, AllocError> {
-    let mut texts = Vec::new(alloc);
-    if text != "-" {
-        for name in text.split(',') {
-            texts.push(String::from_str(alloc, name)?)?;
-        }
-    }
-    Alpn::new(texts)
-}
-
 /// The octets of protocols, or that they are rejected.
 pub fn protocols(alloc: Global, text: &str) -> Result<String> {
-    let alpn = protocols_of(alloc, text)?;
+    let alpn = Alpn::new(strings(alloc, text)?)?;
     Ok(emitted_digits(alloc, &alpn).or(String::from_str(alloc, "refused"))?)
 }
 

@@ -8,7 +8,6 @@ use dns_rdata::{Name, ProtoError, RData, RecordData, RecordType};
 use held_data::{Held, record_type};
 use replay::{octets, parts};
 use std::alloc::{AllocError, Global};
-use std::cmp::Ordering;
 use std::fmt;
 use std::fmt::Display;
 
@@ -24,15 +23,14 @@ fn said(alloc: Global, kind: &str, text: &str) -> Result<Held> {
     let (record, text) = parts(text)?;
     let record = record_type(record)?;
     match kind {
-        "within" => return within(alloc, record, text),
-        "parse" => return Ok(Held::parse(alloc, record, text)?),
-        "words" => return Ok(Held::of_words(alloc, record, text)?),
-        _ => (),
-    }
-    let octets = octets(alloc, text)?;
-    match kind {
-        "read" => Ok(Held::whole(alloc, octets.as_slice(), record)?),
-        _ => Ok(Held::parse(alloc, record, std::str::from_utf8(octets.as_slice())?)?),
+        "within" => within(alloc, record, text),
+        "parse" => Ok(Held::parse(alloc, record, text)?),
+        "words" => Ok(Held::of_words(alloc, record, text)?),
+        "read" => Ok(Held::whole(alloc, octets(alloc, text)?.as_slice(), record)?),
+        _ => {
+            let octets = octets(alloc, text)?;
+            Ok(Held::parse(alloc, record, std::str::from_utf8(octets.as_slice())?)?)
+        }
     }
 }
 
@@ -55,46 +53,37 @@ fn is_kept(alloc: Global, value: &Held, octets: &[u8]) -> Result<bool, AllocErro
     }
 }
 
-/// The octets that a value is emitted as, and whether they are read as an equal value, and a copy is equal.
-pub fn emitted(alloc: Global, word: &str) -> Result<String> {
-    let value = value(alloc, word)?;
+// The octets that a value is emitted as, and whether they are read as an equal value, and a copy is equal.
+fn emitted(alloc: Global, value: &Held) -> Result<String> {
     let octets = shared::emitted(alloc, &value.0)?;
-    let kept = is_kept(alloc, &value, octets.as_slice())?;
+    let kept = is_kept(alloc, value, octets.as_slice())?;
     let digits = hex::encode(alloc, octets.as_slice())?;
     Ok(format!(in alloc; "{digits} {kept}")?)
 }
 
-/// The text that is printed for a value, or `none`.
-pub fn printed(alloc: Global, word: &str) -> Result<String> {
-    let text = value(alloc, word)?.0.to_string(alloc);
-    Ok(text.or(String::from_str(alloc, "none"))?)
-}
-
-/// The name that a value points to, or `none`.
-pub fn target(alloc: Global, word: &str) -> Result<String> {
-    let value = value(alloc, word)?;
-    match value.0.target() {
-        Some(name) => Ok(format!(in alloc; "{name}")?),
-        None => Ok(String::from_str(alloc, "none")?),
-    }
-}
-
-/// Which error a value is not emitted for, or `emitted`.
-pub fn unemitted(alloc: Global, word: &str) -> Result<String> {
-    let value = value(alloc, word)?;
-    let case = match shared::emitted(alloc, &value.0) {
+// Which error a value is not emitted for, or `emitted`.
+fn emission(alloc: Global, value: &RData) -> &'static str {
+    match shared::emitted(alloc, value) {
         Ok(_) => "emitted",
         Err(ProtoError::Message(_)) => "Message",
         Err(ProtoError::MaxBufferSizeExceeded) => "MaxBufferSizeExceeded",
         Err(ProtoError::Decode(_)) => "Decode",
         Err(ProtoError::Memory) => "Memory",
-    };
-    Ok(String::from_str(alloc, case)?)
+    }
 }
 
-/// A value as `Debug` prints it.
-pub fn debugged(alloc: Global, word: &str) -> Result<String> {
-    Ok(format!(in alloc; "{:?}", value(alloc, word)?.0)?)
+// The name that a value points to, or `none`.
+fn target(alloc: Global, value: &RData) -> Result<String, AllocError> {
+    match value.target() {
+        Some(name) => format!(in alloc; "{name}"),
+        None => String::from_str(alloc, "none"),
+    }
+}
+
+// A value's type, its address, and whether it is none of an update.
+fn told(alloc: Global, value: &RData) -> Result<String, AllocError> {
+    let (kind, address) = (value.record_type(), value.ip_addr());
+    format!(in alloc; "{kind} {address:?} {}", value.is_update())
 }
 
 // What a value's `Display` returns, written after what it printed.
@@ -110,63 +99,19 @@ impl fmt::Display for DisplayOutcome<'_> {
     }
 }
 
-/// What a value's `Display` prints, and what it returns.
-pub fn displayed(alloc: Global, word: &str) -> Result<String> {
-    let value = value(alloc, word)?;
-    Ok(format!(in alloc; "{}", DisplayOutcome(&value.0))?)
-}
-
-/// A value's type, its address, and whether it is none of an update.
-pub fn told(alloc: Global, word: &str) -> Result<String> {
-    let value = value(alloc, word)?;
-    let (kind, address) = (value.0.record_type(), value.0.ip_addr());
-    Ok(format!(in alloc; "{kind} {address:?} {}", value.0.is_update())?)
-}
-
-/// The order of two values, whether they are equal, and whether they feed a hasher the same.
-pub fn compare(alloc: Global, left: &str, right: &str) -> Result<String> {
-    let left = value(alloc, left)?;
-    let right = value(alloc, right)?;
-    let (order, equal) = (left.0.cmp(&right.0), left.0 == right.0);
-    let fed_same = feed_the_same(&left.0, &right.0)?;
-    Ok(format!(in alloc; "{order:?} {equal} {fed_same}")?)
-}
-
-// The order of two values by their cursors, and the two octets that each cursor then gives.
-fn compared(a: &RData, b: &RData) -> (Ordering, [Option<u8>; 2], [Option<u8>; 2]) {
-    let mut left = a.canonical_octets();
-    let mut right = b.canonical_octets();
-    let order = left.compare(&mut right);
-    (
-        order,
-        [left.next(), left.next()],
-        [right.next(), right.next()],
-    )
-}
-
-/// The order of two values by their cursors, and the two octets that each cursor then gives.
-pub fn cursors(alloc: Global, left: &str, right: &str) -> Result<String> {
-    let left = value(alloc, left)?;
-    let right = value(alloc, right)?;
-    let (order, ahead, behind) = compared(&left.0, &right.0);
-    Ok(format!(in alloc; "{order:?} {ahead:?} {behind:?}")?)
-}
-
 // What a cursor gives, which comes octet by octet too, and then nothing, again and again.
 fn given(alloc: Global, value: &RData) -> Result<Option<Vec<u8>>, AllocError> {
     let mut octets = Vec::new(alloc);
     let mut cursor = value.canonical_octets();
-    let mut index = 0u128;
-    for _ in 0..1000000 {
+    for index in 0..1000000u64 {
         let octet = cursor.next();
-        if octet != value.octet_at(index) {
+        if octet != value.octet_at(u128::from(index)) {
             return Ok(None);
         }
         let Some(octet) = octet else {
             break;
         };
         octets.push(octet)?;
-        index = index.saturating_add(1);
     }
     if cursor.next().is_some() {
         return Ok(None);
@@ -174,19 +119,58 @@ fn given(alloc: Global, value: &RData) -> Result<Option<Vec<u8>>, AllocError> {
     Ok(Some(octets))
 }
 
-/// The canonical octets of a value.
-pub fn canonical(alloc: Global, word: &str) -> Result<String> {
-    let value = value(alloc, word)?;
-    match given(alloc, &value.0)? {
+// The canonical octets of a value.
+fn canonical(alloc: Global, value: &RData) -> Result<String> {
+    match given(alloc, value)? {
         Some(octets) => Ok(hex::encode(alloc, octets.as_slice())?),
         None => Ok(String::from_str(alloc, "otherwise")?),
     }
 }
 
+/// What a command tells of the value of a word. Where it has no function above: as `Debug` prints it; what its `Display`
+/// prints, and what that returns; the text that is printed for it, or `none`.
+pub fn of_one(alloc: Global, command: &str, word: &str) -> Result<String> {
+    let held = value(alloc, word)?;
+    let value = &held.0;
+    match command {
+        "emitted" => emitted(alloc, &held),
+        "unemitted" => Ok(String::from_str(alloc, emission(alloc, value))?),
+        "target" => Ok(target(alloc, value)?),
+        "told" => Ok(told(alloc, value)?),
+        "canonical" => canonical(alloc, value),
+        "debugged" => shared::shown(alloc, value),
+        "displayed" => Ok(format!(in alloc; "{}", DisplayOutcome(value))?),
+        _ => Ok(value.to_string(alloc).or(String::from_str(alloc, "none"))?),
+    }
+}
+
+// The order of two values, whether they are equal, and whether they feed a hasher the same.
+fn compared(alloc: Global, left: &RData, right: &RData) -> Result<String> {
+    let (order, equal) = (left.cmp(right), left == right);
+    let fed_same = feed_the_same(left, right)?;
+    Ok(format!(in alloc; "{order:?} {equal} {fed_same}")?)
+}
+
+// The order of two values by their cursors, and the two octets that each cursor then gives.
+fn by_cursors(alloc: Global, left: &RData, right: &RData) -> Result<String> {
+    let (mut left, mut right) = (left.canonical_octets(), right.canonical_octets());
+    let order = left.compare(&mut right);
+    let (ahead, behind) = ([left.next(), left.next()], [right.next(), right.next()]);
+    Ok(format!(in alloc; "{order:?} {ahead:?} {behind:?}")?)
+}
+
+/// What `compare` or `cursors` tells of the values of two words.
+pub fn of_two(alloc: Global, command: &str, left: &str, right: &str) -> Result<String> {
+    let left = value(alloc, left)?;
+    let right = value(alloc, right)?;
+    match command {
+        "compare" => compared(alloc, &left.0, &right.0),
+        _ => by_cursors(alloc, &left.0, &right.0),
+    }
+}
+
 /// The canonical octet at an index.
 pub fn octet(alloc: Global, word: &str, index: &str) -> Result<String> {
-    shared::shown(
-        alloc,
-        value(alloc, word)?.0.octet_at(index.parse::<u128>()?),
-    )
+    let index = index.parse::<u128>()?;
+    shared::shown(alloc, value(alloc, word)?.0.octet_at(index))
 }

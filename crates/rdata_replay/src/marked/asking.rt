@@ -1,7 +1,7 @@
 //! What values are asked for: how they compare, what they are, their canonical octets and their text.
 
+use crate::given::value;
 use crate::marked::Marks;
-use crate::marked::given::value;
 use crate::shared::hashed;
 use anyhow::Result;
 use dns_rdata::opt::EdnsCode;
@@ -106,7 +106,7 @@ pub fn ask(marks: &Marks<'_>, call: &str, left: &str, right: &str) -> Result<Str
     ask_both(marks, call, &left.0, &right.0)
 }
 
-// Appends the canonical octets.
+// Appends the canonical octets that a cursor gives.
 fn append_all(value: &RData, octets: &mut Vec<u8>) -> Result<(), AllocError> {
     for octet in value.canonical_octets() {
         octets.push(octet)?;
@@ -129,13 +129,10 @@ fn append_first(value: &RData, octets: &mut Vec<u8>) -> Result<(), AllocError> {
 pub fn octets(marks: &Marks<'_>, call: &str, text: &str) -> Result<String> {
     let value = value(marks.alloc(), text)?;
     let mut octets = Vec::with_capacity(marks.alloc(), 131072)?;
-    let result = marked!(
-        marks,
-        match call {
-            "octet_at" => append_first(&value.0, &mut octets),
-            _ => append_all(&value.0, &mut octets),
-        }
-    );
+    let result = match call {
+        "octet_at" => marked!(marks, append_first(&value.0, &mut octets)),
+        _ => marked!(marks, append_all(&value.0, &mut octets)),
+    };
     let digits = hex::encode(marks.alloc(), octets.as_slice())?;
     Ok(format!(in marks.alloc(); "{result:?} {digits}")?)
 }

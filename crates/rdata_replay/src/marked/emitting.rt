@@ -1,17 +1,10 @@
 //! Values that are emitted.
 
+use crate::given::value;
 use crate::marked::Marks;
-use crate::marked::given::value;
+use crate::shared::mode_of;
 use anyhow::{Result, bail};
 use dns_rdata::{BinEncodable, BinEncoder, ProtoResult, RData, RDataEncoding};
-
-fn mode_of(word: &str) -> RDataEncoding {
-    match word {
-        "standard" => RDataEncoding::StandardRecord,
-        "canonical" => RDataEncoding::Canonical,
-        _ => RDataEncoding::Other,
-    }
-}
 
 // The octets of a head, and the value, whose names are then remembered; or nothing.
 fn write_before(encoder: &mut BinEncoder<'_>, before: &str, value: &RData) -> ProtoResult<()> {

@@ -1,7 +1,7 @@
 //! Values, texts and octets that calls make.
 
+use crate::given::{read_given, value as value_of};
 use crate::marked::Marks;
-use crate::marked::given::{read_given, value as value_of};
 use crate::shared;
 use anyhow::Result;
 use dns_rdata::caa::CAA;
@@ -25,12 +25,9 @@ fn show<E: Debug>(alloc: Global, made: &Result<Held, E>) -> Result<String> {
 pub fn read(marks: &Marks<'_>, text: &str) -> Result<String> {
     let alloc = marks.alloc();
     let given = read_given(alloc, text)?;
-    let mut decoder = BinDecoder::new(alloc, given.message.as_slice());
-    let _before = decoder.read_slice(given.offset)?;
-    let made = marked!(
-        marks,
-        Held::read(&mut decoder, given.record_type, given.length)
-    );
+    let mut decoder = given.decoder(alloc)?;
+    let (kind, length) = (given.record_type, given.length);
+    let made = marked!(marks, Held::read(&mut decoder, kind, length));
     let shown = show(alloc, &made)?;
     let rest = hex::encode(alloc, decoder.unread().unverified())?;
     Ok(format!(in alloc; "{} {rest} {shown}", decoder.index())?)
@@ -58,13 +55,10 @@ fn look(
 pub fn view(marks: &Marks<'_>, text: &str) -> Result<String> {
     let alloc = marks.alloc();
     let given = read_given(alloc, text)?;
-    let mut decoder = BinDecoder::new(alloc, given.message.as_slice());
-    let _before = decoder.read_slice(given.offset)?;
+    let mut decoder = given.decoder(alloc)?;
     let mut out = [0u8; 512];
-    let (error, count) = marked!(
-        marks,
-        look(&mut decoder, given.record_type, given.length, &mut out)
-    );
+    let (kind, length) = (given.record_type, given.length);
+    let (error, count) = marked!(marks, look(&mut decoder, kind, length, &mut out));
     Ok(format!(in alloc; "{error:?} {} {count}", decoder.index())?)
 }
 
@@ -79,16 +73,14 @@ pub fn copy(marks: &Marks<'_>, text: &str) -> Result<String> {
 /// The value of words or of a text.
 pub fn value(marks: &Marks<'_>, call: &str, kind: &str, text: &str) -> Result<String> {
     let kind = record_type(kind)?;
-    let made = marked!(
-        marks,
-        match call {
-            "from_tokens" => Held::of_words(marks.alloc(), kind, text),
-            _ => Held::parse(marks.alloc(), kind, text),
-        }
-    );
+    let made = match call {
+        "from_tokens" => marked!(marks, Held::of_words(marks.alloc(), kind, text)),
+        _ => marked!(marks, Held::parse(marks.alloc(), kind, text)),
+    };
     show(marks.alloc(), &made)
 }
 
+// The text of a value, or the base64 of a certificate.
 fn made_text(alloc: Global, value: &RData, call: &str) -> Result<String, ParseError> {
     match value {
         RData::CERT(cert) if call == "cert_base64" => Ok(cert.cert_base64()?),
@@ -118,30 +110,29 @@ fn made_octets(alloc: Global, call: &str, octets: &[u8]) -> Result<Vec<u8>, Pars
 /// The octets that are made of octets.
 pub fn octets(marks: &Marks<'_>, call: &str, digits: &str) -> Result<String> {
     let octets = hex::decode(marks.alloc(), digits)?;
-    marks.begin()?;
-    marks.shown(made_octets(marks.alloc(), call, octets.as_slice()))
+    shown!(marks, made_octets(marks.alloc(), call, octets.as_slice()))
 }
 
 /// An issuer of a name and pairs.
 pub fn issuer(marks: &Marks<'_>, call: &str, text: &str) -> Result<String> {
     let (name, pairs) = shared::issuer(marks.alloc(), text)?;
-    marks.begin()?;
     match call {
-        "new_issue" => marks.shown(CAA::new_issue(true, name, pairs)),
-        _ => marks.shown(CAA::new_issuewild(true, name, pairs)),
+        "new_issue" => shown!(marks, CAA::new_issue(true, name, pairs)),
+        _ => shown!(marks, CAA::new_issuewild(true, name, pairs)),
     }
 }
 
 /// Where incidents are reported.
 pub fn location(marks: &Marks<'_>, text: &str) -> Result<String> {
     let url = String::from_str(marks.alloc(), text)?;
-    marks.begin()?;
-    marks.shown(CAA::new_iodef(true, url))
+    shown!(marks, CAA::new_iodef(true, url))
 }
 
 /// Types that are synchronized, with a comma between each two.
 pub fn types(marks: &Marks<'_>, text: &str) -> Result<String> {
     let types = shared::types(marks.alloc(), text)?;
-    marks.begin()?;
-    marks.shown(CSYNC::new(marks.alloc(), 123, true, true, types.into_iter()))
+    shown!(
+        marks,
+        CSYNC::new(marks.alloc(), 123, true, true, types.into_iter())
+    )
 }

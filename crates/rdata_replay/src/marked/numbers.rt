@@ -32,10 +32,8 @@ fn octets_of(number: u8) -> [u8; 6] {
 /// The numbers that a number gives, as each enum that has it, and those of its lower octet.
 pub fn numbers(marks: &Marks<'_>, text: &str) -> Result<String> {
     let number = text.parse::<u16>()?;
-    let (all, octets) = marked!(
-        marks,
-        (numbers_of(number), octets_of(number.to_be_bytes()[1]))
-    );
+    let [_, low] = number.to_be_bytes();
+    let (all, octets) = marked!(marks, (numbers_of(number), octets_of(low)));
     Ok(format!(in marks.alloc(); "{all:?} {octets:?}")?)
 }
 

@@ -1,26 +1,23 @@
 //! Names, issuers and lists of texts.
 
 use crate::marked::Marks;
-use crate::marked::given::record;
-use crate::shared::issuer;
+use crate::shared::{issuer, record_of, slices, strings};
 use anyhow::{Context, Result};
 use dns_rdata::caa::{CAA, KeyValue, read_issuer};
 use dns_rdata::opt::{ClientSubnet, EdnsOption};
 use dns_rdata::svcb::Alpn;
 use dns_rdata::{Name, Octets, TXT};
-use std::alloc::{AllocError, Global};
+use std::alloc::AllocError;
 
 /// What the value of an issuer is read as.
 pub fn read_value(marks: &Marks<'_>, text: &str) -> Result<String> {
-    marks.begin()?;
-    marks.shown(read_issuer(marks.alloc(), text.as_bytes()))
+    shown!(marks, read_issuer(marks.alloc(), text.as_bytes()))
 }
 
 /// The issuer of a record.
 pub fn issuer_of(marks: &Marks<'_>, digits: &str) -> Result<String> {
-    let caa = record::<CAA>(marks.alloc(), digits)?;
-    marks.begin()?;
-    marks.shown(caa.value_as_issue())
+    let caa = record_of::<CAA>(marks.alloc(), digits)?;
+    shown!(marks, caa.value_as_issue())
 }
 
 /// A copy of the first pair of an issuer.
@@ -30,15 +27,6 @@ pub fn copy_pair(marks: &Marks<'_>, text: &str) -> Result<String> {
     marks.begin()?;
     let copy: Result<KeyValue, AllocError> = pair.clone();
     marks.shown(copy)
-}
-
-// Strings of a text, with a comma between each two.
-fn strings(alloc: Global, text: &str) -> Result<Vec<String>, AllocError> {
-    let mut all = Vec::new(alloc);
-    for part in text.split(',') {
-        all.push(String::from_str(alloc, part)?)?;
-    }
-    Ok(all)
 }
 
 /// The strings of TXT, or the names of protocols, that texts give.
@@ -53,12 +41,8 @@ pub fn list(marks: &Marks<'_>, call: &str, text: &str) -> Result<String> {
 
 /// The strings of TXT that octets give.
 pub fn octets(marks: &Marks<'_>, text: &str) -> Result<String> {
-    let mut all: Vec<&[u8]> = Vec::new(marks.alloc());
-    for part in text.split(',') {
-        all.push(part.as_bytes())?;
-    }
-    marks.begin()?;
-    marks.shown(TXT::from_bytes(all))
+    let all = slices(marks.alloc(), text)?;
+    shown!(marks, TXT::from_bytes(all))
 }
 
 /// The name of a text.
@@ -90,12 +74,8 @@ pub fn subnet(marks: &Marks<'_>, text: &str) -> Result<String> {
     let subnet = text.parse::<ClientSubnet>()?;
     let option = EdnsOption::Subnet(subnet);
     marks.begin()?;
-    marks.shown((
-        subnet.len(),
-        subnet.is_empty(),
-        option.len(),
-        option.is_empty(),
-    ))
+    let (len, is_empty) = (option.len(), option.is_empty());
+    marks.shown((subnet.len(), subnet.is_empty(), len, is_empty))
 }
 
 /// How many octets an option of these has, and whether it has none.
@@ -103,6 +83,5 @@ pub fn option(marks: &Marks<'_>, digits: &str) -> Result<String> {
     let octets = hex::decode(marks.alloc(), digits)?;
     anyhow::ensure!(octets.len() <= 65535, "too many octets");
     let option = EdnsOption::Unknown(10, Octets::from_vec(octets));
-    marks.begin()?;
-    marks.shown((option.len(), option.is_empty()))
+    shown!(marks, (option.len(), option.is_empty()))
 }

@@ -4,7 +4,7 @@ ghost use Rattle.std.specs.Prelude.{◌∷◌, []};
 ghost use Rattle.dns_fields.specs.declared.Kind.{TheVariants.Number, TheVariants.Name as NameKind};
 ghost use Rattle.dns_names_wire.specs.Terms.{ReadsIf, Emits, Always};
 
-use anyhow::Context;
+use crate::shared::halves;
 use dns_names_wire::binary::{BinDecodable, BinEncodable};
 use dns_names_wire::{BinDecoder, BinEncoder, DecodeError, Name, ProtoError};
 use std::alloc::{AllocError, Global};
@@ -20,6 +20,7 @@ pub struct Exchange {
 
 impl Exchange {
     /// Reads the number and the name.
+    #[tactic(auto, using(dns_names_wire::proofs::FieldReads::reading))]
     pub fn read(decoder: &mut BinDecoder<'_>) -> Result<Exchange, DecodeError>
         ensures { ReadsIf (Number 2 ∷ NameKind ∷ []) (Always (Number 2 ∷ NameKind ∷ [])) (λ x. (x.preference, (x.host, tt))) result decoder.old decoder.new }
     {
@@ -45,7 +46,7 @@ impl Exchange {
 
     /// The record of such a text.
     pub fn of_text(alloc: Global, text: &str) -> anyhow::Result<Exchange> {
-        let (preference, host) = text.split_once(' ').context("a host")?;
+        let (preference, host) = halves(text, ' ')?;
         let preference = preference.parse::<u16>()?;
         let host = Name::from_ascii(alloc, host)?;
         Ok(Exchange { preference, host })

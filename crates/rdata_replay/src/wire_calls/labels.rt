@@ -1,5 +1,6 @@
 //! Names as octets.
 
+use crate::shared::{mode_of, shown};
 use anyhow::{Result, bail, ensure};
 use dns_fields::RDataEncoding;
 use dns_labels::reading::read_octets;
@@ -17,7 +18,7 @@ pub fn text(alloc: Global, text: &str) -> Result<String> {
             let printed = NameText::new(octets.as_slice(), is_fqdn);
             Ok(format!(in alloc; "{digits} {is_fqdn} [{printed}]")?)
         }
-        Err(error) => Ok(format!(in alloc; "{error:?}")?),
+        Err(error) => shown(alloc, error),
     }
 }
 
@@ -31,7 +32,7 @@ pub fn read(alloc: Global, offset: &str, message: &str) -> Result<String> {
             let digits = hex::encode(alloc, octets)?;
             Ok(format!(in alloc; "{digits} {end}")?)
         }
-        Err(error) => Ok(format!(in alloc; "{error:?}")?),
+        Err(error) => shown(alloc, error),
     }
 }
 
@@ -46,36 +47,26 @@ struct Written {
 type Outcome = std::result::Result<(), WriteError>;
 
 impl Written {
+    // Appends a name, or says why it is rejected.
     fn name(&mut self, mode: RDataEncoding, text: &str) -> Result<Outcome> {
-        let Written {
-            name_offsets,
-            octets,
-            limit,
-        } = self;
-        let Ok((name, _)) = parse_octets(*octets.allocator(), text.as_bytes()) else {
+        let Ok((name, _)) = parse_octets(*self.octets.allocator(), text.as_bytes()) else {
             bail!("not a name");
         };
-        let mut message = MessageOctets::new(0, octets);
-        Ok(write_name(name_offsets, &mut message, mode, *limit, name.as_slice()))
+        let mut message = MessageOctets::new(0, &mut self.octets);
+        let offsets = &mut self.name_offsets;
+        Ok(write_name(offsets, &mut message, mode, self.limit, name.as_slice()))
     }
 
     // Does what one word says.
     fn step(&mut self, word: &str) -> Result<Outcome> {
         let (kind, text) = parts(word)?;
         match kind {
-            "shared" => self.name(RDataEncoding::StandardRecord, text),
-            "canonical" => self.name(RDataEncoding::Canonical, text),
-            "other" => self.name(RDataEncoding::Other, text),
-            "limit" => {
-                self.limit = text.parse::<usize>()?;
-                Ok(Ok(()))
-            }
-            "octets" => {
-                self.octets = octets(*self.octets.allocator(), text)?;
-                Ok(Ok(()))
-            }
+            "shared" | "canonical" | "other" => return self.name(mode_of(kind), text),
+            "limit" => self.limit = text.parse::<usize>()?,
+            "octets" => self.octets = octets(*self.octets.allocator(), text)?,
             _ => bail!("no such step"),
         }
+        Ok(Ok(()))
     }
 
     // Does what one word says, and shows why it is rejected or else the octets from an offset on.

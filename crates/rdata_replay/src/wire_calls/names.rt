@@ -1,19 +1,10 @@
 //! Names as values.
 
-use crate::shared::{feed_the_same, shown};
+use crate::shared::{feed_the_same, shown, slices};
 use anyhow::{Result, bail};
 use dns_names_wire::{Name, ProtoError, ProtoResult};
 use replay::{octets, parts};
 use std::alloc::{AllocError, Global};
-
-// The name of labels with a comma between each two.
-fn joined(alloc: Global, text: &str) -> Result<ProtoResult<Name>> {
-    let mut labels = Vec::new(alloc);
-    for label in text.split(',') {
-        labels.push(label.as_bytes())?;
-    }
-    Ok(Name::from_labels(alloc, labels.as_slice()))
-}
 
 // A name that a step makes of another one.
 fn changed(name: &Name, kind: &str) -> Result<Name> {
@@ -37,7 +28,7 @@ fn made(name: &Name, kind: &str, text: &str) -> Result<ProtoResult<Name>> {
     let alloc = name.allocator();
     match kind {
         "text" => Ok(Name::from_ascii(alloc, text)),
-        "labels" => joined(alloc, text),
+        "labels" => Ok(Name::from_labels(alloc, slices(alloc, text)?.as_slice())),
         "alone" => Ok(Name::parse(alloc, text, None)),
         "within" => Ok(Name::parse(alloc, text, Some(name))),
         "label" => Ok(name.clone()?.append_label(octets(alloc, text)?.as_slice())),

@@ -6,30 +6,20 @@ use dns_text::{Lexer, Token};
 use dns_tokens::{Base64Text, Field, FromTokens, TokenList, next_u16, number_field};
 use replay::octets;
 use std::alloc::{AllocError, Global};
-use std::borrow::CowStr;
 
-// Words, each after a slash.
-fn show_words(words: &[CowStr<'_, Global>], shown: &mut String) -> Result<(), AllocError> {
-    for word in words {
-        shown.push('|')?;
-        shown.push_str(word.as_str())?;
-    }
-    Ok(())
-}
-
+// Shows a token as `tokens` says.
 fn show_token(token: &Token<'_>, shown: &mut String) -> Result<(), AllocError> {
     match token {
         Token::Blank => shown.push('b'),
         Token::EOL => shown.push('e'),
         Token::At => shown.push('@'),
+        Token::CharData(word) => write!(shown, "|{word}"),
         Token::List(words) => {
             shown.push('(')?;
-            show_words(words.as_slice(), shown)?;
+            for word in words {
+                write!(shown, "|{word}")?;
+            }
             shown.push(')')
-        }
-        Token::CharData(word) => {
-            shown.push('|')?;
-            shown.push_str(word.as_str())
         }
     }
 }
@@ -43,10 +33,7 @@ pub fn tokens(alloc: Global, text: &str) -> Result<String> {
         match lexer.next_token() {
             Ok(Some(token)) => show_token(&token, &mut shown)?,
             Ok(None) => break,
-            Err(_) => {
-                shown.push('!')?;
-                break;
-            }
+            Err(_) => return Ok(format!(in alloc; "{shown}!")?),
         }
     }
     Ok(shown)

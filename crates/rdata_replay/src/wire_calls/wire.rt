@@ -1,10 +1,11 @@
 //! Messages read and written step by step.
 
+use crate::shared::{mode_of, put};
 use crate::wire_calls::exchange::Exchange;
 use anyhow::Context;
 use dns_names_wire::{
     BinDecodable, BinDecoder, BinEncodable, BinEncoder, DecodeError, Name, ProtoError, ProtoResult,
-    RDataEncoding, RecordType,
+    RecordType,
 };
 use replay::{octets, parts};
 use std::alloc::Global;
@@ -29,12 +30,10 @@ fn read_octets(
     kind: &str,
 ) -> Result<String, DecodeError> {
     let alloc = decoder.allocator();
-    if kind == "slice" {
-        let octets = decoder.read_slice(len)?.unverified();
-        return Ok(hex::encode(alloc, octets)?);
-    }
-    let octets = decoder.read_small::<4>(len)?.unverified();
-    Ok(hex::encode(alloc, octets.as_slice())?)
+    Ok(match kind {
+        "slice" => hex::encode(alloc, decoder.read_slice(len)?.unverified())?,
+        _ => hex::encode(alloc, decoder.read_small::<4>(len)?.unverified().as_slice())?,
+    })
 }
 
 // The value that a step reads, as a text.
@@ -87,45 +86,23 @@ fn emit_with_length<T: BinEncodable>(
     Ok(())
 }
 
-// Appends a value after its length.
-fn emit_measured(
-    encoder: &mut BinEncoder<'_>,
-    kind: &str,
-    text: &str,
-) -> anyhow::Result<ProtoResult<()>> {
-    if kind == "measured-type" {
-        return Ok(emit_with_length(&text.parse::<RecordType>()?, encoder));
-    }
-    let name = Name::from_ascii(encoder.allocator(), text)?;
-    Ok(emit_with_length(&name, encoder))
-}
-
-// Appends what a step says.
-fn emit(encoder: &mut BinEncoder<'_>, kind: &str, text: &str) -> anyhow::Result<ProtoResult<()>> {
-    let alloc = encoder.allocator();
-    match kind {
-        "octets" => Ok(encoder.emit_vec(octets(alloc, text)?.as_slice())),
-        "octet" => Ok(encoder.emit(text.parse::<u8>()?)),
-        "name" => Ok(Name::from_ascii(alloc, text)?.emit(encoder)),
-        "exchange" => Ok(Exchange::of_text(alloc, text)?.emit(encoder)),
-        _ => emit_measured(encoder, kind, text),
-    }
-}
-
 // Does what one word says.
 fn step(encoder: &mut BinEncoder<'_>, word: &str) -> anyhow::Result<ProtoResult<()>> {
+    let alloc = encoder.allocator();
     let (kind, text) = parts(word)?;
-    match kind {
-        "limit" => encoder.set_max_size(text.parse::<u16>()?),
-        "canonical" => {
-            encoder.with_rdata_behavior(RDataEncoding::Canonical);
+    Ok(match kind {
+        "limit" => Ok(encoder.set_max_size(text.parse::<u16>()?)),
+        "canonical" | "other" => {
+            encoder.with_rdata_behavior(mode_of(kind));
+            Ok(())
         }
-        "other" => {
-            encoder.with_rdata_behavior(RDataEncoding::Other);
-        }
-        _ => return emit(encoder, kind, text),
-    }
-    Ok(Ok(()))
+        "octets" => encoder.emit_vec(octets(alloc, text)?.as_slice()),
+        "octet" => encoder.emit(text.parse::<u8>()?),
+        "name" => put(encoder, text),
+        "exchange" => Exchange::of_text(alloc, text)?.emit(encoder),
+        "measured-type" => emit_with_length(&text.parse::<RecordType>()?, encoder),
+        _ => emit_with_length(&Name::from_ascii(alloc, text)?, encoder),
+    })
 }
 
 // Does what one word says, and shows why it is rejected, and how many octets there are then.
