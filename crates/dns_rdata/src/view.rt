@@ -3,7 +3,7 @@
 ghost use Rattle.std.specs.Prelude.{◌≡◌, ◌≢◌, ◌+◌, ℕ, List, length, Some, take, drop, IfOk, IfErr, IfSome, IfNone, OnOk};
 ghost use Rattle.std.specs.{Net.Addr.ipv4_octets, Net.Addr.ipv6_octets, declared.net.ip_addr.IpAddr.TheVariants.V4, declared.net.ip_addr.IpAddr.TheVariants.V6};
 ghost use Rattle.dns_types.specs.RecordTypes.{number_of};
-ghost use Rattle.dns_rows.specs.Table.{table};
+ghost use Rattle.dns_rows.specs.{Fronts.IsFront, Table.table};
 ghost use Rattle.dns_view.specs.Rows.{is_row};
 ghost use Rattle.dns_names_wire.specs.Terms.{StaysBehind};
 ghost use Rattle.dns_rdata.specs.{Data.parts_of, Data.Fills, Data.HasValue, Data.NoValue, Data.IsNeverRead, ReadErrors.IsReadError, ReadErrors.OwnResult};
@@ -13,7 +13,7 @@ ghost use Rattle.dns_rdata.specs.Pointers.{RDataPointers};
 use crate::record_data::RData;
 use dns_names_wire::{BinDecoder, DecodeError, RecordType, Restrict};
 use dns_rows::row::NULL;
-use dns_rows::{Part, Row, row_of};
+use dns_rows::{Front, Part, Row, row_of};
 use dns_view::skip::{is_near, skip_row};
 use dns_view::{FieldRef, NameRef, RowView, StringsRef, Tlvs, TypesRef, Walk};
 use std::alloc::{AllocError, Global};
@@ -29,17 +29,24 @@ pub struct RDataRef<'a> {
     view: RowView<'a>,
 }
 
-// The row of a type; `None` if RDATA of the type is never read.
+// The row of a type and its front; `None` if RDATA of the type is never read.
 #[inline]
-fn parts_of_type(record_type: RecordType) -> Option<&'static [Part]>
-    ensures some { IfSome result (λ parts. parts.now ≡ parts_of (table record_type)) }
-    ensures read { IfSome result (λ parts. IsNeverRead record_type → ⊥) }
+fn parts_of_type(record_type: RecordType) -> Option<(&'static [Part], Front)>
+    ensures some { IfSome result (λ r. r.0.now ≡ parts_of (table record_type)) }
+    ensures front { IfSome result (λ r. IsFront r.0.now r.1) }
+    ensures read { IfSome result (λ r. IsNeverRead record_type → ⊥) }
     ensures none { IfNone result (IsNeverRead record_type) }
 {
     match row_of(record_type) {
         Row::Unread => None,
-        Row::Formatless => Some(&NULL),
-        Row::Fields(parts) => Some(parts),
+        Row::Formatless => Some((
+            &NULL,
+            Front {
+                count: 0,
+                octets: 0,
+            },
+        )),
+        Row::Fields(parts, front) => Some((parts, front)),
     }
 }
 
@@ -100,7 +107,7 @@ impl<'a> RDataRef<'a> {
         ensures behind { StaysBehind decoder.old decoder.new }
     {
         let start = decoder.index();
-        let Some(parts) = parts_of_type(record_type) else {
+        let Some((parts, front)) = parts_of_type(record_type) else {
             return Err(DecodeError::UnknownRecordTypeValue(record_type.into()));
         };
         let len = length.unverified();
@@ -110,12 +117,35 @@ impl<'a> RDataRef<'a> {
             start,
             record_type,
             parts,
+            front,
             len,
             &mut usize::MAX,
         ) {
             let _taken = decoder.read_slice(len as usize);
             return Ok(RDataRef { view });
         }
+        RDataRef::read_row(decoder, record_type, parts, length)
+    }
+
+    // The same by the row of the type, with the error of RDATA that is damaged. What it keeps is apart from `read`, which
+    // clears no room for it then.
+    #[inline(always)]
+    fn read_row(
+        decoder: &mut BinDecoder<'a>,
+        record_type: RecordType,
+        parts: &'static [Part],
+        length: Restrict<u16>,
+    ) -> Result<RDataRef<'a>, DecodeError>
+        requires parts { parts.now ≡ parts_of (table record_type) }
+        requires read { IsNeverRead record_type → ⊥ }
+        ensures found { IfOk result (IsViewOf decoder.old.message decoder.old.index length record_type) }
+        ensures after { OnOk result (decoder.new.index ≡ decoder.old.index + length) }
+        ensures refused { IfErr result (λ e. NoValue decoder.old.message decoder.old.index length record_type) }
+        ensures why { IfErr result (IsReadError record_type length decoder.old decoder.new) }
+        ensures allocates_nothing { IfErr result (λ e. e ≢ DecodeError.Memory) }
+        ensures behind { StaysBehind decoder.old decoder.new }
+    {
+        let start = decoder.index();
         let mut walk = Walk::at(decoder.message(), start);
         let mut unlimited = usize::MAX;
         let outcome = RowView::read(&mut walk, record_type, parts, length, &mut unlimited);
@@ -150,11 +180,19 @@ impl<'a> RDataRef<'a> {
         ensures pointers { Leaves (RDataPointers record_type length walk.old) left.old left.new }
     {
         let start = walk.index();
-        let Some(parts) = parts_of_type(record_type) else {
+        let Some((parts, front)) = parts_of_type(record_type) else {
             return Err(DecodeError::UnknownRecordTypeValue(record_type.into()));
         };
         let len = length.unverified();
-        if let Some(view) = RowView::near(walk.message(), start, record_type, parts, len, left) {
+        if let Some(view) = RowView::near(
+            walk.message(),
+            start,
+            record_type,
+            parts,
+            front,
+            len,
+            left,
+        ) {
             let _taken = walk.read_slice(len as usize);
             return Ok(RDataRef { view });
         }
@@ -189,11 +227,11 @@ impl<'a> RDataRef<'a> {
         ensures behind { StaysBehind decoder.old decoder.new }
     {
         let start = decoder.index();
-        let Some(parts) = parts_of_type(record_type) else {
+        let Some((parts, front)) = parts_of_type(record_type) else {
             return Err(DecodeError::UnknownRecordTypeValue(record_type.into()));
         };
         let len = length.unverified() as usize;
-        if is_near(decoder.message(), start, parts, len, &mut usize::MAX) {
+        if is_near(decoder.message(), start, parts, front, len, &mut usize::MAX) {
             let _taken = decoder.read_slice(len);
             return Ok(());
         }

@@ -1,3 +1,4 @@
+pub mod Fronts
 pub mod Rules
 pub mod Table
 pub mod Written

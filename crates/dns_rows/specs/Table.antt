@@ -49,7 +49,7 @@ table t = formatless
 abbrev pub row_value : Row → TypeRow
 row_value Unread = unread
 row_value Formatless = formatless
-row_value (Fields row) = fields row.now
+row_value (Fields row front) = fields row.now
 
 -- the kinds of the fields
 abbrev pub kinds_of : List Part → List Kind

@@ -5,7 +5,7 @@ pub mod row;
 
 ghost use Rattle.dns_rows.specs.Written.{RowsLaw};
 
-pub use row::{Part, Row, Rule, row_of};
+pub use row::{Front, Part, Row, Rule, row_of};
 
 /// The rows are the fields that the RFCs list. They are written out once more in the definition, so that a change of a
 /// row by mistake is no proof.

@@ -3,7 +3,7 @@
 //! The definitions read these very statics (`specs/Table.antt`), so that code and definition have one table.
 
 ghost use Rattle.std.specs.Prelude.{◌≡◌};
-ghost use Rattle.dns_rows.specs.Table.{row_value, table};
+ghost use Rattle.dns_rows.specs.{Fronts.HasFront, Table.row_value, Table.table};
 
 use dns_fields::Kind;
 use dns_types::RecordType;
@@ -39,6 +39,15 @@ pub struct Part {
     pub rule: Rule,
 }
 
+/// The numbers at the front of a row that nothing more is asked of.
+#[derive(Clone, Copy, Debug, PartialEq, Eq)]
+pub struct Front {
+    /// How many they are.
+    pub count: u8,
+    /// How many octets they have.
+    pub octets: u8,
+}
+
 /// What the RDATA of a type is.
 #[derive(Clone, Copy, Debug)]
 pub enum Row {
@@ -47,7 +56,7 @@ pub enum Row {
     /// A type without a format of its own: any octets (RFC 3597, 4).
     Formatless,
     /// These fields, one after the other.
-    Fields(&'static [Part]),
+    Fields(&'static [Part], Front),
 }
 
 macro_rules! part {
@@ -59,6 +68,12 @@ macro_rules! part {
         Part { kind: Kind::$kind($size), rule: Rule::$rule($number) }
     };
     ($kind:expr, $rule:ident) => { Part { kind: $kind, rule: Rule::$rule } };
+}
+
+// The fields of a row, and how many numbers that nothing more is asked of are at its front, of how many octets together.
+macro_rules! fields {
+    ($row:ident) => { fields!($row, 0, 0) };
+    ($row:ident, $count:expr, $octets:expr) => { Row::Fields(&$row, Front { count: $count, octets: $octets }) };
 }
 
 /// A: an IPv4 address (RFC 1035, 3.4.1).
@@ -154,36 +169,37 @@ pub static ZERO: [Part; 0] = [];
 
 /// Returns the row of a type: of each type number there is one.
 pub fn row_of(record_type: RecordType) -> Row
-    ensures { row_value result ≡ table record_type }
+    ensures row { row_value result ≡ table record_type }
+    ensures front { HasFront result }
 {
     match record_type {
-        RecordType::A => Row::Fields(&A),
-        RecordType::AAAA => Row::Fields(&AAAA),
-        RecordType::ANAME => Row::Fields(&NAME),
+        RecordType::A => fields!(A),
+        RecordType::AAAA => fields!(AAAA),
+        RecordType::ANAME => fields!(NAME),
         RecordType::ANY => Row::Unread,
         RecordType::AXFR => Row::Unread,
-        RecordType::CAA => Row::Fields(&CAA),
-        RecordType::CERT => Row::Fields(&CERT),
-        RecordType::CNAME => Row::Fields(&NAME),
-        RecordType::CSYNC => Row::Fields(&CSYNC),
-        RecordType::HINFO => Row::Fields(&HINFO),
-        RecordType::HTTPS => Row::Fields(&SVCB),
+        RecordType::CAA => fields!(CAA, 1, 1),
+        RecordType::CERT => fields!(CERT, 3, 5),
+        RecordType::CNAME => fields!(NAME),
+        RecordType::CSYNC => fields!(CSYNC, 1, 4),
+        RecordType::HINFO => fields!(HINFO),
+        RecordType::HTTPS => fields!(SVCB, 1, 2),
         RecordType::IXFR => Row::Unread,
-        RecordType::MX => Row::Fields(&MX),
-        RecordType::NAPTR => Row::Fields(&NAPTR),
-        RecordType::NS => Row::Fields(&NAME),
-        RecordType::NULL => Row::Fields(&NULL),
-        RecordType::OPENPGPKEY => Row::Fields(&OPENPGPKEY),
-        RecordType::OPT => Row::Fields(&OPT),
-        RecordType::PTR => Row::Fields(&NAME),
-        RecordType::SMIMEA => Row::Fields(&TLSA),
-        RecordType::SOA => Row::Fields(&SOA),
-        RecordType::SRV => Row::Fields(&SRV),
-        RecordType::SSHFP => Row::Fields(&SSHFP),
-        RecordType::SVCB => Row::Fields(&SVCB),
-        RecordType::TLSA => Row::Fields(&TLSA),
-        RecordType::TXT => Row::Fields(&TXT),
-        RecordType::ZERO => Row::Fields(&ZERO),
+        RecordType::MX => fields!(MX, 1, 2),
+        RecordType::NAPTR => fields!(NAPTR, 2, 4),
+        RecordType::NS => fields!(NAME),
+        RecordType::NULL => fields!(NULL),
+        RecordType::OPENPGPKEY => fields!(OPENPGPKEY),
+        RecordType::OPT => fields!(OPT),
+        RecordType::PTR => fields!(NAME),
+        RecordType::SMIMEA => fields!(TLSA, 3, 3),
+        RecordType::SOA => fields!(SOA),
+        RecordType::SRV => fields!(SRV, 3, 6),
+        RecordType::SSHFP => fields!(SSHFP, 2, 2),
+        RecordType::SVCB => fields!(SVCB, 1, 2),
+        RecordType::TLSA => fields!(TLSA, 3, 3),
+        RecordType::TXT => fields!(TXT),
+        RecordType::ZERO => fields!(ZERO),
         _ => Row::Formatless,
     }
 }

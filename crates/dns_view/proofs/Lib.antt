@@ -7,7 +7,7 @@ pub mod FieldEnds
 pub mod Strings
 pub mod RowLoop
 pub mod PointerRows
-pub mod OneField
+pub mod Fronts
 pub mod Puts
 pub mod PutLoop
 pub mod Forms
@@ -24,7 +24,6 @@ pub mod ParameterLists
 pub mod ParameterSteps
 pub mod Subnets
 pub mod OptionLists
-pub mod TypeRows
 pub mod PutParameters
 pub mod PutWindows
 pub mod Alone

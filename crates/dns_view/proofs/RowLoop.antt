@@ -40,7 +40,7 @@ pub record RowSo (row left : List Part) (n : ℕ) (old now : Reading) : Type 0 w
   pub reached : Reaching row left (old.index + n) now.index
   pub fault : (e : DecodeError) (new : Reading) → RowFault left old.index n now e new → RowFault row old.index n old e new
 
-none_so : (row : List Part) (n : ℕ) (old : Reading) → IsRow row → AreCovered row → RowSo row row n old old
+pub none_so : (row : List Part) (n : ℕ) (old : Reading) → IsRow row → AreCovered row → RowSo row row n old old
 none_so row n old ordered covered = record {
   behind = record { message = refl; index = omega arith };
   ordered = ordered;
@@ -76,7 +76,7 @@ field_reaches m p [] q end vs h s = end_reaches p.kind end q s
 field_reaches m p (l ∷ left) q end vs h s = ends_reach p.kind end q h.0 (stands_inside m q (kinds_of (l ∷ left)) vs end s)
 
 -- one field more was taken
-field_taken : (row : List Part) (p : Part) (left : List Part) (n : ℕ) (old now new : Reading) → RowSo row (p ∷ left) n old now
+pub field_taken : (row : List Part) (p : Part) (left : List Part) (n : ℕ) (old now new : Reading) → RowSo row (p ∷ left) n old now
     → Skipped p.rule p.kind (old.index + n) now new → RowSo row left n old new
 field_taken row p left n old now new so a =
     let same : now.message ≡ old.message = so.behind.message in

@@ -10,7 +10,7 @@ use Rattle.dns_rows.specs.declared.row.Rule.TheVariants as rules
 use Rattle.dns_view.specs.Parts.{IsWidth, IsCovered}
 use Rattle.dns_view.specs.Rows.{AreCovered, IsRow, IsRowChecked, is_width, is_covered, are_covered, ends_itself, is_ordered, is_row, asked_length, fewest}
 
-both : (a b : Bool) → (a && b) ≡ true → (a ≡ true) × (b ≡ true)
+pub both : (a b : Bool) → (a && b) ≡ true → (a ≡ true) × (b ≡ true)
 both true b h = (refl, h)
 both false b h = absurd cc
 

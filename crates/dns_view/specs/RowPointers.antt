@@ -1,10 +1,10 @@
 -- How many compression pointers are followed by going over the fields of a row.
-use Rattle.std.specs.Prelude.{◌≡◌, ℕ, ◌+◌, ◌<◌, ◌≤◌, ◌⊎◌, List, [], ◌∷◌}
+use Rattle.std.specs.Prelude.{◌≡◌, ℕ, ◌+◌, ◌<◌, ◌≤◌, ◌⊎◌, List, [], ◌∷◌, length}
 use Rattle.dns_types.specs.declared.error.DecodeError.{DecodeError}
 use Rattle.dns_fields.specs.declared.Kind.{Kind, TheVariants.Name}
 use Rattle.dns_names_wire.specs.State.{Reading}
 use Rattle.dns_rows.specs.declared.row.Part.{Part}
-use Rattle.dns_view.specs.{Pointers.NamePointers, Parts.Skipped, Parts.Refused, Rows.asked_length}
+use Rattle.dns_view.specs.{Pointers.NamePointers, Pointers.Leaves, Parts.Skipped, Parts.Refused, Rows.asked_length, Rows.TookRow}
 
 -- those of a name; none in a field of another kind
 abbrev pub FieldPointers : Kind → Reading → ℕ → Type 0
@@ -24,3 +24,9 @@ FieldsPointers (p ∷ row) start n old count = (one : ℕ) × FieldPointers p.ki
 abbrev pub RowPointers : List Part → ℕ → Reading → ℕ → Type 0
 RowPointers row n old count = ((n < asked_length row) × (count ≡ 0))
     ⊎ ((asked_length row ≤ n) × FieldsPointers row old.index n old count)
+
+-- fields of the row fill n octets from the offset, and this is what their pointers leave of `before`
+pub record NearRow (row : List Part) (n start : ℕ) (m : List ℕ) (before after : ℕ) : Type 0 where
+  pub took : TookRow row n (record { message = m; index = start }) (record { message = m; index = start + n })
+  pub inside : start + n ≤ length m
+  pub pointers : Leaves (RowPointers row n (record { message = m; index = start })) before after

@@ -10,7 +10,7 @@ use Rattle.dns_fields.specs.Fields.{Value, Values, Stands, EndsItself}
 use Rattle.dns_names_wire.specs.{State.Reading, Terms.TookField, Terms.StaysBehind}
 use Rattle.dns_rows.specs.declared.row.{Part.Part, Rule.Rule}
 use Rattle.dns_rows.specs.declared.row.Rule.TheVariants as rules
-use Rattle.dns_rows.specs.{Table.kinds_of, Table.TypeRow, Table.fields, Rules.MeetsRow}
+use Rattle.dns_rows.specs.{Table.kinds_of, Rules.MeetsRow}
 use Rattle.dns_view.specs.Parts.{Asks, IsCovered, KindFault, Ends}
 
 abbrev pub AreCovered : List Part → Type 0
@@ -52,18 +52,6 @@ pub record IsRowChecked (row : List Part) : Type 0 where
   pub few : length row ≤ 64
   pub least : asked_length row ≤ fewest row
 
--- a field of this kind takes all of n octets
-abbrev pub TakesAll : Kind → ℕ → Type 0
-TakesAll (Octets c) n = c ≡ n
-TakesAll Rest n = 0 < n
-TakesAll k n = ⊥
-
--- one field that takes all of n octets
-pub record IsOneField (row : List Part) (n : ℕ) : Type 0 where
-  pub part : Part
-  pub is : row ≡ part ∷ []
-  pub takes : TakesAll part.kind n
-
 -- the same as a test
 
 abbrev pub is_width : ℕ → Bool
@@ -94,11 +82,6 @@ is_ordered (p ∷ (l ∷ row)) = ends_itself p.kind && is_ordered (l ∷ row)
 
 abbrev pub is_row : List Part → Bool
 is_row row = are_covered row && (is_ordered row && (nat_le (length row) 64 && nat_le (asked_length row) (fewest row)))
-
--- the fields of the type, if it has any, can be checked
-abbrev pub IsCheckedType : TypeRow → Type 0
-IsCheckedType (fields row) = is_row row ≡ true
-IsCheckedType row = Unit {0}
 
 -- fields of the row are encoded from the offset to the end, each as its rule asks
 pub record HasRow (m : List ℕ) (p : ℕ) (row : List Part) (end : ℕ) : Type 0 where

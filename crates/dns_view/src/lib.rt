@@ -1,7 +1,6 @@
 //! RDATA as it is encoded in a message: it is checked, and looked at, by its row of fields. Nothing here allocates.
 //!
-//! - [`Walk`] is a decoder without an allocator; [`check::check_data`] checks RDATA by a row, [`row_of`] returns a
-//!   type's.
+//! - [`Walk`] is a decoder without an allocator; [`check::check_data`] checks RDATA by a row.
 //! - [`RowView`] is RDATA that was checked: its fields, its canonical and uncompressed octets, its order.
 //! - [`FieldRef`] and [`NameRef`] are a field and a name, lent from the message. [`Labels`] iterates over the labels of a
 //!   name, [`StringsRef`] over character strings, [`Tlvs`] over options or parameters, [`TypesRef`] over the types of a
@@ -26,7 +25,6 @@ pub mod put;
 pub mod put_bitmap;
 pub mod put_options;
 pub mod put_params;
-pub mod row;
 pub mod skip;
 pub mod string_list;
 mod tlv;
@@ -39,7 +37,6 @@ pub mod walk;
 pub use field::FieldRef;
 pub use label_list::Labels;
 pub use name_ref::NameRef;
-pub use row::row_of;
 pub use string_list::StringsRef;
 pub use tlv_list::{Tlv, Tlvs};
 pub use type_list::TypesRef;

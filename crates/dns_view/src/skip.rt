@@ -5,8 +5,9 @@ ghost use Rattle.std.specs.{Char.is_ascii_alphanumeric, List.list_all};
 ghost use Rattle.dns_fields.specs.declared.Kind.TheVariants.{Number, Octets, Name, CharacterString, CharacterStrings, Rest, Bitmap};
 ghost use Rattle.dns_rows.specs.Rules.{AreLetters};
 ghost use Rattle.dns_view.specs.{Parts.Skips, Parts.Asks, Parts.Ends, Parts.IsCovered, Parts.IsUnasked, Parts.moved, Parts.step_of as octet_step};
-ghost use Rattle.dns_view.specs.Rows.{IsRowChecked, IsOneField, SkipsRow, TookRow, asked_length as row_asks};
-ghost use Rattle.dns_view.specs.{Pointers.Leaves, RowPointers.FieldPointers, RowPointers.RowPointers};
+ghost use Rattle.dns_rows.specs.Fronts.{IsFront, is_front};
+ghost use Rattle.dns_view.specs.Rows.{IsRowChecked, SkipsRow, asked_length as row_asks};
+ghost use Rattle.dns_view.specs.{NameEnds.NameEnds, Pointers.NamePointers, Pointers.Leaves, RowPointers.FieldPointers, RowPointers.NearRow, RowPointers.RowPointers};
 
 use crate::blocks::check_blocks;
 use crate::names::near_name;
@@ -14,7 +15,7 @@ use crate::options::skip_options;
 use crate::parameters::skip_parameters;
 use crate::walk::Walk;
 use dns_fields::Kind;
-use dns_rows::{Part, Rule};
+use dns_rows::{Front, Part, Rule};
 use dns_types::DecodeError;
 
 /// Takes a field exactly if one is there that is as its rule asks, of `len` octets of RDATA from `start`.
@@ -462,21 +463,6 @@ fn skip_bitmap(walk: &mut Walk<'_>, rule: Rule, start: usize, len: usize) -> Res
     }
 }
 
-// Returns whether the row is one field that takes all of so many octets: that of an address, or octets without a form.
-#[inline]
-fn is_one_field(row: &[Part], len: usize) -> bool
-    ensures { result ≡ true → IsOneField row.now len }
-{
-    if row.len() != 1 {
-        return false;
-    }
-    match row[0].kind {
-        Kind::Octets(count) => count as usize == len,
-        Kind::Rest => 0 < len,
-        _ => false,
-    }
-}
-
 // Returns how many octets the row asks of the RDATA before anything is read.
 #[inline]
 fn asked_length(row: &[Part]) -> usize
@@ -493,27 +479,128 @@ fn asked_length(row: &[Part]) -> usize
 
 /// Returns whether fields of the row fill the `len` octets of RDATA from an offset, each as its rule asks, and then takes
 /// off `left` how many compression pointers their names follow, down to 0. `false` says nothing about them: [`skip_row`]
-/// tells. It is the quick way for RDATA that is not damaged.
+/// tells. It is the quick way for RDATA that is not damaged. `front` are the numbers at the front of the row, which are
+/// taken at once.
 #[inline]
-pub fn is_near(message: &[u8], start: usize, row: &[Part], len: usize, left: &mut usize) -> bool
+pub fn is_near(
+    message: &[u8],
+    start: usize,
+    row: &[Part],
+    front: Front,
+    len: usize,
+    left: &mut usize,
+) -> bool
     requires row { IsRowChecked row.now }
+    requires front { IsFront row.now front }
     requires short { len < 65536 }
     requires within { start ≤ length message.now }
-    ensures took { result ≡ true → TookRow row.now len (record { message = message.now; index = start })
-        (record { message = message.now; index = start + len }) }
-    ensures inside { result ≡ true → start + len ≤ length message.now }
-    ensures pointers { result ≡ true → Leaves (RowPointers row.now len (record { message = message.now; index = start })) left.old left.new }
+    ensures near { result ≡ true → NearRow row.now len start message.now left.old left.new }
     ensures unchanged { result ≡ false → left.new ≡ left.old }
 {
-    if is_one_field(row, len) {
-        return len <= message.len() - start;
+    let first = front.count as usize;
+    let octets = front.octets as usize;
+    if row.len() == first + 1 {
+        is_last_near(message, start, row, first, octets, len, left)
+    } else {
+        are_near(message, start, row, first, octets, len, left)
     }
-    if len < asked_length(row) {
+}
+
+// The same of a row of one field after its front. Each arm returns by itself, and nothing is returned in memory.
+#[inline]
+fn is_last_near(
+    message: &[u8],
+    start: usize,
+    row: &[Part],
+    first: usize,
+    octets: usize,
+    len: usize,
+    left: &mut usize,
+) -> bool
+    requires row { IsRowChecked row.now }
+    requires front { is_front first octets row.now ≡ true }
+    requires small { octets < 256 }
+    requires last { length row.now ≡ first + 1 }
+    requires short { len < 65536 }
+    requires within { start ≤ length message.now }
+    ensures near { result ≡ true → NearRow row.now len start message.now left.old left.new }
+    ensures unchanged { result ≡ false → left.new ≡ left.old }
+{
+    // For the proof: brings in that the message is octets.
+    let there = message.len() - Walk::at(message, start).index();
+    let part = &row[first];
+    match part.kind {
+        Kind::Octets(count) => octets + count as usize == len && len <= there,
+        Kind::Rest => octets < len && len <= there,
+        Kind::Name => octets <= there && is_name_near(message, start + octets, start + len, left),
+        _ => octets <= there && is_other_near(message, start + octets, part, start, len),
+    }
+}
+
+// Returns whether a field at an offset that is no name ends with the RDATA and is as its rule asks.
+#[inline]
+fn is_other_near(message: &[u8], at: usize, part: &Part, start: usize, len: usize) -> bool
+    requires covered { IsCovered part.now.kind part.now.rule }
+    requires within { at ≤ length message.now }
+    requires short { len < 65536 }
+    requires before { start ≤ at }
+    ensures { result ≡ true → Skips part.now.rule part.now.kind start len (Ok tt) (record { message = message.now; index = at })
+        (record { message = message.now; index = start + len }) }
+{
+    match other_end(message, at, part, start, len) {
+        Some(end) => end == start + len,
+        None => false,
+    }
+}
+
+// Returns whether a name is encoded at an offset and ends at another one, and then takes off `left` how many compression
+// pointers it follows.
+#[inline]
+fn is_name_near(message: &[u8], at: usize, end: usize, left: &mut usize) -> bool
+    requires within { at ≤ length message.now }
+    ensures name { result ≡ true → NameEnds message.now at end }
+    ensures pointers { result ≡ true → Leaves (NamePointers message.now at) left.old left.new }
+    ensures unchanged { result ≡ false → left.new ≡ left.old }
+{
+    let mut unfollowed = *left;
+    match near_name(message, at, &mut unfollowed) {
+        Some(there) => {
+            if there != end {
+                return false;
+            }
+            *left = unfollowed;
+            true
+        }
+        None => false,
+    }
+}
+
+// The same of any row, as a call: the way of most types keeps no registers for it.
+#[inline(never)]
+fn are_near(
+    message: &[u8],
+    start: usize,
+    row: &[Part],
+    first: usize,
+    octets: usize,
+    len: usize,
+    left: &mut usize,
+) -> bool
+    requires row { IsRowChecked row.now }
+    requires front { is_front first octets row.now ≡ true }
+    requires short { len < 65536 }
+    requires within { start ≤ length message.now }
+    ensures near { result ≡ true → NearRow row.now len start message.now left.old left.new }
+    ensures unchanged { result ≡ false → left.new ≡ left.old }
+{
+    let mut near = Walk::at(message, start);
+    let at = near.index();
+    if message.len() - at < octets {
         return false;
     }
-    let mut near = Walk::at(message, start);
+    near.move_to(at + octets);
     let mut unfollowed = *left;
-    let mut count = 0;
+    let mut count = first;
     'near: while count < row.len() {
         match near_end(&near, &row[count], start, len, &mut unfollowed) {
             Some(end) => near.move_to(end),

@@ -3,7 +3,7 @@
 ghost use Rattle.std.specs.Prelude.{◌≡◌, ◌+◌, ◌<◌, ◌≤◌, true, false, length, take, drop, IfSome, IfNone, IfOk, IfErr, OnOk};
 ghost use Rattle.dns_fields.specs.Fields.{canonical};
 ghost use Rattle.dns_names_wire.specs.Terms.{StaysBehind};
-ghost use Rattle.dns_rows.specs.Table.{kinds_of};
+ghost use Rattle.dns_rows.specs.{Fronts.IsFront, Table.kinds_of};
 ghost use Rattle.dns_view.specs.Rows.{HasRow, is_row};
 ghost use Rattle.dns_view.specs.{Putting.Put, Putting.all_form, Putting.key_of};
 ghost use Rattle.dns_view.specs.Checks.{FillsRow, NoFill, IsRowError};
@@ -16,7 +16,7 @@ use crate::name_ref::NameRef;
 use crate::order::compare_rows;
 use crate::skip::is_near;
 use crate::walk::Walk;
-use dns_rows::Part;
+use dns_rows::{Front, Part};
 use dns_types::{DecodeError, RecordType, Restrict};
 use std::cmp::Ordering;
 
@@ -88,10 +88,12 @@ impl<'a> RowView<'a> {
         offset: usize,
         record_type: RecordType,
         row: &'static [Part],
+        front: Front,
         len: u16,
         left: &mut usize,
     ) -> Option<RowView<'a>>
         requires row { is_row row.now ≡ true }
+        requires front { IsFront row.now front }
         requires within { offset ≤ length message.now }
         ensures found { IfSome result (λ r. IsViewOf (record { message = message.now; index = offset }) len row.now r × (r.record_type ≡ record_type)) }
         ensures pointers { IfSome result (λ r. Leaves (RowPointers row.now len (record { message = message.now; index = offset })) left.old left.new) }
@@ -99,7 +101,7 @@ impl<'a> RowView<'a> {
     {
         // For the proof: brings in that the message is octets.
         let _offset = Walk::at(message, offset).index();
-        if !is_near(message, offset, row, len as usize, left) {
+        if !is_near(message, offset, row, front, len as usize, left) {
             return None;
         }
         Some(RowView {

@@ -11,11 +11,11 @@ near_row c =
     let old = c.args.decoder.now in
     let offset = c.index-start.ensures.offset in
     let same = starts_at {old = old} refl c.message.ensures offset in
-    let s = rw c.unverified-len.ensures at (c.if-is_near.ensures.took refl) in
+    let s = rw c.unverified-len.ensures at (c.if-is_near.ensures.near refl).took in
     let slice = c.read_slice-taken in
     let there = moved slice.result (λ (o : Bor (List ℕ)). o.now) c.args.length old
     (record { message = c.message.result.now; index = c.index-start.result + c.args.length }) slice.new.self c.message.ensures (omega (arith, offset))
-    (rw c.unverified-len.ensures at (c.if-is_near.ensures.inside refl)) (rw c.unverified-len.ensures at slice.ensures.taken) (rw c.unverified-len.ensures at slice.ensures.lacking) in
+    (rw c.unverified-len.ensures at (c.if-is_near.ensures.near refl).inside) (rw c.unverified-len.ensures at slice.ensures.taken) (rw c.unverified-len.ensures at slice.ensures.lacking) in
     row_as c.args.record_type c.args.length (Ok tt) c.in-Some.parts.now old _ _ slice.new.self same c.in-Some.ensures.some there s
 
 pub is_near-requires-clause-row : goal.is_near-requires-clause-row
@@ -27,7 +27,7 @@ returns-then-is_near-clause-own c = row_own c.args.record_type c.args.length c.a
 
 pub returns-then-is_near-clause-whole : goal.returns-then-is_near-clause-whole
 returns-then-is_near-clause-whole c = λ here.
-    let within = rw (c.unverified-len.ensures, c.message.ensures, c.index-start.ensures.offset) at (c.if-is_near.ensures.inside refl) in
+    let within = rw (c.unverified-len.ensures, c.message.ensures, c.index-start.ensures.offset) at (c.if-is_near.ensures.near refl).inside in
     row_whole c.args.record_type c.args.length c.args.decoder.now c.read_slice-taken.new.self (Ok tt) c.in-Some.ensures.read c.index-start.ensures.octets
     (omega arith) (omega (arith, within, here)) (near_row c) here
 

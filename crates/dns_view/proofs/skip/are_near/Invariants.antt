@@ -1,6 +1,6 @@
 use Rattle.std.proofs.Common.{length, ◌-◌}
 use Rattle.dns_view.proofs.{RowLoop.AtPart, PointerRows.CountedSo}
-use Rattle.dns_view.proofs.skip.is_near.Given as goal
+use Rattle.dns_view.proofs.skip.are_near.Given as goal
 
 abbrev pub invariant-near : goal.invariant-near
 invariant-near l = AtPart l.row l.count l.len (record { message = l.message; index = l.start }) l.near
