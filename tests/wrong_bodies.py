@@ -9,7 +9,8 @@ contract, a definition or a proof of it has changed.
     tests/wrong_bodies.py [CRATE ..]           those with a function, of these crates or of all
     tests/wrong_bodies.py --whole [CRATE ..]   each edit by a check of its whole crate
 
-An edit has lines `file: FILE`, `old: TEXT` and `new: TEXT`: each TEXT of `old` is in FILE exactly once. The last line that is printed is 'N as wanted, M not'.
+An edit has lines `file: FILE`, `old: TEXT` and `new: TEXT`: each TEXT of `old` is in FILE exactly once. The last line that is
+printed is 'N as wanted, M not'.
 """
 import os
 import re
