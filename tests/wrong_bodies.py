@@ -1,10 +1,10 @@
 #!/usr/bin/env python3
 """Tries wrong bodies: tests/wrong_bodies/CRATE/*.edit, each of which the prover must refuse.
 
-An edit with a line `only: FUNCTION` is tried on that function alone and on those that it calls, which takes seconds where a
-check of the crate takes minutes. ./check tries these after `rt ci`, over the libraries that it has proved and left in
-crates/*/out/rlib. All others, and all with --whole, are tried by `rt must-fail` on a copy: do that for a crate if a
-contract, a definition or a proof of it has changed.
+An edit with a line `only: FUNCTION` is tried on that function alone and on those that it calls, over the libraries that `rt ci`
+has proved and left in crates/*/out/rlib. Edits of different functions of a crate are tried at once, since the prover says of
+each function by itself whether it is proved. ./check tries these after `rt ci`. All others, and all with --whole, are tried by
+`rt must-fail` on a copy: do that for a crate if a contract, a definition or a proof of it has changed.
 
     tests/wrong_bodies.py [CRATE ..]           those with a function, of these crates or of all
     tests/wrong_bodies.py --whole [CRATE ..]   each edit by a check of its whole crate
@@ -92,37 +92,62 @@ def apply(changes, folder):
     return None
 
 
-def refused(said, status):
-    """What the prover says of a wrong body: None if it refuses it, or else why that is no refusal."""
-    last = re.findall(r"^only=(\d+) proved=(\d+)$", said, re.M)
-    failed = re.search(r"^fn \S+: (not proved$|no proof: .*`search` did not prove)", said, re.M)
-    if status == 1 and failed and last and int(last[-1][1]) < int(last[-1][0]):
+def refused(said, only, status):
+    """What the prover says of a wrong body of a function: None if it refuses it, or else why that is no refusal."""
+    line = re.search(rf"^fn (?:\S+::)?{re.escape(only)}: (.*)$", said, re.M)
+    if status == 1 and line and re.match(r"not proved$|no proof: (?!.*; it calls ).*`search` did not prove", line[1]):
         return None
-    if status == 0:
+    if line and line[1] == "proved":
         return "PROVED, as it must not be"
     return "not tried:\n" + "\n".join(said.splitlines()[:6])
 
 
-def try_edit(words_of, copy, name, edit):
-    """Tries an edit on a copy of its crate, which it leaves as it was. Returns whether the prover refuses it, and what to print."""
-    only, changes = read_edit(f"{EDITS}/{name}/{edit}")
-    begun = time.monotonic()
+def batches(crate, edits):
+    """The edits of a crate in batches that are tried at once: each of its own function, so that each has its own verdict."""
+    found = []
+    for edit in edits:
+        only, changes = read_edit(f"{EDITS}/{crate}/{edit}")
+        batch = next((it for it in found if all(only != other for _, other, _ in it)), None)
+        if batch is None:
+            found.append(batch := [])
+        batch.append((edit, only, changes))
+    return found
+
+
+def try_batch(words_of, copy, batch):
+    """Makes the changes of several edits in a copy of their crate, which it leaves as it was, and checks their functions. Returns
+    for each edit why it is not refused, or None if it is."""
     before = {}
-    for file, _, _ in changes:
+    for file in {file for _, _, changes in batch for file, _, _ in changes}:
         with open(f"{copy}/{file}", encoding="utf-8") as it:
-            before.setdefault(file, it.read())
-    wrong = apply(changes, copy)
-    if wrong is None:
-        ran = subprocess.run([*words_of, "--only", only], cwd=copy, stdout=subprocess.PIPE, stderr=subprocess.STDOUT, text=True, errors="replace")
-        wrong = refused(ran.stdout, ran.returncode)
+            before[file] = it.read()
+    wrong = [apply(changes, copy) for _, _, changes in batch]
+    if not any(wrong):
+        only = [word for _, name, _ in batch for word in ("--only", name)]
+        ran = subprocess.run([*words_of, *only], cwd=copy, stdout=subprocess.PIPE, stderr=subprocess.STDOUT, text=True, errors="replace")
+        wrong = [refused(ran.stdout, name, ran.returncode) for _, name, _ in batch]
     for file, text in before.items():
         with open(f"{copy}/{file}", "w", encoding="utf-8") as it:
             it.write(text)
-    return wrong is None, f"{name} {edit}: {'refused, as it must be' if wrong is None else wrong} ({time.monotonic() - begun:.0f} s)"
+    return wrong
+
+
+def try_apart(words_of, copy, batch):
+    """Tries the edits of a batch at once, and those that are not refused once more by themselves: the prover refuses a caller of a
+    function that is not proved whatever its own body is, says so, and that does not count. Gives each edit with why it is not
+    refused, or None if it is."""
+    wrong = try_batch(words_of, copy, batch)
+    left = [it for it, why in zip(batch, wrong) if why is not None]
+    yield from ((edit, None) for (edit, _, _), why in zip(batch, wrong) if why is None)
+    if len(batch) == 1:
+        yield from ((edit, wrong[0]) for edit, _, _ in left)
+    elif left:
+        for part in [left] if len(left) < len(batch) else [[it] for it in left]:
+            yield from try_apart(words_of, copy, part)
 
 
 def try_crate(crates, folder, name, edits):
-    """Tries the edits of a crate, one after the other: what one check has proved of functions that no edit changes serves the next ones."""
+    """Tries the edits of a crate, batch by batch: what one check has proved of functions that no edit changes serves the next ones."""
     good = 0
     with tempfile.TemporaryDirectory() as copy:
         for part in ("src", "specs", "proofs"):
@@ -130,10 +155,12 @@ def try_crate(crates, folder, name, edits):
                 shutil.copytree(f"{TOP}/crates/{name}/{part}", f"{copy}/{part}")
         os.mkdir(f"{copy}/kept")
         words_of = [f"{folder}/bin/rattle", "check", *words(crates, name, folder), "--incremental", f"{copy}/kept"]
-        for edit in edits:
-            is_good, line = try_edit(words_of, copy, name, edit)
-            print(line, flush=True)
-            good += is_good
+        for batch in batches(name, edits):
+            begun = time.monotonic()
+            for edit, wrong in try_apart(words_of, copy, batch):
+                print(f"{name} {edit}: {'refused, as it must be' if wrong is None else wrong}", flush=True)
+                good += wrong is None
+            print(f"{name}: {len(batch)} wrong bodies in {time.monotonic() - begun:.0f} s", flush=True)
     return good
 
 

@@ -23,8 +23,6 @@ pub mod record_ref;
 pub mod records;
 mod sections;
 pub mod step;
-#[cfg(test)]
-mod tests;
 
 pub use edns::Edns;
 pub use error::{Fault, MessageError, RecordError, Section};

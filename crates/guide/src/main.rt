@@ -1,4 +1,5 @@
-//! The programs of docs/GUIDE.md, one after the other, and then the examples in the library's comments (`comments.rt`).
+//! The programs of docs/GUIDE.md, one after the other, then walks that are limited or
+//! resumed (`walks.rt`), and then the examples in the library's comments (`comments.rt`).
 //! Each program is a module: as a program of its own, its `main` takes `rt: HostRuntime`. They are one crate, so that
 //! dropping an `RData` is proved once.
 #![tactic(auto)]
@@ -15,6 +16,7 @@ mod response;
 mod sets;
 mod targets;
 mod views;
+mod walks;
 mod zone;
 mod zone_files;
 
@@ -29,5 +31,6 @@ fn main(rt: HostRuntime) -> Result<()> {
     zone::main(&rt)?;
     https::main(&rt)?;
     copy::main(&rt)?;
+    walks::main(&rt)?;
     comments::main(&rt)
 }
