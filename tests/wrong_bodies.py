@@ -122,7 +122,9 @@ def try_batch(words_of, copy, batch):
         with open(f"{copy}/{file}", encoding="utf-8") as it:
             before[file] = it.read()
     wrong = [apply(changes, copy) for _, _, changes in batch]
-    if not any(wrong):
+    if any(wrong):
+        wrong = [why or "not tried: another change cannot be made" for why in wrong]
+    else:
         only = [word for _, name, _ in batch for word in ("--only", name)]
         ran = subprocess.run([*words_of, *only], cwd=copy, stdout=subprocess.PIPE, stderr=subprocess.STDOUT, text=True, errors="replace")
         wrong = [refused(ran.stdout, name, ran.returncode) for _, name, _ in batch]
