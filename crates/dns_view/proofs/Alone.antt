@@ -1,6 +1,7 @@
 -- A field whose octets are a message of their own.
-use Rattle.std.proofs.Common.{◌≡◌, ℕ, ◌-◌, inl, inr, List, length, take, drop, ap, ◌∙◌, arith, subst}
-use Rattle.std.proofs.lemmas.List.{take_all}
+use Rattle.std.proofs.Common.{◌≡◌, ℕ, ◌+◌, ◌-◌, ◌≤◌, inl, inr, List, ◌++◌, length, take, drop, sym, ap, ◌∙◌, arith, subst}
+use Rattle.std.proofs.lemmas.List.{take_all, drop-drop, length-take, length-drop}
+use Rattle.std.proofs.Math.Seq.{take-add}
 use Rattle.dns_fields.specs.declared.Kind.{Kind}
 use Rattle.dns_fields.specs.declared.Kind.TheVariants.{Options, Parameters, Bitmap}
 use Rattle.dns_fields.specs.{Octets.At, Tlvs.IsTruncated, Fields.Value, Fields.IsField, Fields.Field}
@@ -9,6 +10,21 @@ use Rattle.dns_view.specs.Putting.{IsRecoded}
 -- octets between two offsets
 pub between_is : {m s : List ℕ} {i p : ℕ} → At m i s p → take (p - i) (drop i m) ≡ s
 between_is {m} {s} {i} {p} a = let n : p - i ≡ length s = omega (arith, a.ends) in ap (λ (k : ℕ). take k (drop i m)) n ∙ a.same
+
+abbrev pub slice : List ℕ → ℕ → ℕ → List ℕ
+slice m i p = take (p - i) (drop i m)
+
+pub slice_at : (m : List ℕ) (i p : ℕ) → i ≤ p → p ≤ length m → At m i (slice m i p) p
+slice_at m i p le inside =
+    let n : length (slice m i p) ≡ p - i = omega (arith, length-take (p - i) (drop i m), length-drop i m, le, inside) in
+    record { ends = omega (arith, n, le); within = inside; same = ap (λ (k : ℕ). take k (drop i m)) n }
+
+-- octets that are there, and those after them
+pub whole_slice : {m s : List ℕ} {i p : ℕ} (e : ℕ) → At m i s p → p ≤ e → slice m i e ≡ s ++ slice m p e
+whole_slice {m} {s} {i} {p} e w h =
+    let n : e - i ≡ length s + (e - p) = omega (arith, w.ends) in
+    ap (λ (k : ℕ). take k (drop i m)) n ∙ take-add (length s) (e - p) (drop i m) ∙ ap (λ (z : List ℕ). z ++ take (e - p) (drop (length s) (drop i m))) w.same
+    ∙ ap (λ (z : List ℕ). s ++ take (e - p) z) (drop-drop (length s) i m ∙ ap (λ (k : ℕ). drop k m) (sym w.ends))
 
 at_alone : {m s x : List ℕ} {i q : ℕ} → At m i x q → s ≡ take (q - i) (drop i m) → At s 0 x (length s)
 at_alone {m} {s} {x} {i} {q} a e =

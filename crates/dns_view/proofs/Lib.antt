@@ -10,6 +10,7 @@ pub mod PointerRows
 pub mod Fronts
 pub mod Puts
 pub mod PutLoop
+pub mod PartEnds
 pub mod Forms
 pub mod RowOrder
 pub mod NamesPut

@@ -82,22 +82,22 @@ NoTlv octets offset = (key : ℕ) (body : List ℕ) (to : ℕ) → IsTlvAt octet
 tlv_of : {octets : List ℕ} {offset to : ℕ} {x : Numbered ParameterValue} (o : OneOf octets offset x to) → IsTlvAt octets offset x.0 o.octets to
 tlv_of o = record { at = o.at; fits = o.fits }
 
-none_left : {octets : List ℕ} {offset : ℕ} (xs : List (Numbered ParameterValue)) → StandEach OneOf octets offset xs (length octets) → NoTlv octets offset
+pub none_left : {octets : List ℕ} {offset : ℕ} (xs : List (Numbered ParameterValue)) → StandEach OneOf octets offset xs (length octets) → NoTlv octets offset
     → xs ≡ []
 none_left [] s none = refl
 none_left (x ∷ xs) s none = absurd (none x.0 s.1.octets s.0 (tlv_of s.1))
 
 -- the first of those that are left
-record FirstOf (octets : List ℕ) (offset end : ℕ) (all : List (Numbered ParameterValue)) : Type 0 where
-  first : Numbered ParameterValue
-  rest : List (Numbered ParameterValue)
-  one : OneOf octets offset first end
-  stand : StandEach OneOf octets end rest (length octets)
-  same : tlvs (parameter_tlvs all) ≡ tlv (first.0, parameter_octets first.1) ++ tlvs (parameter_tlvs rest)
-  part : take (end - offset) (drop offset octets) ≡ tlv (first.0, one.octets)
-  short : length (parameter_octets first.1) < 256 ^ 2
+pub record FirstOf (octets : List ℕ) (offset end : ℕ) (all : List (Numbered ParameterValue)) : Type 0 where
+  pub first : Numbered ParameterValue
+  pub rest : List (Numbered ParameterValue)
+  pub one : OneOf octets offset first end
+  pub stand : StandEach OneOf octets end rest (length octets)
+  pub same : tlvs (parameter_tlvs all) ≡ tlv (first.0, parameter_octets first.1) ++ tlvs (parameter_tlvs rest)
+  pub part : take (end - offset) (drop offset octets) ≡ tlv (first.0, one.octets)
+  pub short : length (parameter_octets first.1) < 256 ^ 2
 
-first_of : {octets : List ℕ} {offset end : ℕ} (xs : List (Numbered ParameterValue)) → StandEach OneOf octets offset xs (length octets)
+pub first_of : {octets : List ℕ} {offset end : ℕ} (xs : List (Numbered ParameterValue)) → StandEach OneOf octets offset xs (length octets)
     → EndsAt octets offset end
     → FirstOf octets offset end xs
 first_of [] s e = absurd (omega (arith, e.room.0, e.room.1, s))

@@ -1,17 +1,17 @@
 -- How the canonical octets of parameters are written.
-use Rattle.std.proofs.Common.{◌≡◌, ℕ, ◌+◌, ◌-◌, ◌^◌, ◌≤◌, ◌<◌, ◌==◌, Bool, true, false, List, [], ◌∷◌, ◌++◌, length, take, drop, get_or}
+use Rattle.std.proofs.Common.{◌≡◌, ℕ, ◌+◌, ◌-◌, ◌^◌, ◌≤◌, ◌<◌, ◌==◌, Bool, true, false, List, [], ◌∷◌, ◌++◌, length, take, drop}
 use Rattle.std.proofs.Common.{refl, sym, ap, ◌∙◌, arith, subst, append_assoc, if◌then◌else◌}
-use Rattle.std.proofs.lemmas.List.{append-nil, length-append, take_at, drop_at, nil_from_length, take-append-drop, get_or-drop}
+use Rattle.std.proofs.lemmas.List.{append-nil, length-append, length-take, take_at, drop_at, nil_from_length, take-append-drop}
 use Rattle.std.proofs.lemmas.Bool.Decides.{nat_tests}
-use Rattle.std.proofs.lemmas.Nat.{from_be_bytes-to_be_bytes_2}
-use Rattle.std.specs.{Int.bytes_high_first, Int.from_be_bytes, Int.w16}
+use Rattle.std.specs.Int.{bytes_high_first}
 use Rattle.dns_fields.specs.{Fields.Value, Fields.Field, Fields.field_octets, Fields.parameter_tlvs, declared.Kind.TheVariants.Parameters}
 use Rattle.dns_fields.specs.Tlvs.{Numbered, ParameterValue, Mandatory, Alpn, NoDefaultAlpn, Port, Ipv4Hint, Ipv6Hint, Opaque, ParameterHeld, IsTlv, tlv, tlvs}
 use Rattle.dns_fields.specs.Tlvs.{parameter_octets, Keys, Names, Nothing, PortNumber, Addresses4, Addresses16, AnyOctets, form_for}
 use Rattle.dns_fields.proofs.{Numbers.length-bytes, Tlvs.number_first, Tlvs.length-tlv}
 use Rattle.dns_view.specs.Putting.{Put}
-use Rattle.dns_view.proofs.{Puts.put_then, Puts.put_none, ParameterLists.StandEach, ParameterLists.OneOf, ParameterLists.one_long}
-use Rattle.dns_view.proofs.{ParameterLists.parameters_each, Splits.at_split}
+use Rattle.dns_view.proofs.{Puts.put_then, Puts.put_none, ParameterLists.StandEach, ParameterLists.OneOf, ParameterLists.parameters_each}
+use Rattle.dns_view.proofs.{Alone.slice, Alone.slice_at, Alone.whole_slice, ParameterOrder.EndsAt, ParameterOrder.NoTlv}
+use Rattle.dns_view.proofs.ParameterOrder.{FirstOf, first_of, none_left}
 
 -- ---- the octets of a value
 
@@ -65,8 +65,8 @@ key_of key body part e small first =
     let is : part ≡ bytes_high_first 2 3 ++ drop 2 part = sym (take-append-drop 2 part) ∙ ap (λ (s : List ℕ). s ++ drop 2 part) first in
     (number_first key 3 (bytes_high_first 2 (length body) ++ body) (drop 2 part) small (omega arith) (sym e ∙ is)).0
 
-first_of : (body part : List ℕ) → part ≡ tlv (3, body) → take 2 part ≡ 0 ∷ 3 ∷ []
-first_of body part e = ap (take 2) e ∙ take_at (bytes_high_first 2 3) (bytes_high_first 2 (length body) ++ body) 2 refl
+port_first : (body part : List ℕ) → part ≡ tlv (3, body) → take 2 part ≡ 0 ∷ 3 ∷ []
+port_first body part e = ap (take 2) e ∙ take_at (bytes_high_first 2 3) (bytes_high_first 2 (length body) ++ body) 2 refl
 
 pub port_parameter : {out mid new part : List ℕ} {at middle end : ℕ} → Put out mid at middle (0 ∷ 3 ∷ 0 ∷ 2 ∷ [])
     → Put mid new middle end (take 2 (drop 4 part))
@@ -84,102 +84,110 @@ port_parameter {out} {mid} {new} {part} {at} {middle} {end} p q first key body v
 
 -- ---- the parameters so far
 
--- those before the offset were written, and the others are encoded from there on
-pub record LeftOf (octets : List ℕ) (offset : ℕ) (old new : List ℕ) (start at : ℕ) (v : List (Numbered ParameterValue)) : Type 0 where
+-- Those before the offset were gone over: the octets `done` were written, the ones from `from` on wait, and the other
+-- parameters are encoded from the offset on.
+pub record LeftOf (octets : List ℕ) (offset : ℕ) (old new : List ℕ) (start at from : ℕ) (v : List (Numbered ParameterValue)) : Type 0 where
   pub rest : List (Numbered ParameterValue)
   pub stand : StandEach OneOf octets offset rest (length octets)
   pub done : List ℕ
   pub put : Put old new start at done
-  pub same : tlvs (parameter_tlvs v) ≡ done ++ tlvs (parameter_tlvs rest)
+  pub same : tlvs (parameter_tlvs v) ≡ (done ++ slice octets from offset) ++ tlvs (parameter_tlvs rest)
 
-pub record PutsOn (octets : List ℕ) (offset : ℕ) (old new : List ℕ) (start at : ℕ) : Type 0 where
+pub record PutsOn (octets : List ℕ) (offset : ℕ) (old new : List ℕ) (start at from : ℕ) : Type 0 where
   pub inside : offset ≤ length octets
-  pub few : at ≤ start + offset
-  pub only : (v : List (Numbered ParameterValue)) → Field octets 0 Parameters v (length octets) → LeftOf octets offset old new start at v
+  pub further : from ≤ offset
+  pub few : at + (offset - from) ≤ start + offset
+  pub only : (v : List (Numbered ParameterValue)) → Field octets 0 Parameters v (length octets) → LeftOf octets offset old new start at from v
 
-pub puts_none : (octets old : List ℕ) (start : ℕ) → PutsOn octets 0 old old start start
+pub puts_none : (octets old : List ℕ) (start : ℕ) → PutsOn octets 0 old old start start 0
 puts_none octets old start = record {
   inside = omega arith;
+  further = omega arith;
   few = omega arith;
   only = λ v f. record { rest = v; stand = parameters_each f; done = []; put = put_none old start; same = refl };
 }
 
--- the next parameter's octets, and what is left after it
-record NextPart (octets : List ℕ) (offset : ℕ) (old new : List ℕ) (start at : ℕ) (v : List (Numbered ParameterValue)) : Type 0 where
-  next : Numbered ParameterValue
-  others : List (Numbered ParameterValue)
-  to : ℕ
-  one : OneOf octets offset next to
-  stand : StandEach OneOf octets to others (length octets)
-  done : List ℕ
-  put : Put old new start at done
-  same : tlvs (parameter_tlvs v) ≡ done ++ (tlv (next.0, parameter_octets next.1) ++ tlvs (parameter_tlvs others))
+module _ {octets : List ℕ} {offset end : ℕ} {old one : List ℕ} {start at from : ℕ} (p : PutsOn octets offset old one start at from)
+    (e : EndsAt octets offset end) where
+  -- the octets so far, the next parameter, and the others
+  behind : {v : List (Numbered ParameterValue)} (l : LeftOf octets offset old one start at from v) (x : FirstOf octets offset end l.rest)
+      → tlvs (parameter_tlvs v) ≡ ((l.done ++ slice octets from offset) ++ tlv (x.first.0, parameter_octets x.first.1)) ++ tlvs (parameter_tlvs x.rest)
+  behind l x =
+      let before = l.done ++ slice octets from offset in
+      l.same ∙ ap (λ (s : List ℕ). before ++ s) x.same
+      ∙ sym (append_assoc before (tlv (x.first.0, parameter_octets x.first.1)) (tlvs (parameter_tlvs x.rest)))
 
-next_part : {octets : List ℕ} {offset : ℕ} {old new : List ℕ} {start at : ℕ} {v : List (Numbered ParameterValue)} → offset < length octets
-    → LeftOf octets offset old new start at v → NextPart octets offset old new start at v
-next_part {octets} {offset} {old} {new} {start} {at} {v} lt l = of l.rest l.stand l.same where
-  of : (rest : List (Numbered ParameterValue)) → StandEach OneOf octets offset rest (length octets)
-      → tlvs (parameter_tlvs v) ≡ l.done ++ tlvs (parameter_tlvs rest)
-      → NextPart octets offset old new start at v
-  of [] s e = absurd (omega (arith, lt, s))
-  of (x ∷ rest) s e = record { next = x; others = rest; to = s.0; one = s.1; stand = s.2; done = l.done; put = l.put; same = e }
+  -- one that is copied waits, too
+  pub puts_kept : (take 2 (slice octets offset end) ≡ 0 ∷ 3 ∷ [] → length (slice octets offset end) ≤ 6) → PutsOn octets end old one start at from
+  puts_kept short = record {
+    inside = e.room.1;
+    further = omega (arith, p.further, e.room.0);
+    few = omega (arith, p.few, p.further, e.room.0);
+    only = λ v f.
+        let l = p.only v f in
+        let x = first_of l.rest l.stand e in
+        let body = x.one.octets in
+        let own = tlv (x.first.0, parameter_octets x.first.1) in
+        let few : x.first.0 ≡ 3 → length body ≤ 2 = λ three.
+        let begins = port_first body (slice octets offset end) (x.part ∙ ap (λ (k : ℕ). tlv (k, body)) three) in
+        omega (arith, short begins, ap length x.part, length-tlv (x.first.0, body)) in
+        let same : slice octets offset end ≡ own = x.part ∙ ap (λ (b : List ℕ). tlv (x.first.0, b)) (same_octets x.first.0 body x.first.1 x.one.held few) in
+        let waits : slice octets from end ≡ slice octets from offset ++ own =
+        whole_slice end (slice_at octets from offset p.further p.inside) (omega (arith, e.room.0)) ∙ ap (λ (s : List ℕ). slice octets from offset ++ s) same in
+        record {
+          rest = x.rest;
+          stand = x.stand;
+          done = l.done;
+          put = l.put;
+          same = behind l x ∙ ap (λ (s : List ℕ). s ++ tlvs (parameter_tlvs x.rest))
+              (append_assoc l.done (slice octets from offset) own ∙ ap (λ (s : List ℕ). l.done ++ s) (sym waits));
+        };
+  }
 
--- the length of a parameter that is encoded there
-size_of : {octets : List ℕ} {offset to n : ℕ} {x : Numbered ParameterValue} → OneOf octets offset x to
-    → n ≡ from_be_bytes w16 (get_or octets (offset + 2) 0 ∷ get_or octets (offset + 3) 0 ∷ []) → to ≡ offset + 4 + n
-size_of {octets} {offset} {to} {n} {x} o e =
-    let size = bytes_high_first 2 (length o.octets) in
-    let front = sym (at_split o.at) in
-    let high : get_or size 0 0 ≡ get_or octets (offset + 2) 0 = ap (λ (s : List ℕ). get_or s 2 0) front ∙ get_or-drop offset octets 2 0 in
-    let low : get_or size 1 0 ≡ get_or octets (offset + 3) 0 = ap (λ (s : List ℕ). get_or s 3 0) front ∙ get_or-drop offset octets 3 0 in
-    let same : n ≡ length o.octets = e ∙ (λ i. from_be_bytes w16 (sym high i ∷ sym low i ∷ [])) ∙ from_be_bytes-to_be_bytes_2 (length o.octets) o.fits.1 in
-    omega (arith, o.at.ends, length-tlv (x.0, o.octets), same)
+  -- a port with octets after it is written after those that wait
+  pub puts_port : {two three new : List ℕ} {i j k : ℕ} → Put one two at i (slice octets from offset) → Put two three i j (0 ∷ 3 ∷ 0 ∷ 2 ∷ [])
+      → Put three new j k (take 2 (drop 4 (slice octets offset end))) → take 2 (slice octets offset end) ≡ 0 ∷ 3 ∷ []
+      → 6 < length (slice octets offset end) → PutsOn octets end old new start k end
+  puts_port {two} {three} {new} {i} {j} {k} flush head value first long = record {
+    inside = e.room.1;
+    further = omega arith;
+    few = omega (arith, p.few, flush.ends, head.ends, value.ends, size, waited, most);
+    only = λ v f.
+        let l = p.only v f in
+        let x = first_of l.rest l.stand e in
+        let port = port_parameter head value first x.first.0 x.one.octets x.first.1 x.part x.one.fits x.one.held in
+        let octets_now = (l.done ++ slice octets from offset) ++ tlv (x.first.0, parameter_octets x.first.1) in
+        let none : slice octets end end ≡ [] = ap (λ (n : ℕ). take n (drop end octets)) (zero end) in
+        record {
+          rest = x.rest;
+          stand = x.stand;
+          done = octets_now;
+          put = put_then (put_then l.put flush) port;
+          same = behind l x ∙ ap (λ (s : List ℕ). s ++ tlvs (parameter_tlvs x.rest))
+              (sym (append-nil octets_now) ∙ ap (λ (s : List ℕ). octets_now ++ s) (sym none));
+        };
+  }
+    where
+      zero : (n : ℕ) → n - n ≡ 0
+      zero n = omega arith
 
--- what one more parameter asks of the octets that are written for it
-abbrev pub PutsOne : List ℕ → List ℕ → List ℕ → ℕ → ℕ → Type 0
-PutsOne part old new at end = (key : ℕ) (body : List ℕ) (v : ParameterValue) → part ≡ tlv (key, body) → IsTlv (key, body) → ParameterHeld key body v
-    → Put old new at end (tlv (key, parameter_octets v))
+      size : length (slice octets offset end) ≡ end - offset
+      size = omega (arith, (slice_at octets offset end (omega (arith, e.room.0)) e.room.1).ends, e.room.0)
 
-pub puts_more : {octets : List ℕ} {offset : ℕ} {old mid new : List ℕ} {start at end n : ℕ} → PutsOn octets offset old mid start at
-    → n ≡ from_be_bytes w16 (get_or octets (offset + 2) 0 ∷ get_or octets (offset + 3) 0 ∷ []) → offset + 4 + n ≤ length octets
-    → PutsOne (take (offset + 4 + n - offset) (drop offset octets)) mid new at end → end ≤ at + (4 + n)
-    → PutsOn octets (offset + 4 + n) old new start end
-puts_more {octets} {offset} {old} {mid} {new} {start} {at} {end} {n} p e room put few = record {
-  inside = room;
-  few = omega (arith, p.few, few);
-  only = λ v f.
-      let x = next_part (omega (arith, room)) (p.only v f) in
-      let there : x.to ≡ offset + 4 + n = size_of x.one e in
-      let count : offset + 4 + n - offset ≡ length (tlv (x.next.0, x.one.octets)) = omega (arith, there, x.one.at.ends) in
-      let part : take (offset + 4 + n - offset) (drop offset octets) ≡ tlv (x.next.0, x.one.octets) =
-      ap (λ (k : ℕ). take k (drop offset octets)) count ∙ x.one.at.same in
-      record {
-        rest = x.others;
-        stand = subst (λ (k : ℕ). StandEach OneOf octets k x.others (length octets)) there x.stand;
-        done = x.done ++ tlv (x.next.0, parameter_octets x.next.1);
-        put = put_then x.put (put x.next.0 x.one.octets x.next.1 part x.one.fits x.one.held);
-        same = x.same ∙ sym (append_assoc x.done (tlv (x.next.0, parameter_octets x.next.1)) (tlvs (parameter_tlvs x.others)));
-      };
-}
+      waited : length (slice octets from offset) ≡ offset - from
+      waited = omega (arith, (slice_at octets from offset p.further p.inside).ends, p.further)
 
--- a parameter does not fit the octets
-pub puts_cut : {octets : List ℕ} {offset : ℕ} {old new : List ℕ} {start at n : ℕ} → PutsOn octets offset old new start at
-    → n ≡ from_be_bytes w16 (get_or octets (offset + 2) 0 ∷ get_or octets (offset + 3) 0 ∷ []) → length octets < offset + 4 + n → offset < length octets
-    → (v : List (Numbered ParameterValue)) → Field octets 0 Parameters v (length octets) → ⊥
-puts_cut {octets} {offset} p e past lt v f =
-    let x = next_part lt (p.only v f) in
-    omega (arith, size_of x.one e, past, x.one.at.within)
+      most : length (take 2 (drop 4 (slice octets offset end))) ≤ 2
+      most = omega (arith, length-take 2 (drop 4 (slice octets offset end)))
 
-pub puts_done : {octets : List ℕ} {offset : ℕ} {old new : List ℕ} {start at : ℕ} → PutsOn octets offset old new start at → length octets < offset + 4
-    → (v : Value Parameters) → Field octets 0 Parameters v (length octets) → Put old new start at (field_octets Parameters v)
+pub puts_done : {octets : List ℕ} {offset : ℕ} {old one new : List ℕ} {start at from end : ℕ} → PutsOn octets offset old one start at from
+    → NoTlv octets offset → Put one new at end (slice octets from offset)
+    → (v : Value Parameters) → Field octets 0 Parameters v (length octets) → Put old new start end (field_octets Parameters v)
 unfolding field_octets
-puts_done {octets} {offset} {old} {new} {start} {at} p short v f =
+puts_done {octets} {offset} {old} {one} {new} {start} {at} {from} {end} p missing flush v f =
     let l = p.only v f in
-    let none : l.rest ≡ [] = nothing l.rest l.stand in
-    let all : tlvs (parameter_tlvs v) ≡ l.done = l.same ∙ ap (λ (r : List (Numbered ParameterValue)). l.done ++ tlvs (parameter_tlvs r)) none
-    ∙ append-nil l.done in
-    subst (λ (s : List ℕ). Put old new start at s) (sym all) l.put
-  where
-    nothing : (rest : List (Numbered ParameterValue)) → StandEach OneOf octets offset rest (length octets) → rest ≡ []
-    nothing [] s = refl
-    nothing (x ∷ rest) s = absurd (omega (arith, short, one_long s.1, s.1.at.within))
+    let none : l.rest ≡ [] = none_left l.rest l.stand missing in
+    let all : tlvs (parameter_tlvs v) ≡ l.done ++ slice octets from offset =
+    l.same ∙ ap (λ (r : List (Numbered ParameterValue)). (l.done ++ slice octets from offset) ++ tlvs (parameter_tlvs r)) none
+    ∙ append-nil (l.done ++ slice octets from offset) in
+    subst (λ (s : List ℕ). Put old new start end s) (sym all) (put_then l.put flush)

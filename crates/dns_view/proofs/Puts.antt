@@ -1,8 +1,8 @@
 -- How octets are put behind each other.
-use Rattle.std.proofs.Common.{◌≡◌, ℕ, ◌+◌, ◌-◌, ◌≤◌, ◌<◌, Bool, true, false, List, [], ◌∷◌, ◌++◌, length, take, drop, Option, Some, None, ⊎_elim, refl, sym, ap, ◌∙◌}
+use Rattle.std.proofs.Common.{◌≡◌, ℕ, suc, ◌+◌, ◌-◌, ◌≤◌, ◌<◌, Bool, true, false, List, [], ◌∷◌, ◌++◌, length, take, drop, Option, Some, None, ⊎_elim, refl, sym, ap, ◌∙◌}
 use Rattle.std.proofs.Common.{arith, subst, append_assoc, length-append}
 use Rattle.std.proofs.lemmas.List.{length-map, map-append, drop-drop, take_at, take_all, drop_at, drop_all, take-append-drop, take-append-le, append-nil, length-take, length-drop}
-use Rattle.std.proofs.{lemmas.Bool.cases_lt, Math.Seq.take-append-add}
+use Rattle.std.proofs.{lemmas.Bool.cases_lt, Common.set, lemmas.List.drop-set-lt, Math.Seq.take-append-add, Math.Seq.take-suc-set}
 use Rattle.std.specs.Char.{to_ascii_lowercase}
 use borrow.Rule.Slice.PartMut.{put_mid}
 use Rattle.dns_fields.specs.{Labels.wire}
@@ -92,6 +92,25 @@ put_none old start = record {
   ends = omega arith;
   written = sym (ap (take (length old)) (take-append-drop start old) ∙ take_all (length old) old (omega arith));
 }
+
+-- one octet
+pub put_one : (old : List ℕ) (at x : ℕ) → at < length old → Put old (set old at x) at (at + 1) (x ∷ [])
+put_one old at x below =
+    let more : suc at ≡ at + 1 = omega arith in
+    let new = set old at x in
+    put_all refl (omega (arith, below)) (sym (take-append-drop (suc at) new) ∙ ap (λ (s : List ℕ). s ++ drop (suc at) new) (take-suc-set old at x below)
+    ∙ append_assoc (take at old) (x ∷ []) (drop (suc at) new)
+    ∙ ap (λ (s : List ℕ). take at old ++ x ∷ s) (drop-set-lt (suc at) old at x (omega arith) ∙ ap (λ (k : ℕ). drop k old) more))
+
+-- after the end of the buffer
+pub put_past : {old : List ℕ} {at : ℕ} (x : ℕ) → length old ≤ at → Put old old at (at + 1) (x ∷ [])
+put_past {old} {at} x past =
+    let all : take at old ≡ old = take_all at old past in
+    record {
+      ends = omega arith;
+      written = sym (take_all (length old) old (omega arith)) ∙ ap (take (length old)) (sym all)
+          ∙ sym (take-append-le (length old) (take at old) (x ∷ drop (at + 1) old) (omega (arith, ap length all)));
+    }
 
 -- one after the other
 pub put_then : {old mid new : List ℕ} {s a e : ℕ} {x y : List ℕ} → Put old mid s a x → Put mid new a e y → Put old new s e (x ++ y)

@@ -1,8 +1,7 @@
 -- How two rows are ordered.
 use Rattle.std.proofs.Common.{◌≡◌, ◌≢◌, ℕ, suc, ◌+◌, ◌-◌, ◌≤◌, ◌<◌, List, [], ◌∷◌, ◌++◌, length, take, drop, get_or, drop-cons, refl, sym, ap, ◌∙◌, arith}
-use Rattle.std.proofs.Common.{subst, append_assoc, Ok}
-use Rattle.std.proofs.lemmas.List.{drop-drop, take_at, take-append-drop}
-use Rattle.std.proofs.Math.Seq.{take-add}
+use Rattle.std.proofs.Common.{subst, append_assoc}
+use Rattle.std.proofs.lemmas.List.{take_at, take-append-drop}
 use Rattle.std.specs.{Cmp.Lexicographic.slice_cmp, Cmp.Lexicographic.lists_total, Cmp.nat_cmp_total, Cmp.tied_itself, Ordering.nat_cmp, Ordering.ordering_then}
 use Rattle.std.specs.{FinMap.slice_cmp-IsAntisymmetric, FinMap.nat_cmp-IsAntisymmetric, declared.cmp.Ordering.Ordering}
 use Rattle.std.specs.declared.cmp.Ordering.TheVariants.{Equal}
@@ -11,7 +10,6 @@ use Rattle.dns_fields.specs.declared.Kind.TheVariants.{Number, Octets, Name, Cha
 use Rattle.dns_fields.specs.{Octets.At, Fields.Value, Fields.Values, Fields.Field, Fields.Stands}
 use Rattle.dns_fields.specs.{Fields.EndsItself, Fields.field_octets, Fields.canonical}
 use Rattle.dns_fields.proofs.{FieldLaws.field_inside, FieldLaws.field_same, Numbers.length-bytes, Stays.labels_stand}
-use Rattle.dns_names_wire.specs.State.{Reading}
 use Rattle.dns_names_wire.proofs.{FieldReads.stands_inside, Strings.at_then}
 use Rattle.dns_canonical.specs.Fronts.{canonical_cmp, field_cmp, fields_cmp, EndsAlike, AllEndAlike}
 use Rattle.dns_canonical.proofs.{Fronts.fields_decide, Fronts.front_then, Fronts.sized_then, Fronts.alone, Comparing.both_equal, Comparing.cmp_shared}
@@ -19,9 +17,9 @@ use Rattle.dns_canonical.proofs.{Comparing.then_kept, Comparing.then_assoc, Comp
 use Rattle.dns_rows.specs.declared.row.{Part.Part, Rule.Rule}
 use Rattle.dns_rows.specs.declared.row.Rule.TheVariants.{Free}
 use Rattle.dns_rows.specs.{Table.kinds_of, Rules.MeetsRow}
-use Rattle.dns_view.specs.{NameEnds.OrdersNames, Parts.Reaches, Parts.Skips, Putting.IsRecoded, Putting.Put, Rows.IsRow, Rows.HasRow}
+use Rattle.dns_view.specs.{NameEnds.OrdersNames, Parts.Reaches, Putting.IsRecoded, Putting.Put, Rows.IsRow, Rows.HasRow}
 use Rattle.dns_view.specs.RowOrder.{IsPlain, ArePlain, Sized}
-use Rattle.dns_view.proofs.{Alone.between_is, Alone.recoded_alone, Asked.asks_split, PutLoop.stood_skipped, Puts.put_fits, RowLoop.behind_row}
+use Rattle.dns_view.proofs.{Alone.between_is, Alone.whole_slice, Alone.recoded_alone, Asked.asks_split, Puts.put_fits, RowLoop.behind_row}
 use Rattle.dns_view.proofs.{RowLoop.field_reaches}
 
 pub cmp_same : (s : List ℕ) → slice_cmp nat_cmp s s ≡ Equal
@@ -116,7 +114,7 @@ plain_at CharacterStrings v h f = f.is.1
 plain_at Rest v h f = f.is
 plain_at k v h f = absurd h
 
-none_at : {m : List ℕ} {p q : ℕ} → p ≡ q → q ≤ length m → At m p [] q
+pub none_at : {m : List ℕ} {p q : ℕ} → p ≡ q → q ≤ length m → At m p [] q
 none_at e inside = record { ends = omega (arith, e); within = inside; same = refl }
 
 plain_octets : {m : List ℕ} {p e : ℕ} (row : List Part) (vs : Values (kinds_of row)) → ArePlain row → e ≤ length m → Stands m p (kinds_of row) vs e
@@ -175,7 +173,7 @@ row_inside {m} row inside h = stands_within row inside h.values h.stands
     stands_within (part ∷ row) inside vs s = stands_within row (field_inside s.1).1 vs.1 s.2
 
 -- of the fields that are left, those behind the first one
-abbrev behind_first : (m : List ℕ) (p e : ℕ) (part : Part) (left : List Part) → (h : HasRow m p (part ∷ left) e) → HasRow m h.stands.0 left e
+abbrev pub behind_first : (m : List ℕ) (p e : ℕ) (part : Part) (left : List Part) → (h : HasRow m p (part ∷ left) e) → HasRow m h.stands.0 left e
 behind_first m p e part left h = record {
   values = h.values.1;
   stands = h.stands.2;
@@ -267,13 +265,6 @@ field_waits a from at next b to part left e f o ordered plain ends w =
     more (l ∷ left) s t u v ordered p f g =
         parted_more s t (field_octets part.kind u) (field_octets part.kind v) p (parted_field part.kind u v plain ordered.0 f g)
 
--- octets that wait, and those up to the end
-whole_slice : {m s : List ℕ} {i p : ℕ} (e : ℕ) → At m i s p → p ≤ e → take (e - i) (drop i m) ≡ s ++ take (e - p) (drop p m)
-whole_slice {m} {s} {i} {p} e w h =
-    let n : e - i ≡ length s + (e - p) = omega (arith, w.ends) in
-    ap (λ (k : ℕ). take k (drop i m)) n ∙ take-add (length s) (e - p) (drop i m) ∙ ap (λ (z : List ℕ). z ++ take (e - p) (drop (length s) (drop i m))) w.same
-    ∙ ap (λ (z : List ℕ). s ++ take (e - p) z) (drop-drop (length s) i m ∙ ap (λ (k : ℕ). drop k m) (sym w.ends))
-
 module _ (a : List ℕ) (from at : ℕ) (b : List ℕ) (to : ℕ) (part : Part) (left : List Part) (e f : ℕ) (o : Ordering)
     (w : Waiting a from at b to (part ∷ left) e f o) where
   begins : ℕ → Type 0
@@ -329,6 +320,13 @@ all_wait a from at b to left e f o plain inside within w =
     let l = between_is (at_then w.t_at (plain_octets left w.second.values plain within w.second.stands)) in
     w.order ∙ ap (λ (z : List ℕ). slice_cmp nat_cmp z (w.t ++ canonical (kinds_of left) w.second.values)) (sym k)
     ∙ ap (slice_cmp nat_cmp (take (e - from) (drop from a))) (sym l)
+
+-- a field that is made anew is the last one
+pub no_more : (k : Kind) → IsRecoded k → EndsItself k → ⊥
+no_more Options r e = e
+no_more Parameters r e = e
+no_more Bitmap r e = e
+no_more k r e = r
 
 -- ---- by the index in the row
 
@@ -461,12 +459,6 @@ module _ {a : List ℕ} {x e : ℕ} {b : List ℕ} {y f : ℕ} {row : List Part}
         all : Ordering
         all = canonical_cmp (kinds_of row) h.values k.values
 
-        no_more : (k : Kind) → IsRecoded k → EndsItself k → ⊥
-        no_more Options r e = e
-        no_more Parameters r e = e
-        no_more Bitmap r e = e
-        no_more k r e = r
-
         last : (left : List Part) → IsRow (part ∷ left) → Met a at b (to + (at - from)) (part ∷ left) e f all → o ≡ all
         last [] ordered m =
             let g = m.first in
@@ -501,11 +493,6 @@ recoded_same {a} {b} {k} e u v f g =
     let h : Field a 0 k v (length a) = subst (λ (s : List ℕ). Field s 0 k v (length s)) (sym e) g in
     let same : u ≡ v = field_same f h in
     sym (cmp_same (field_octets k u)) ∙ ap (λ (w : Value k). slice_cmp nat_cmp (field_octets k u) (field_octets k w)) same
-
--- where a field ends that was gone over
-pub skipped_inside : {rule : Rule} {k : Kind} {start n : ℕ} {m : List ℕ} {now next : Reading} → now.message ≡ m → Skips rule k start n (Ok tt) now next
-    → (now.index ≤ next.index) × (next.index ≤ length m)
-skipped_inside is s = field_inside (stood_skipped is s).field
 
 pub to_recode : (k : Kind) → (IsPlain k → ⊥) → (k ≡ Name → ⊥) → IsRecoded k
 to_recode Name p n = absurd (n refl)

@@ -24,11 +24,6 @@ pub record TookSome (old : Reading) (k : Kind) (new : Reading) : Type 0 where
   pub value : Value k
   pub took : TookField old k value new
 
--- some value of the kind is encoded from p to q
-pub record FieldThere (m : List ℕ) (p : ℕ) (k : Kind) (q : ℕ) : Type 0 where
-  pub value : Value k
-  pub field : Field m p k value q
-
 -- ---- one field
 
 -- what a rule asks of a field

@@ -28,13 +28,6 @@ abbrev pub all_form : Bool → (kinds : List Kind) → Values kinds → List ℕ
 all_form low [] vs = []
 all_form low (k ∷ kinds) vs = form_octets low k vs.0 ++ all_form low kinds vs.1
 
--- fields that are names, or whose octets are the same in every form
-abbrev pub IsCopied : Kind → Type 0
-IsCopied Options = ⊥
-IsCopied Parameters = ⊥
-IsCopied Bitmap = ⊥
-IsCopied k = Unit {0}
-
 -- Fields whose octets are made anew: what follows a client subnet's address or a port is left out, and a bitmap is the
 -- shortest one.
 abbrev pub IsRecoded : Kind → Type 0

@@ -1,58 +1,31 @@
 //! The octets of RDATA in one form, written into a buffer.
 
-ghost use Rattle.std.specs.Prelude.{◌≡◌, ◌+◌, ◌<◌, ◌≤◌, ◌-◌, ◌^◌, true, false, length, take, drop, MatchOption};
+ghost use Rattle.std.specs.Prelude.{◌≡◌, ◌+◌, ◌<◌, ◌≤◌, ◌^◌, length, MatchOption};
 ghost use Rattle.dns_rows.specs.Table.{kinds_of};
 ghost use Rattle.dns_fields.specs.Fields.{Value, Field};
 ghost use Rattle.dns_view.specs.{Rows.IsRowChecked, Rows.HasRow};
-ghost use Rattle.dns_view.specs.Putting.{IsRecoded, IsCopied, Put, form_octets, all_form};
-ghost use Rattle.dns_fields.specs.declared.Kind.TheVariants.{Options};
+ghost use Rattle.dns_view.specs.Putting.{IsRecoded, Put, form_octets, all_form};
 
+use crate::ends::{fields_to_visit, is_plain, plain_end};
 use crate::put::{put_name, put_octets};
 use crate::put_bitmap::put_bitmap;
 use crate::put_options::put_options;
 use crate::put_params::put_parameters;
-use crate::skip::skip_field;
-use crate::walk::Walk;
 use dns_fields::Kind;
 use dns_rows::Part;
 
-// Returns whether the octets of a field are made anew, not copied.
-#[inline]
-fn is_recoded(kind: Kind) -> bool
-    ensures yes { result ≡ true → IsRecoded kind }
-    ensures no { result ≡ false → IsCopied kind }
-{
-    match kind {
-        Kind::Options => true,
-        Kind::Parameters => true,
-        Kind::Bitmap => true,
-        _ => false,
-    }
-}
-
-// Writes the octets of a field that is made anew. The field is given by the offsets of its beginning and end.
-fn put_recoded(
-    out: &mut [u8],
-    at: usize,
-    kind: Kind,
-    low: bool,
-    message: &[u8],
-    here: usize,
-    end: usize,
-) -> usize
-    requires short { kind ≡ Options → end - here < 65536 }
-    requires field { (here ≤ end) × (end ≤ length message.now) }
-    requires room { at + (end - here) + 8704 < 2 ^ 64 }
-    ensures put { (v : Value kind) → IsRecoded kind →
-        Field (take (end - here) (drop here message.now)) 0 kind v (length (take (end - here) (drop here message.now))) →
+// Writes the octets of a field that is made anew, given by its octets in the message, and returns where they end.
+fn put_recoded(out: &mut [u8], at: usize, kind: Kind, low: bool, octets: &[u8]) -> usize
+    requires short { length octets.now < 65536 }
+    requires room { at + length octets.now + 8704 < 2 ^ 64 }
+    ensures { (v : Value kind) → IsRecoded kind → Field octets.now 0 kind v (length octets.now) →
         Put out.old out.new at result (form_octets low kind v) }
-    ensures few { result ≤ at + length (take (end - here) (drop here message.now)) + 8704 }
 {
-    let octets = &message[here..end];
     match kind {
         Kind::Options => put_options(out, at, octets, low),
         Kind::Parameters => put_parameters(out, at, octets),
         Kind::Bitmap => put_bitmap(out, at, octets),
+        // Unreachable: the octets of all other kinds are copied, or are names.
         _ => at,
     }
 }
@@ -75,32 +48,34 @@ pub fn put_row(
     ensures { (h : HasRow message.now offset row.now (offset + len)) →
         MatchOption result ⊥ (λ end. Put out.old out.new 0 end (all_form low (kinds_of row.now) h.values)) }
 {
-    let mut walk = Walk::at(message, offset);
+    let end = offset + len;
+    if message.len() < end {
+        return None;
+    }
+    // What is encoded before the offset `from` has been written, up to `at` of the buffer. Octets from there to `here` are
+    // copied at once, before the next field that is not copied, or at the end.
     let mut at = 0;
     let mut from = offset;
-    'fields: for part in row {
-        let here = walk.index();
-        if let Kind::Name = part.kind {
-            let middle = put_octets(out, at, &message[from..here]);
-            match put_name(message, here, low, out, middle) {
-                None => return None,
-                Some((end, behind)) => {
-                    walk = Walk::at(message, end);
-                    at = behind;
-                    from = end;
-                }
-            }
+    let mut here = offset;
+    'fields: for index in 0..fields_to_visit(row) {
+        let kind = row[index].kind;
+        if is_plain(kind) {
+            here = plain_end(message, here, kind, end)?;
         } else {
-            match skip_field(&mut walk, part.kind, part.rule, offset, len) {
-                Err(_) => return None,
-                Ok(()) => {}
-            }
-            if is_recoded(part.kind) {
-                let flushed = put_octets(out, at, &message[from..here]);
-                from = walk.index();
-                at = put_recoded(out, flushed, part.kind, low, message, here, from);
+            let middle = put_octets(out, at, &message[from..here]);
+            match kind {
+                Kind::Name => {
+                    let (next, behind) = put_name(message, here, low, out, middle)?;
+                    if end < next {
+                        return None;
+                    }
+                    from = next;
+                    here = next;
+                    at = behind;
+                }
+                _ => return Some(put_recoded(out, middle, kind, low, &message[here..end])),
             }
         }
     }
-    Some(put_octets(out, at, &message[from..walk.index()]))
+    Some(put_octets(out, at, &message[from..end]))
 }

@@ -1,14 +1,14 @@
 //! The fields of RDATA, one by one.
 
 ghost use Rattle.std.specs.Prelude.{◌≡◌, ◌+◌, ◌<◌, ◌≤◌, ◌⊎◌, length, MatchOption, IfSome, IfNone};
-ghost use Rattle.dns_fields.specs.{Fields.Field, Fields.Value, declared.Kind.TheVariants.Number};
+ghost use Rattle.dns_fields.specs.{Fields.Field, Fields.Value, declared.Kind.TheVariants.Number, declared.Kind.TheVariants.Name};
 ghost use Rattle.dns_names_wire.specs.Terms.{TookField, LacksField};
 ghost use Rattle.dns_rows.specs.Table.{kinds_of};
-ghost use Rattle.dns_view.specs.{Parts.FieldThere, Parts.IsCovered, Parts.IsWidth, Rows.IsRowChecked, Rows.HasRow, Shown.Shows, Shown.ShowsAt};
+ghost use Rattle.dns_view.specs.{NameEnds.IsNamed, Parts.IsCovered, Parts.IsWidth, Rows.IsRowChecked, Rows.HasRow, Shown.Shows, Shown.ShowsAt};
 ghost use Rattle.dns_view.specs.NameFields.{names_in, ShowsNameAt};
 
+use crate::ends::part_end;
 use crate::name_ref::NameRef;
-use crate::skip::skip_field;
 use crate::walk::Walk;
 use dns_fields::Kind;
 use dns_rows::{Part, Rule};
@@ -71,7 +71,7 @@ fn show_field<'a>(
     requires covered { IsCovered kind rule }
     requires before { here ≤ end }
     requires within { end ≤ length message.now }
-    requires there { FieldThere message.now here kind end }
+    requires named { kind ≡ Name → IsNamed message.now here }
     ensures { (v : Value kind) → Field message.now here kind v end → Shows result kind v }
 {
     let octets = &message[here..end];
@@ -114,16 +114,18 @@ pub fn field_of<'a>(
     ensures { (h : HasRow message.now offset row.now (offset + len)) →
         MatchOption result (length row.now ≤ number) (λ f. ShowsAt number (kinds_of row.now) h.values f) }
 {
-    let mut walk = Walk::at(message, offset);
+    let end = offset + len;
+    if message.len() < end {
+        // Unreachable: the RDATA is inside the message.
+        return None;
+    }
+    let mut here = offset;
     for (at, part) in row.iter().enumerate() {
-        let here = walk.index();
-        match skip_field(&mut walk, part.kind, part.rule, offset, len) {
-            Ok(()) => {}
-            Err(_) => return None,
-        }
+        let next = part_end(message, here, part.kind, end)?;
         if at == number {
-            return Some(show_field(message, here, walk.index(), part.kind, part.rule));
+            return Some(show_field(message, here, next, part.kind, part.rule));
         }
+        here = next;
     }
     None
 }
@@ -142,20 +144,22 @@ pub fn name_field_of<'a>(
     ensures { (h : HasRow message.now offset row.now (offset + len)) → MatchOption result (names_in (kinds_of row.now) ≤ number)
         (λ r. ShowsNameAt message.now offset (kinds_of row.now) h.values number r) }
 {
-    let mut walk = Walk::at(message, offset);
+    let end = offset + len;
+    if message.len() < end {
+        // Unreachable: the RDATA is inside the message.
+        return None;
+    }
+    let mut here = offset;
     let mut left = number;
     'fields: for part in row {
-        let here = walk.index();
-        match skip_field(&mut walk, part.kind, part.rule, offset, len) {
-            Ok(()) => {}
-            Err(_) => return None,
-        }
+        let next = part_end(message, here, part.kind, end)?;
         if let Kind::Name = part.kind {
             if left == 0 {
                 return Some(NameRef::at(message, here));
             }
             left -= 1;
         }
+        here = next;
     }
     None
 }

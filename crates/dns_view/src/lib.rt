@@ -11,6 +11,7 @@ pub mod blocks;
 pub mod canonical;
 pub mod check;
 pub mod coded_order;
+mod ends;
 pub mod field;
 pub mod label_list;
 pub mod name_order;

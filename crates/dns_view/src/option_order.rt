@@ -6,13 +6,10 @@ ghost use Rattle.dns_fields.specs.{Fields.Value, Fields.Field, Fields.field_octe
 ghost use Rattle.dns_view.specs.OptionOctets.{own_at};
 
 use crate::option_parts::compare_at;
-use crate::put_options::{FEW, FEW_OCTETS, MOST, SOME, SOME_OCTETS, list_options, sort_options};
+use crate::put_options::{
+    FEW, FEW_OCTETS, FEWEST, FEWEST_OCTETS, MOST, SOME, SOME_OCTETS, list_options, sort_options,
+};
 use std::cmp::Ordering;
-
-// As many options as most records have, and the octets that hold no more.
-const FEWEST: usize = 16;
-
-const FEWEST_OCTETS: usize = 68;
 
 // Compares options one by one, by their canonical octets; a list that ends first comes first.
 fn compare_each(a: &[u8], left: &[u16], b: &[u8], right: &[u16]) -> Ordering

@@ -87,6 +87,9 @@ pub(crate) fn put_option(out: &mut [u8], at: usize, part: &[u8]) -> usize
     if part.len() < 4 {
         return at;
     }
+    if !is_subnet(part) {
+        return put_octets(out, at, part);
+    }
     let (head, body) = parts_of(part);
     let middle = put_octets(out, at, &head);
     put_octets(out, middle, body)

@@ -1,6 +1,6 @@
 //! Octets that are written into a buffer.
 
-ghost use Rattle.std.specs.Prelude.{◌≡◌, ℕ, ◌+◌, ◌^◌, ◌<◌, ◌≤◌, length, map, IfSome, IfNone};
+ghost use Rattle.std.specs.Prelude.{◌≡◌, ℕ, ◌+◌, ◌^◌, ◌<◌, ◌≤◌, [], ◌∷◌, length, map, IfSome, IfNone};
 ghost use Rattle.std.specs.Char.{to_ascii_lowercase};
 ghost use Rattle.dns_fields.specs.{Labels.DomainName, Names.IsNameIn};
 ghost use Rattle.dns_view.specs.Putting.{Put, PutName, cased};
@@ -13,6 +13,9 @@ pub fn put_octets(out: &mut [u8], at: usize, octets: &[u8]) -> usize
     requires { at + length octets.now < 2 ^ 64 }
     ensures { Put out.old out.new at result octets.now }
 {
+    if octets.is_empty() {
+        return at;
+    }
     let end = at + octets.len();
     let size = out.len();
     if end <= size {
@@ -21,6 +24,18 @@ pub fn put_octets(out: &mut [u8], at: usize, octets: &[u8]) -> usize
         out[at..size].copy_from_slice(&octets[..size - at]);
     }
     end
+}
+
+// Writes the 0 that ends a name, if it fits, and returns the offset after it.
+#[inline]
+fn put_zero(out: &mut [u8], at: usize) -> usize
+    requires { at + 1 < 2 ^ 64 }
+    ensures { Put out.old out.new at result (0 ∷ []) }
+{
+    if at < out.len() {
+        out[at] = 0;
+    }
+    at + 1
 }
 
 #[inline]
@@ -91,6 +106,5 @@ pub fn put_name(
         octets = run.octets;
         next = run.next;
     }
-    let behind = put_octets(out, at, &[0]);
-    Some((end, behind))
+    Some((end, put_zero(out, at)))
 }

@@ -1,40 +1,51 @@
-use Rattle.std.proofs.Common.{refl, arith}
-use Rattle.dns_view.proofs.RowOrder.{skipped_inside}
-use Rattle.dns_view.proofs.PutLoop.{at_put_first, at_name, at_plain, at_coded, options_short, no_field, no_name, at_put_last}
-use Rattle.dns_view.proofs.canonical.put_row.Goals.{in-Name+in-Some, in_default+in-Ok+then-is_recoded, in_default+in-Ok+else-is_recoded}
+use Rattle.std.proofs.Common.{ℕ, drop, refl, subst, arith}
+use Rattle.dns_view.specs.RowOrder.{ArePlain}
+use Rattle.dns_view.proofs.RowOrder.{row_inside, to_recode}
+use Rattle.dns_view.proofs.PutLoop.{put_first, put_last, plain_put, no_plain, name_put, no_name, name_within, coded_put}
+use Rattle.dns_view.proofs.canonical.put_row.Goals.{then-is_plain+in_ok-here, else-is_plain+in-Name+in_ok-next-in-Name+else-end-next}
 use Rattle.dns_view.proofs.canonical.put_row.Goals as goal
 
 pub fields-init : goal.fields-init
-fields-init c = at_put_first c.args.len c.requires.row.ordered c.requires.row.covered c.requires.inside c.at-walk.ensures
+fields-init c = put_first c.requires.row.ordered (omega arith) (omega (arith, c.if-message-end.false))
 
-pub returns-in-None : goal.returns-in-None
-returns-in-None c = λ h. no_name _ c.fields.invariant c.fields-test.true c.in-Name.is (rw c.index-here.ensures.offset at c.in-None.ensures.none) h
+pub returns-then-message-end : goal.returns-then-message-end
+returns-then-message-end c = λ h. omega (arith, row_inside c.args.row.now c.requires.inside h, c.if-message-end.true)
 
-pub returns-in-Err : goal.returns-in-Err
-returns-in-Err c = λ h. no_field _ c.fields.invariant c.fields-test.true c.in-Err.ensures h
+pub returns-in_err-here : goal.returns-in_err-here
+returns-in_err-here c = λ h. rw c.from_residual.ensures
+    (no_plain _ _ c.fields.invariant (omega (arith, c.fields-test.true, c.fields_to_visit-index-end.ensures.within)) refl
+    (c.if-is_plain.ensures.yes refl) c.in_err-here.ensures.none h)
+
+pub returns-in_err-next-in-Name : goal.returns-in_err-next-in-Name
+returns-in_err-next-in-Name c = λ h. rw c.from_residual-in_err-next-in-Name.ensures
+    (no_name _ _ c.fields.invariant (omega (arith, c.fields-test.true, c.fields_to_visit-index-end.ensures.within)) refl
+    c.in-Name.is c.put_octets-middle.ensures c.in_err-next-in-Name.ensures.none h)
+
+pub returns-then-end-next : goal.returns-then-end-next
+returns-then-end-next c = λ h.
+    let within = name_within _ _ c.fields.invariant (omega (arith, c.fields-test.true, c.fields_to_visit-index-end.ensures.within)) refl
+    c.in-Name.is c.put_octets-middle.ensures c.in_ok-next-in-Name.ensures.some h in
+    omega (arith, within, c.if-end-next.true)
+
+pub returns-in_default : goal.returns-in_default
+returns-in_default c =
+    let coded = to_recode _ (c.if-is_plain.ensures.no refl) c.in_default.not-Name in
+    coded_put _ _ c.fields.invariant (omega (arith, c.fields-test.true, c.fields_to_visit-index-end.ensures.within)) refl
+    coded c.put_octets-middle.ensures c.put_recoded.ensures
 
 pub fields-preserved : goal.fields-preserved
-fields-preserved c = elim c.match-part.branch [
-  | in-Name+in-Some w ↦ rw (w.out-is, w.at-is, w.from-is, w.walk-is, w.at-walk-in-Some.ensures) (let h = w.in-Some in
-      at_name _ c.fields.invariant c.fields-test.true w.in-Name.is (rw c.index-here.ensures.offset at w.put_octets-middle.ensures)
-      (rw c.index-here.ensures.offset at w.in-Some.ensures.some) w.in-Some.ensures.few refl)
-  | in_default+in-Ok+then-is_recoded w ↦ rw (w.out-is, w.at-is, w.from-is, w.walk-is, w.index-from.ensures.offset)
-      (let coded = w.if-is_recoded.ensures.yes refl in
-      at_coded _ c.fields.invariant c.fields-test.true coded w.in-Ok.ensures (rw c.index-here.ensures.offset at w.put_octets-flushed.ensures)
-      (rw (c.index-here.ensures.offset, w.index-from.ensures.offset) at w.put_recoded-at.ensures.put)
-      (rw (c.index-here.ensures.offset, w.index-from.ensures.offset) at w.put_recoded-at.ensures.few))
-  | in_default+in-Ok+else-is_recoded w ↦ rw (w.out-is, w.at-is, w.from-is, w.walk-is)
-      (at_plain _ c.fields.invariant c.fields-test.true w.in_default.not-Name (w.if-is_recoded.ensures.no refl) w.in-Ok.ensures)
+fields-preserved c = elim c.if-is_plain.branch [
+  | then-is_plain+in_ok-here w ↦ rw (w.out-is, w.at-is, w.from-is, w.here-is)
+      (plain_put _ _ c.fields.invariant (omega (arith, c.fields-test.true, c.fields_to_visit-index-end.ensures.within)) refl
+      (w.if-is_plain.ensures.yes refl) w.in_ok-here.ensures.some w.in_ok-here.ensures.range)
+  | else-is_plain+in-Name+in_ok-next-in-Name+else-end-next w ↦ rw (w.out-is, w.at-is, w.from-is, w.here-is)
+      (name_put _ _ c.fields.invariant (omega (arith, c.fields-test.true, c.fields_to_visit-index-end.ensures.within)) refl
+      w.in-Name.is w.put_octets-middle.ensures w.in_ok-next-in-Name.ensures.some w.in_ok-next-in-Name.ensures.few
+      (omega (arith, w.if-end-next.false)))
 ]
 
 pub returns : goal.returns
-returns c = λ h. at_put_last c.fields.invariant c.fields-test.false (rw c.index.ensures.offset at c.put_octets.ensures) h
-
-pub put_recoded-at-requires-clause-field : goal.put_recoded-at-requires-clause-field
-put_recoded-at-requires-clause-field c =
-    let s = skipped_inside c.fields.invariant.so.same c.in-Ok.ensures in
-    (omega (arith, s.0, c.index-here.ensures.offset, c.index-from.ensures.offset), omega (arith, s.1, c.index-from.ensures.offset))
-
-pub put_recoded-at-requires-clause-short : goal.put_recoded-at-requires-clause-short
-put_recoded-at-requires-clause-short c = rw (c.index-here.ensures.offset, c.index-from.ensures.offset)
-    (options_short (omega (arith, c.fields.invariant.so.before, c.fields.invariant.so.further)) c.requires.short c.in-Ok.ensures)
+returns c =
+    let all : ArePlain (drop c.fields.index c.args.row.now) = subst (λ (n : ℕ). ArePlain (drop n c.args.row.now))
+    (omega (arith, c.fields.auto.index-end, c.fields-test.false)) c.fields_to_visit-index-end.ensures.plain in
+    put_last c.fields.invariant all c.put_octets.ensures

@@ -1,6 +1,6 @@
 use Rattle.std.proofs.Common.{refl, arith}
 use Rattle.dns_view.proofs.FieldAt.{number_shown, number_missing, octets_shown, name_shown, string_shown, string_missing, strings_shown, rest_shown}
-use Rattle.dns_view.proofs.FieldAt.{options_shown, parameters_shown, bitmap_shown, name_there}
+use Rattle.dns_view.proofs.FieldAt.{options_shown, parameters_shown, bitmap_shown}
 use Rattle.dns_view.proofs.field.show_field.Goals as goal
 
 pub returns-in-Some : goal.returns-in-Some
@@ -13,7 +13,7 @@ pub returns-in-Octets : goal.returns-in-Octets
 returns-in-Octets c = octets_shown _ c.in-Octets.is refl
 
 pub at-requires-clause-named : goal.at-requires-clause-named
-at-requires-clause-named c = name_there c.in-Name.is c.requires.there
+at-requires-clause-named c = c.requires.named c.in-Name.is
 
 pub returns-in-Name : goal.returns-in-Name
 returns-in-Name c = name_shown _ c.in-Name.is c.at.ensures.message c.at.ensures.offset

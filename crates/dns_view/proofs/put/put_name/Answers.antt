@@ -32,4 +32,4 @@ runs-preserved c =
     )
 
 pub returns-clause-some : goal.returns-clause-some
-returns-clause-some c = putting_last (rw c.in_default.is at c.runs.invariant.0) c.put_octets-behind.ensures
+returns-clause-some c = putting_last (rw c.in_default.is at c.runs.invariant.0) c.put_zero.ensures
