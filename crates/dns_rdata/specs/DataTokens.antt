@@ -13,7 +13,8 @@ use Rattle.dns_rdata_base.specs as base
 use Rattle.dns_rdata_certs.specs as certs
 use Rattle.dns_rdata_service.specs as service
 use Rattle.dns_rdata_caa_csync.specs as caa_csync
-use Rattle.dns_rdata.specs.{declared.record_data.RData.RData, Data.shape, Data.IsValue, Data.type_of, Texts.text_of}
+use Rattle.dns_rows.specs.Table.{TypeRow, fields, formatless, unread, table, kinds_of}
+use Rattle.dns_rdata.specs.{declared.record_data.RData.RData, Data.parts_of, Data.shape, Data.IsValue, Data.type_of, Texts.text_of}
 use Rattle.dns_rdata.specs.declared.record_data.RData.TheVariants as rdata
 
 -- the tokens of this SVCB, in keys and values as a caller sees them (RFC 9460, 2.1); an origin completes no name
@@ -37,31 +38,33 @@ pub data TokenReading : List Kind → Type 1 where
   own : {kinds : List Kind} → (RData → List (List ℕ) → Type 0) → TokenReading kinds
   refused : {kinds : List Kind} → TokenReading kinds
 
--- the tokens of each type; for ZERO no token is read, and types that are not named here have no tokens
+-- numbers and names, a token for each; RDATA without a format has no tokens
+abbrev pub row_reading : Option DomainName → (r : TypeRow) → TokenReading (kinds_of (parts_of r))
+row_reading origin (fields parts) = by (straight_tokens origin (kinds_of parts))
+row_reading origin formatless = refused
+row_reading origin unread = refused
+
+-- The tokens of each type; for ZERO no token is read. A type that is not named here has those of its row.
 abbrev pub reading_of : Option DomainName → (t : RecordType) → TokenReading (shape t)
 reading_of origin types.A = by base.A.a_tokens
 reading_of origin types.AAAA = by base.AAAA.aaaa_tokens
-reading_of origin types.ANAME = by (straight_tokens origin base.NameRecords.name_shape)
 reading_of origin types.CAA = by caa_csync.TokenRows.caa_tokens
 reading_of origin types.CERT = by certs.TokenRows.cert_tokens
-reading_of origin types.CNAME = by (straight_tokens origin base.NameRecords.name_shape)
 reading_of origin types.CSYNC = by caa_csync.TokenRows.csync_tokens
 reading_of origin types.HINFO = by base.HINFO.hinfo_tokens
 reading_of origin types.HTTPS = own HasHttpsTokens
-reading_of origin types.MX = by (straight_tokens origin base.NameRecords.mx_facts.kinds)
 reading_of origin types.NAPTR = by (base.NAPTR.naptr_tokens origin)
-reading_of origin types.NS = by (straight_tokens origin base.NameRecords.name_shape)
 reading_of origin types.OPENPGPKEY = by base.OPENPGPKEY.openpgpkey_tokens
-reading_of origin types.PTR = by (straight_tokens origin base.NameRecords.name_shape)
 reading_of origin types.SMIMEA = by certs.TokenRows.tlsa_tokens
 reading_of origin types.SOA = by (base.SOA.soa_tokens origin)
-reading_of origin types.SRV = by (straight_tokens origin base.NameRecords.srv_facts.kinds)
 reading_of origin types.SSHFP = by certs.TokenRows.sshfp_tokens
 reading_of origin types.SVCB = own HasSvcbTokens
 reading_of origin types.TLSA = by certs.TokenRows.tlsa_tokens
 reading_of origin types.TXT = by base.TXT.txt_tokens
 reading_of origin types.ZERO = by ignored
-reading_of origin t = refused
+reading_of origin types.NULL = refused
+reading_of origin types.OPT = refused
+reading_of origin t = row_reading origin (table t)
 
 -- the tokens have these fields by the token row, and so has the value
 pub record StandIn (t : RecordType) (token_row : TokenRow (shape t)) (v : RData) (tokens : List (List ℕ)) : Type 0 where

@@ -5,7 +5,7 @@ use Rattle.dns_types.specs.declared.error.DecodeError.TheVariants as decode
 use Rattle.dns_types.specs.declared.record_type.RecordType.TheVariants as types
 use Rattle.dns_fields.specs.{Fields.Values, declared.Kind.Kind, declared.Kind.TheVariants.CharacterStrings}
 use Rattle.dns_fields.specs.declared.Kind.TheVariants.{Rest, Options, Parameters, Bitmap}
-use Rattle.dns_rows.specs.Table.{TypeRow, table, kinds_of}
+use Rattle.dns_rows.specs.Table.{TypeRow, fields, formatless, unread, table, kinds_of}
 use Rattle.dns_names_wire.specs.{State.Reading, Terms.Took, Terms.UnlessMemory}
 use Rattle.dns_rdata_base.specs as base
 use Rattle.dns_rdata_certs.specs as certs
@@ -18,36 +18,33 @@ use Rattle.dns_rdata.specs.Data.{parts_of, MeetsRule, IsNeverRead}
 abbrev pub never_read : RecordType → ℕ → Reading → DecodeError → Reading → Type 0
 never_read t n old e new = (e ≡ decode.UnknownRecordTypeValue (number_of t)) × (new ≡ old)
 
--- the errors of each record's own reader for n octets of RDATA, with their cause, and where the decoder is then
+-- the errors of numbers and names one after the other, of RDATA without a format, and of a type that is never read
+abbrev pub row_rejects : RecordType → TypeRow → ℕ → Reading → DecodeError → Reading → Type 0
+row_rejects t (fields parts) n = base.FieldErrors.IsLack (kinds_of parts)
+row_rejects t formatless n = base.NULL.null_facts.rejects n
+row_rejects t unread n = never_read t n
+
+-- The errors of each record's own reader for n octets of RDATA, with their cause, and where the decoder is then. A type
+-- that is not named here has those of its row.
 abbrev pub rejects_of : RecordType → ℕ → Reading → DecodeError → Reading → Type 0
 rejects_of types.A = base.A.a_facts.rejects
 rejects_of types.AAAA = base.AAAA.aaaa_facts.rejects
-rejects_of types.ANAME = base.NameRecords.aname_facts.rejects
 rejects_of types.CAA = caa_csync.CAA.caa_facts.rejects
 rejects_of types.CERT = certs.CERT.cert_facts.rejects
-rejects_of types.CNAME = base.NameRecords.cname_facts.rejects
 rejects_of types.CSYNC = caa_csync.CSYNC.csync_facts.rejects
 rejects_of types.HINFO = base.HINFO.hinfo_facts.rejects
 rejects_of types.HTTPS = service.HTTPS.https_facts.rejects
-rejects_of types.MX = base.NameRecords.mx_facts.rejects
 rejects_of types.NAPTR = base.NAPTR.naptr_facts.rejects
 rejects_of types.NULL = base.NULL.null_facts.rejects
-rejects_of types.NS = base.NameRecords.ns_facts.rejects
 rejects_of types.OPENPGPKEY = base.OPENPGPKEY.openpgpkey_facts.rejects
 rejects_of types.OPT = options.OPT.opt_facts.rejects
-rejects_of types.PTR = base.NameRecords.ptr_facts.rejects
 rejects_of types.SMIMEA = certs.SMIMEA.smimea_facts.rejects
-rejects_of types.SOA = base.SOA.soa_facts.rejects
-rejects_of types.SRV = base.NameRecords.srv_facts.rejects
 rejects_of types.SSHFP = certs.SSHFP.sshfp_facts.rejects
 rejects_of types.SVCB = service.SVCB.svcb_facts.rejects
 rejects_of types.TLSA = certs.TLSA.tlsa_facts.rejects
 rejects_of types.TXT = base.TXT.txt_facts.rejects
 rejects_of types.ZERO = λ n old e new. ⊥
-rejects_of types.ANY = never_read types.ANY
-rejects_of types.AXFR = never_read types.AXFR
-rejects_of types.IXFR = never_read types.IXFR
-rejects_of t = base.NULL.null_facts.rejects
+rejects_of t = row_rejects t (table t)
 
 abbrev pub OwnError : RecordType → ℕ → Reading → Reading → DecodeError → Type 0
 OwnError t n old new e = rejects_of t n old e new

@@ -1,34 +1,28 @@
 -- The display texts of RDATA.
 use Rattle.std.specs.Prelude.{ℕ, Option, Some, None, List, [], ⊤, codes}
-use Rattle.dns_tokens.specs.Straight.{straight_text}
+use Rattle.dns_tokens.specs.Straight.{field_texts, spaced}
 use Rattle.dns_rdata_base.specs as base
 use Rattle.dns_rdata_certs.specs as certs
 use Rattle.dns_rdata_service.specs as service
 use Rattle.dns_rdata_caa_csync.specs as caa_csync
-use Rattle.dns_rdata.specs.declared.record_data.RData.{RData}
+use Rattle.dns_rdata.specs.{declared.record_data.RData.RData, Data.fields_of}
 use Rattle.dns_rdata.specs.declared.record_data.RData.TheVariants as rdata
 
--- the text of each value, except those of OPT
+-- The text of each value, except those of OPT: its numbers and names, a blank between two, unless its type is named here.
 abbrev pub text_of : RData → List ℕ
 text_of (rdata.A x) = base.A.a_text x
 text_of (rdata.AAAA x) = base.AAAA.aaaa_text x
-text_of (rdata.ANAME x) = straight_text base.NameRecords.aname_facts x
 text_of (rdata.CAA x) = caa_csync.CAA.caa_text x
 text_of (rdata.CERT x) = certs.CERT.cert_text x
-text_of (rdata.CNAME x) = straight_text base.NameRecords.cname_facts x
 text_of (rdata.CSYNC x) = caa_csync.CSYNC.csync_text x
 text_of (rdata.HINFO x) = base.HINFO.hinfo_text x
 text_of (rdata.HTTPS x) = service.SVCB.svcb_text x.0
-text_of (rdata.MX x) = straight_text base.NameRecords.mx_facts x
 text_of (rdata.NAPTR x) = base.NAPTR.naptr_text x
 text_of (rdata.NULL x) = base.NULL.null_text x
-text_of (rdata.NS x) = straight_text base.NameRecords.ns_facts x
 text_of (rdata.OPENPGPKEY x) = base.OPENPGPKEY.openpgpkey_text x
 text_of (rdata.OPT x) = []
-text_of (rdata.PTR x) = straight_text base.NameRecords.ptr_facts x
 text_of (rdata.SMIMEA x) = certs.TLSA.tlsa_text x.0
 text_of (rdata.SOA x) = base.SOA.soa_text x
-text_of (rdata.SRV x) = straight_text base.NameRecords.srv_facts x
 text_of (rdata.SSHFP x) = certs.SSHFP.sshfp_text x
 text_of (rdata.SVCB x) = service.SVCB.svcb_text x
 text_of (rdata.TLSA x) = certs.TLSA.tlsa_text x
@@ -36,6 +30,7 @@ text_of (rdata.TXT x) = base.TXT.txt_text x
 text_of (rdata.Unknown code x) = base.NULL.null_text x
 text_of (rdata.Update0 t) = codes "UPDATE"
 text_of rdata.ZERO = []
+text_of v = spaced (field_texts (fields_of v).kinds (fields_of v).values)
 
 -- OPT has no text
 abbrev pub data_text : RData → Option (List ℕ)
