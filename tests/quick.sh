@@ -57,6 +57,7 @@ done
 wait
 good=0 bad=0
 for file in "$dir"/*.program "$dir"/*.tests; do
+  [ -f "$file" ] || continue
   read -r one other <"$file"
   good=$((good + one)) bad=$((bad + other))
 done
