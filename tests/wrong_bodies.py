@@ -13,6 +13,7 @@ An edit has lines `file: FILE`, `old: TEXT` and `new: TEXT`: each TEXT of `old` 
 printed is 'N as wanted, M not'.
 """
 import os
+import pathlib
 import re
 import shutil
 import subprocess
@@ -166,6 +167,18 @@ def try_crate(crates, folder, name, edits):
     return good
 
 
+def misplaced(names):
+    """Of the edits that name no function, which are not tried here, those whose text is not in its file exactly once."""
+    for it in names:
+        for edit in sorted(os.listdir(f"{EDITS}/{it}")):
+            only, changes = read_edit(f"{EDITS}/{it}/{edit}")
+            for file, old, _ in [] if only else changes:
+                path = pathlib.Path(f"{TOP}/crates/{it}/{file}")
+                count = path.read_text(encoding="utf-8").count(old) if path.is_file() else 0
+                if count != 1:
+                    yield f"{it} {edit}: the text is in {file} {count} times: {old}"
+
+
 def by_function(names):
     """Tries the edits of these crates that name a function."""
     crates, folder = libraries(), kit()
@@ -179,7 +192,10 @@ def by_function(names):
     order = sorted((it for it in names if edits[it]), key=lambda it: -len(edits[it]))
     with ThreadPoolExecutor(int(os.environ.get("RT_JOBS") or os.cpu_count() or 1)) as lanes:
         good = sum(lanes.map(lambda it: try_crate(crates, folder, it, edits[it]), order))
-    return good, many - good
+    lost = list(misplaced(names))
+    for line in lost:
+        print(line)
+    return good, many - good + len(lost)
 
 
 def by_crate(names):
