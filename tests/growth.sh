@@ -2,7 +2,8 @@
 # How the time of options and parameters grows with their number, each of four octets: nanoseconds an octet of the data, for
 # reading, emitting into a fresh encoder, and `==`. Then, for records of options in no order, the microseconds of one call:
 # reading, `==`, hash, `cmp` of equal records and of records whose last options differ, canonical octets one by one, the last
-# of them, and all of them copied. A line with more than 10 ms says so. At last texts of 4,000 to 65,000 octets: the nanoseconds
+# of them, and all of them copied. A line with more than 10 ms says so. Then large RDATA that is looked at in the message: nanoseconds
+# an octet of reading a view, its canonical octets, and the order of it and a next one. At last texts of 4,000 to 65,000 octets: the nanoseconds
 # an octet of the text of reading them by `try_from_str` (where the type is read so) and by `from_zone_text`. It runs the built
 # benchmark (crates/rdata_bench, after `rt run` there).
 set -u
@@ -26,6 +27,25 @@ done
   NF = 10
   print $0 (slow ? "\tover 10 ms" : "")
 }'
+# RDATA of so many items of eight octets each: options in no order, parameters, strings, windows of a bitmap in no order.
+view() { # TYPE COUNT
+  awk -v kind="$1" -v count="$2" 'BEGIN {
+    octets = kind == "SVCB" ? "000100" : kind == "CSYNC" ? "000000000003" : ""
+    for (i = 0; i < count; i++) {
+      if (kind == "OPT") octets = octets sprintf("%04x000401020304", i * 40503 % 65536)
+      if (kind == "SVCB") octets = octets sprintf("%04x000401020304", i + 100)
+      if (kind == "TXT") octets = octets "0701020304050607"
+      if (kind == "CSYNC") octets = octets sprintf("%02x06010203040540", i * 101 % 256)
+    }
+    print kind, 0, length(octets) / 2, octets
+  }'
+}
+for kind in OPT SVCB TXT CSYNC; do
+  for count in 128 1024 8000; do
+    view "$kind" "$count" | "$bench" views $((400000 / count)) |
+      awk -v count="$count" -v len="$((8 * count))" 'NR == 2 { printf "%s\t%d\tview read %.2f\tcanonical %.2f\tcompared with a next one %.2f\n", $1, count, $2 / len, $3 / len, $7 / len }'
+  done
+done
 # A line with a text of about so many octets.
 text() { # TYPE OCTETS
   awk -v kind="$1" -v octets="$2" 'BEGIN {
