@@ -21,6 +21,7 @@ pub mod Bitmaps
 pub mod RowTests
 pub mod Splits
 pub mod ValueForms
+pub mod HeldLists
 pub mod ParameterLists
 pub mod ParameterSteps
 pub mod Subnets

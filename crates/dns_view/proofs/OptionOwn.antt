@@ -9,7 +9,7 @@ use Rattle.dns_fields.specs.Tlvs.{OptionValue, Subnet, OpaqueOption, OptionHeld,
 use Rattle.dns_fields.proofs.{Numbers.length-bytes, Tlvs.length-tlv}
 use Rattle.dns_canonical.proofs.{Fronts.front_then, Comparing.then_kept}
 use Rattle.dns_view.specs.{Parameters.IsTlvAt, OptionOctets.value_size, OptionOctets.option_at, OptionOctets.subnet_size, OptionOctets.is_subnet, OptionOctets.own_octets}
-use Rattle.dns_view.proofs.{ParameterOrder.size_there, Alone.between_is}
+use Rattle.dns_view.proofs.{HeldLists.size_there, Alone.between_is}
 
 -- ---- client subnets
 

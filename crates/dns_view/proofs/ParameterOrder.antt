@@ -1,27 +1,14 @@
 -- How two lists of parameters are ordered by their canonical octets.
-use Rattle.std.proofs.Common.{◌≡◌, ◌≢◌, ℕ, ◌+◌, ◌-◌, ◌^◌, ◌≤◌, ◌<◌, List, [], ◌∷◌, ◌++◌, length, take, drop, get_or, refl, sym, ap, ◌∙◌, arith, subst}
-use Rattle.std.proofs.Common.{append_assoc}
-use Rattle.std.proofs.lemmas.{List.length-append, List.get_or-drop, Nat.from_be_bytes-to_be_bytes_2, Map.Lookups.exact_bytes}
-use Rattle.std.specs.{Int.bytes_high_first, Int.from_be_bytes, Int.w16, Cmp.Lexicographic.slice_cmp, Ordering.nat_cmp, Ordering.ordering_then}
+use Rattle.std.proofs.Common.{◌≡◌, ◌≢◌, ℕ, ◌-◌, ◌^◌, ◌≤◌, ◌<◌, List, [], ◌++◌, length, take, drop, refl, sym, ap, ◌∙◌, arith, append_assoc}
+use Rattle.std.proofs.lemmas.{List.length-append, Map.Lookups.exact_bytes}
+use Rattle.std.specs.{Int.bytes_high_first, Cmp.Lexicographic.slice_cmp, Ordering.nat_cmp, Ordering.ordering_then}
 use Rattle.std.specs.declared.cmp.Ordering.{Ordering, TheVariants.Less, TheVariants.Equal, TheVariants.Greater}
 use Rattle.dns_fields.specs.{Fields.Value, Fields.Field, Fields.field_octets, Fields.parameter_tlvs, declared.Kind.TheVariants.Parameters}
 use Rattle.dns_fields.specs.Tlvs.{Numbered, ParameterValue, ParameterHeld, IsTlv, tlv, tlvs, parameter_octets}
-use Rattle.dns_fields.proofs.{Numbers.length-bytes, Numbers.same_number, Tlvs.tlv_before, Tlvs.length-tlv, Tlvs.parts, ParameterLaws.parameter_fit}
+use Rattle.dns_fields.proofs.{Numbers.length-bytes, Numbers.same_number, Tlvs.tlv_before, Tlvs.parts, ParameterLaws.parameter_fit}
 use Rattle.dns_canonical.proofs.{Fronts.front_then, Comparing.then_kept}
-use Rattle.dns_view.specs.Parameters.{IsTlvAt}
-use Rattle.dns_view.proofs.{ParameterLists.StandEach, ParameterLists.OneOf, ParameterLists.parameters_each, Splits.at_split}
-use Rattle.dns_view.proofs.{Alone.between_is}
-
--- the length of a part that is encoded there
-pub size_there : {octets body : List ℕ} {offset key to n : ℕ} → IsTlvAt octets offset key body to
-    → n ≡ from_be_bytes w16 (get_or octets (offset + 2) 0 ∷ get_or octets (offset + 3) 0 ∷ []) → to ≡ offset + 4 + n
-size_there {octets} {body} {offset} {key} {to} {n} o e =
-    let size = bytes_high_first 2 (length body) in
-    let front = sym (at_split o.at) in
-    let high : get_or size 0 0 ≡ get_or octets (offset + 2) 0 = ap (λ (s : List ℕ). get_or s 2 0) front ∙ get_or-drop offset octets 2 0 in
-    let low : get_or size 1 0 ≡ get_or octets (offset + 3) 0 = ap (λ (s : List ℕ). get_or s 3 0) front ∙ get_or-drop offset octets 3 0 in
-    let same : n ≡ length body = e ∙ (λ i. from_be_bytes w16 (sym high i ∷ sym low i ∷ [])) ∙ from_be_bytes-to_be_bytes_2 (length body) o.fits.1 in
-    omega (arith, o.at.ends, length-tlv (key, body), same)
+use Rattle.dns_view.proofs.{ParameterLists.StandEach, ParameterLists.OneOf, ParameterLists.parameters_each, Alone.between_is}
+use Rattle.dns_view.proofs.HeldLists.{EndsAt, NoTlv, FirstOf, first_of, none_left}
 
 -- ---- two parameters
 
@@ -70,49 +57,18 @@ both_first a b = record {
   only = λ u v f g. record { xs = u; ys = v; left = parameters_each f; right = parameters_each g; same = refl };
 }
 
--- the next part's end
-pub record EndsAt (octets : List ℕ) (offset end : ℕ) : Type 0 where
-  pub room : (offset + 4 ≤ end) × (end ≤ length octets)
-  pub is : (key : ℕ) (body : List ℕ) (to : ℕ) → IsTlvAt octets offset key body to → end ≡ to
+-- ---- the next parameter
 
--- no part is there
-abbrev pub NoTlv : List ℕ → ℕ → Type 0
-NoTlv octets offset = (key : ℕ) (body : List ℕ) (to : ℕ) → IsTlvAt octets offset key body to → ⊥
+abbrev pub NextOf : List ℕ → ℕ → ℕ → List (Numbered ParameterValue) → Type 0
+NextOf = FirstOf ParameterHeld
 
-tlv_of : {octets : List ℕ} {offset to : ℕ} {x : Numbered ParameterValue} (o : OneOf octets offset x to) → IsTlvAt octets offset x.0 o.octets to
-tlv_of o = record { at = o.at; fits = o.fits }
+pub next_octets : {octets : List ℕ} {offset end : ℕ} {all : List (Numbered ParameterValue)} (x : NextOf octets offset end all)
+    → tlvs (parameter_tlvs all) ≡ tlv (x.first.0, parameter_octets x.first.1) ++ tlvs (parameter_tlvs x.rest)
+next_octets x = ap (λ (xs : List (Numbered ParameterValue)). tlvs (parameter_tlvs xs)) x.is
 
-pub none_left : {octets : List ℕ} {offset : ℕ} (xs : List (Numbered ParameterValue)) → StandEach OneOf octets offset xs (length octets) → NoTlv octets offset
-    → xs ≡ []
-none_left [] s none = refl
-none_left (x ∷ xs) s none = absurd (none x.0 s.1.octets s.0 (tlv_of s.1))
-
--- the first of those that are left
-pub record FirstOf (octets : List ℕ) (offset end : ℕ) (all : List (Numbered ParameterValue)) : Type 0 where
-  pub first : Numbered ParameterValue
-  pub rest : List (Numbered ParameterValue)
-  pub one : OneOf octets offset first end
-  pub stand : StandEach OneOf octets end rest (length octets)
-  pub same : tlvs (parameter_tlvs all) ≡ tlv (first.0, parameter_octets first.1) ++ tlvs (parameter_tlvs rest)
-  pub part : take (end - offset) (drop offset octets) ≡ tlv (first.0, one.octets)
-  pub short : length (parameter_octets first.1) < 256 ^ 2
-
-pub first_of : {octets : List ℕ} {offset end : ℕ} (xs : List (Numbered ParameterValue)) → StandEach OneOf octets offset xs (length octets)
-    → EndsAt octets offset end
-    → FirstOf octets offset end xs
-first_of [] s e = absurd (omega (arith, e.room.0, e.room.1, s))
-first_of {octets} {offset} {end} (x ∷ xs) s e =
-    let there : s.0 ≡ end = sym (e.is x.0 s.1.octets s.0 (tlv_of s.1)) in
-    let o : OneOf octets offset x end = subst (λ (k : ℕ). OneOf octets offset x k) there s.1 in
-    record {
-      first = x;
-      rest = xs;
-      one = o;
-      stand = subst (λ (k : ℕ). StandEach OneOf octets k xs (length octets)) there s.2;
-      same = refl;
-      part = between_is o.at;
-      short = (parameter_fit x.0 o.octets x.1 o.fits.0 o.fits.1 o.held).0.1;
-    }
+short : {octets : List ℕ} {offset end : ℕ} {all : List (Numbered ParameterValue)} (x : NextOf octets offset end all)
+    → length (parameter_octets x.first.1) < 256 ^ 2
+short x = (parameter_fit x.first.0 x.one.octets x.first.1 x.one.fits.0 x.one.fits.1 x.one.held).0.1
 
 -- ---- what the code knows of two parts
 
@@ -124,31 +80,28 @@ abbrev pub BodyOf : List ℕ → List ℕ → Type 0
 BodyOf part s = (key : ℕ) (body : List ℕ) (v : ParameterValue) → part ≡ tlv (key, body) → IsTlv (key, body) → ParameterHeld key body v
     → s ≡ parameter_octets v
 
-between : List ℕ → ℕ → ℕ → List ℕ
-between octets offset end = take (end - offset) (drop offset octets)
-
-whole_cmp : {a b : List ℕ} {i p j q : ℕ} {xs ys : List (Numbered ParameterValue)} (f : FirstOf a i p xs) (g : FirstOf b j q ys)
+whole_cmp : {a b : List ℕ} {i p j q : ℕ} {xs ys : List (Numbered ParameterValue)} (f : NextOf a i p xs) (g : NextOf b j q ys)
     → slice_cmp nat_cmp (tlvs (parameter_tlvs xs)) (tlvs (parameter_tlvs ys))
     ≡ ordering_then (slice_cmp nat_cmp (head f.first.0 (parameter_octets f.first.1)) (head g.first.0 (parameter_octets g.first.1)))
     (slice_cmp nat_cmp (parameter_octets f.first.1 ++ tlvs (parameter_tlvs f.rest)) (parameter_octets g.first.1 ++ tlvs (parameter_tlvs g.rest)))
 whole_cmp {ys = ys} f g =
-    ap (λ (s : List ℕ). slice_cmp nat_cmp s (tlvs (parameter_tlvs ys))) f.same
-    ∙ ap (λ (s : List ℕ). slice_cmp nat_cmp (tlv (f.first.0, parameter_octets f.first.1) ++ tlvs (parameter_tlvs f.rest)) s) g.same
+    ap (λ (s : List ℕ). slice_cmp nat_cmp s (tlvs (parameter_tlvs ys))) (next_octets f)
+    ∙ ap (λ (s : List ℕ). slice_cmp nat_cmp (tlv (f.first.0, parameter_octets f.first.1) ++ tlvs (parameter_tlvs f.rest)) s) (next_octets g)
     ∙ heads_then f.first.0 g.first.0 (parameter_octets f.first.1) (parameter_octets g.first.1) (tlvs (parameter_tlvs f.rest)) (tlvs (parameter_tlvs g.rest))
 
-heads_are : {a b h k : List ℕ} {i p j q : ℕ} {xs ys : List (Numbered ParameterValue)} (f : FirstOf a i p xs) (g : FirstOf b j q ys)
+heads_are : {a b h k : List ℕ} {i p j q : ℕ} {xs ys : List (Numbered ParameterValue)} (f : NextOf a i p xs) (g : NextOf b j q ys)
     → HeadOf (take (p - i) (drop i a)) h → HeadOf (take (q - j) (drop j b)) k
     → slice_cmp nat_cmp h k ≡ slice_cmp nat_cmp (head f.first.0 (parameter_octets f.first.1)) (head g.first.0 (parameter_octets g.first.1))
 heads_are {k = k} f g x y =
-    ap (λ (s : List ℕ). slice_cmp nat_cmp s k) (x f.first.0 f.one.octets f.first.1 f.part f.one.fits f.one.held)
-    ∙ ap (λ (s : List ℕ). slice_cmp nat_cmp (head f.first.0 (parameter_octets f.first.1)) s) (y g.first.0 g.one.octets g.first.1 g.part g.one.fits g.one.held)
+    ap (λ (s : List ℕ). slice_cmp nat_cmp s k) (x f.first.0 f.one.octets f.first.1 (between_is f.one.at) f.one.fits f.one.held)
+    ∙ ap (λ (s : List ℕ). slice_cmp nat_cmp (head f.first.0 (parameter_octets f.first.1)) s) (y g.first.0 g.one.octets g.first.1 (between_is g.one.at) g.one.fits g.one.held)
 
-bodies_are : {a b s t : List ℕ} {i p j q : ℕ} {xs ys : List (Numbered ParameterValue)} (f : FirstOf a i p xs) (g : FirstOf b j q ys)
+bodies_are : {a b s t : List ℕ} {i p j q : ℕ} {xs ys : List (Numbered ParameterValue)} (f : NextOf a i p xs) (g : NextOf b j q ys)
     → BodyOf (take (p - i) (drop i a)) s → BodyOf (take (q - j) (drop j b)) t
     → slice_cmp nat_cmp s t ≡ slice_cmp nat_cmp (parameter_octets f.first.1) (parameter_octets g.first.1)
 bodies_are {t = t} f g x y =
-    ap (λ (r : List ℕ). slice_cmp nat_cmp r t) (x f.first.0 f.one.octets f.first.1 f.part f.one.fits f.one.held)
-    ∙ ap (λ (r : List ℕ). slice_cmp nat_cmp (parameter_octets f.first.1) r) (y g.first.0 g.one.octets g.first.1 g.part g.one.fits g.one.held)
+    ap (λ (r : List ℕ). slice_cmp nat_cmp r t) (x f.first.0 f.one.octets f.first.1 (between_is f.one.at) f.one.fits f.one.held)
+    ∙ ap (λ (r : List ℕ). slice_cmp nat_cmp (parameter_octets f.first.1) r) (y g.first.0 g.one.octets g.first.1 (between_is g.one.at) g.one.fits g.one.held)
 
 -- what a comparison says
 abbrev pub Orders : Ordering → List ℕ → List ℕ → Type 0
@@ -166,7 +119,7 @@ heads_differ {o = o} both e f x y is ne = λ u v l r.
     then_kept o rest ne ∙ ap (λ (z : Ordering). ordering_then z rest) (is ∙ heads_are m n x y) ∙ sym (whole_cmp m n) ∙ sym t.same
 
 -- with heads that are the same
-after_heads : {a b h k : List ℕ} {i p j q : ℕ} {xs ys : List (Numbered ParameterValue)} (f : FirstOf a i p xs) (g : FirstOf b j q ys)
+after_heads : {a b h k : List ℕ} {i p j q : ℕ} {xs ys : List (Numbered ParameterValue)} (f : NextOf a i p xs) (g : NextOf b j q ys)
     → HeadOf (take (p - i) (drop i a)) h → HeadOf (take (q - j) (drop j b)) k → slice_cmp nat_cmp h k ≡ Equal
     → slice_cmp nat_cmp (tlvs (parameter_tlvs xs)) (tlvs (parameter_tlvs ys))
     ≡ ordering_then (slice_cmp nat_cmp (parameter_octets f.first.1) (parameter_octets g.first.1))
@@ -177,7 +130,7 @@ after_heads f g x y e =
     let rest = slice_cmp nat_cmp (parameter_octets f.first.1 ++ tlvs (parameter_tlvs f.rest)) (parameter_octets g.first.1 ++ tlvs (parameter_tlvs g.rest)) in
     whole_cmp f g ∙ ap (λ (z : Ordering). ordering_then z rest) same
     ∙ bodies_then f.first.0 g.first.0 (parameter_octets f.first.1) (parameter_octets g.first.1) (tlvs (parameter_tlvs f.rest)) (tlvs (parameter_tlvs g.rest))
-    same f.short g.short
+    same (short f) (short g)
 
 pub bodies_differ : {a b h k s t : List ℕ} {i p j q : ℕ} {o z : Ordering} → BothAt a i b j → EndsAt a i p → EndsAt b j q
     → HeadOf (take (p - i) (drop i a)) h → HeadOf (take (q - j) (drop j b)) k → z ≡ slice_cmp nat_cmp h k → z ≡ Equal
@@ -224,8 +177,8 @@ unfolding field_octets
 longer both e none = λ u v l r.
     let t = both.only u v l r in
     let m = first_of t.xs t.left e in
-    let n = none_left t.ys t.right none in
-    sym (t.same ∙ ap (λ (s : List ℕ). slice_cmp nat_cmp s (tlvs (parameter_tlvs t.ys))) m.same
+    let n = none_left ParameterHeld t.ys t.right none in
+    sym (t.same ∙ ap (λ (s : List ℕ). slice_cmp nat_cmp s (tlvs (parameter_tlvs t.ys))) (next_octets m)
     ∙ ap (λ (ys : List (Numbered ParameterValue)). slice_cmp nat_cmp (tlv (m.first.0, parameter_octets m.first.1) ++ tlvs (parameter_tlvs m.rest)) (tlvs
     (parameter_tlvs ys))) n
     ∙ some_first m.first (tlvs (parameter_tlvs m.rest)))
@@ -234,16 +187,16 @@ pub shorter : {a b : List ℕ} {i j q : ℕ} → BothAt a i b j → NoTlv a i �
 unfolding field_octets
 shorter both none e = λ u v l r.
     let t = both.only u v l r in
-    let m = none_left t.xs t.left none in
+    let m = none_left ParameterHeld t.xs t.left none in
     let n = first_of t.ys t.right e in
     sym (t.same ∙ ap (λ (xs : List (Numbered ParameterValue)). slice_cmp nat_cmp (tlvs (parameter_tlvs xs)) (tlvs (parameter_tlvs t.ys))) m
-    ∙ ap (λ (s : List ℕ). slice_cmp nat_cmp [] s) n.same ∙ some_second n.first (tlvs (parameter_tlvs n.rest)))
+    ∙ ap (λ (s : List ℕ). slice_cmp nat_cmp [] s) (next_octets n) ∙ some_second n.first (tlvs (parameter_tlvs n.rest)))
 
 pub both_done : {a b : List ℕ} {i j : ℕ} → BothAt a i b j → NoTlv a i → NoTlv b j → Orders Equal a b
 unfolding field_octets
 both_done both none other = λ u v l r.
     let t = both.only u v l r in
-    let m = none_left t.xs t.left none in
-    let n = none_left t.ys t.right other in
+    let m = none_left ParameterHeld t.xs t.left none in
+    let n = none_left ParameterHeld t.ys t.right other in
     sym (t.same ∙ ap (λ (xs : List (Numbered ParameterValue)). slice_cmp nat_cmp (tlvs (parameter_tlvs xs)) (tlvs (parameter_tlvs t.ys))) m
     ∙ ap (λ (ys : List (Numbered ParameterValue)). slice_cmp nat_cmp [] (tlvs (parameter_tlvs ys))) n)

@@ -1,17 +1,17 @@
 -- How the canonical octets of parameters are written.
-use Rattle.std.proofs.Common.{◌≡◌, ℕ, ◌+◌, ◌-◌, ◌^◌, ◌≤◌, ◌<◌, ◌==◌, Bool, true, false, List, [], ◌∷◌, ◌++◌, length, take, drop}
+use Rattle.std.proofs.Common.{◌≡◌, ℕ, ◌+◌, ◌-◌, ◌≤◌, ◌<◌, ◌==◌, Bool, true, false, List, [], ◌∷◌, ◌++◌, length, take, drop, get_or}
 use Rattle.std.proofs.Common.{refl, sym, ap, ◌∙◌, arith, subst, append_assoc, if◌then◌else◌}
-use Rattle.std.proofs.lemmas.List.{append-nil, length-append, length-take, take_at, drop_at, nil_from_length, take-append-drop}
-use Rattle.std.proofs.lemmas.Bool.Decides.{nat_tests}
-use Rattle.std.specs.Int.{bytes_high_first}
+use Rattle.std.proofs.lemmas.List.{append-nil, length-append, take_at, take_all, drop_all, drop-drop, nil_from_length, take-append-drop, take-append-le, take_rest}
+use Rattle.std.proofs.{lemmas.Bool.Decides.nat_tests, Math.Seq.take-add}
+use Rattle.std.specs.Int.{bytes_high_first, from_be_bytes, w16}
 use Rattle.dns_fields.specs.{Fields.Value, Fields.Field, Fields.field_octets, Fields.parameter_tlvs, declared.Kind.TheVariants.Parameters}
-use Rattle.dns_fields.specs.Tlvs.{Numbered, ParameterValue, Mandatory, Alpn, NoDefaultAlpn, Port, Ipv4Hint, Ipv6Hint, Opaque, ParameterHeld, IsTlv, tlv, tlvs}
+use Rattle.dns_fields.specs.Tlvs.{Numbered, ParameterValue, Mandatory, Alpn, NoDefaultAlpn, Port, Ipv4Hint, Ipv6Hint, Opaque, ParameterHeld, Rising, Below, tlv, tlvs}
 use Rattle.dns_fields.specs.Tlvs.{parameter_octets, Keys, Names, Nothing, PortNumber, Addresses4, Addresses16, AnyOctets, form_for}
-use Rattle.dns_fields.proofs.{Numbers.length-bytes, Tlvs.number_first, Tlvs.length-tlv}
-use Rattle.dns_view.specs.Putting.{Put}
-use Rattle.dns_view.proofs.{Puts.put_then, Puts.put_none, ParameterLists.StandEach, ParameterLists.OneOf, ParameterLists.parameters_each}
-use Rattle.dns_view.proofs.{Alone.slice, Alone.slice_at, Alone.whole_slice, ParameterOrder.EndsAt, ParameterOrder.NoTlv}
-use Rattle.dns_view.proofs.ParameterOrder.{FirstOf, first_of, none_left}
+use Rattle.dns_fields.proofs.{Numbers.length-bytes, Tlvs.length-tlv, Tlvs.tlv_before}
+use Rattle.dns_view.specs.Putting.{Put, short_port}
+use Rattle.dns_view.proofs.{Puts.put_then, ParameterLists.StandEach, ParameterLists.OneOf, ParameterLists.parameters_each, ParameterLists.below_less}
+use Rattle.dns_view.proofs.{Alone.slice, Alone.between_is, Splits.at_split, ParameterOrder.NextOf, ParameterOrder.next_octets}
+use Rattle.dns_view.proofs.HeldLists.{EndsAt, NoTlv, tlv_of, key_there, first_of, none_left}
 
 -- ---- the octets of a value
 
@@ -50,144 +50,127 @@ port_octets body (Port n) h =
     (ap (take 2) h.2.1 ∙ take_at (bytes_high_first 2 n) h.2.0 2 (sym (length-bytes 2 n)), length-bytes 2 n)
 port_octets body v h = absurd (cc (h.0))
 
--- ---- one parameter
+-- ---- parameters whose octets are the value's
 
-rest_of : (key : ℕ) (body part : List ℕ) → part ≡ tlv (key, body) → drop 4 part ≡ body
-rest_of key body part e =
-    let n : length (bytes_high_first 2 key ++ bytes_high_first 2 (length body)) ≡ 4 =
-    omega (arith, length-append (bytes_high_first 2 key) (bytes_high_first 2 (length body)), length-bytes 2 key, length-bytes 2 (length body)) in
-    ap (drop 4) (e ∙ sym (append_assoc (bytes_high_first 2 key) (bytes_high_first 2 (length body)) body))
-    ∙ drop_at (bytes_high_first 2 key ++ bytes_high_first 2 (length body)) body 4 n
+own_octets : {octets : List ℕ} {p q : ℕ} {x : Numbered ParameterValue} (o : OneOf octets p x q) → (x.0 ≡ 3 → q ≤ p + 6)
+    → tlv (x.0, o.octets) ≡ tlv (x.0, parameter_octets x.1)
+own_octets {x = x} o short =
+    let few : x.0 ≡ 3 → length o.octets ≤ 2 = λ three. omega (arith, short three, o.at.ends, length-tlv (x.0, o.octets)) in
+    ap (λ (b : List ℕ). tlv (x.0, b)) (same_octets x.0 o.octets x.1 o.held few)
 
--- the key in the first two octets
-key_of : (key : ℕ) (body part : List ℕ) → part ≡ tlv (key, body) → key < 256 ^ 2 → take 2 part ≡ 0 ∷ 3 ∷ [] → key ≡ 3
-key_of key body part e small first =
-    let is : part ≡ bytes_high_first 2 3 ++ drop 2 part = sym (take-append-drop 2 part) ∙ ap (λ (s : List ℕ). s ++ drop 2 part) first in
-    (number_first key 3 (bytes_high_first 2 (length body) ++ body) (drop 2 part) small (omega arith) (sym e ∙ is)).0
-
-port_first : (body part : List ℕ) → part ≡ tlv (3, body) → take 2 part ≡ 0 ∷ 3 ∷ []
-port_first body part e = ap (take 2) e ∙ take_at (bytes_high_first 2 3) (bytes_high_first 2 (length body) ++ body) 2 refl
-
-pub port_parameter : {out mid new part : List ℕ} {at middle end : ℕ} → Put out mid at middle (0 ∷ 3 ∷ 0 ∷ 2 ∷ [])
-    → Put mid new middle end (take 2 (drop 4 part))
-    → take 2 part ≡ 0 ∷ 3 ∷ [] → (key : ℕ) (body : List ℕ) (v : ParameterValue) → part ≡ tlv (key, body) → IsTlv (key, body) → ParameterHeld key body v
-    → Put out new at end (tlv (key, parameter_octets v))
-port_parameter {out} {mid} {new} {part} {at} {middle} {end} p q first key body v e fits held =
-    let three : key ≡ 3 = key_of key body part e fits.0 first in
-    let h : ParameterHeld 3 body v = subst (λ (k : ℕ). ParameterHeld k body v) three held in
-    let o = port_octets body v h in
-    let two : take 2 (drop 4 part) ≡ parameter_octets v = ap (take 2) (rest_of key body part e) ∙ o.0 in
-    let head : tlv (3, parameter_octets v) ≡ 0 ∷ 3 ∷ 0 ∷ 2 ∷ parameter_octets v =
-    ap (λ (n : ℕ). bytes_high_first 2 3 ++ (bytes_high_first 2 n ++ parameter_octets v)) o.1 in
-    subst (λ (s : List ℕ). Put out new at end s)
-    (ap (λ (s : List ℕ). 0 ∷ 3 ∷ 0 ∷ 2 ∷ s) two ∙ sym head ∙ ap (λ (k : ℕ). tlv (k, parameter_octets v)) (sym three)) (put_then p q)
+-- those after a port
+after_port : (octets : List ℕ) (p : ℕ) (xs : List (Numbered ParameterValue)) → StandEach OneOf octets p xs (length octets) → Below 3 xs
+    → tlvs (parameter_tlvs xs) ≡ drop p octets
+after_port octets p [] s b = sym (drop_all p octets (omega (arith, s)))
+after_port octets p (x ∷ xs) s b =
+    ap (λ (t : List ℕ). t ++ tlvs (parameter_tlvs xs)) (sym (own_octets s.1 (λ three. omega (arith, three, b.0))))
+    ∙ ap (λ (t : List ℕ). tlv (x.0, s.1.octets) ++ t) (after_port octets s.0 xs s.2 b.1) ∙ sym (at_split s.1.at)
 
 -- ---- the parameters so far
 
--- Those before the offset were gone over: the octets `done` were written, the ones from `from` on wait, and the other
--- parameters are encoded from the offset on.
-pub record LeftOf (octets : List ℕ) (offset : ℕ) (old new : List ℕ) (start at from : ℕ) (v : List (Numbered ParameterValue)) : Type 0 where
+-- Those before the offset are canonical as they are encoded, and the others are encoded from there on.
+pub record LeftOf (octets : List ℕ) (offset : ℕ) (v : List (Numbered ParameterValue)) : Type 0 where
   pub rest : List (Numbered ParameterValue)
   pub stand : StandEach OneOf octets offset rest (length octets)
-  pub done : List ℕ
-  pub put : Put old new start at done
-  pub same : tlvs (parameter_tlvs v) ≡ (done ++ slice octets from offset) ++ tlvs (parameter_tlvs rest)
+  pub rising : Rising rest
+  pub same : tlvs (parameter_tlvs v) ≡ take offset octets ++ tlvs (parameter_tlvs rest)
 
-pub record PutsOn (octets : List ℕ) (offset : ℕ) (old new : List ℕ) (start at from : ℕ) : Type 0 where
+pub record NoPortYet (octets : List ℕ) (offset : ℕ) : Type 0 where
   pub inside : offset ≤ length octets
-  pub further : from ≤ offset
-  pub few : at + (offset - from) ≤ start + offset
-  pub only : (v : List (Numbered ParameterValue)) → Field octets 0 Parameters v (length octets) → LeftOf octets offset old new start at from v
+  pub only : (v : Value Parameters) → Field octets 0 Parameters v (length octets) → LeftOf octets offset v
 
-pub puts_none : (octets old : List ℕ) (start : ℕ) → PutsOn octets 0 old old start start 0
-puts_none octets old start = record {
+pub none_yet : (octets : List ℕ) → NoPortYet octets 0
+none_yet octets = record {
   inside = omega arith;
-  further = omega arith;
-  few = omega arith;
-  only = λ v f. record { rest = v; stand = parameters_each f; done = []; put = put_none old start; same = refl };
+  only = λ v f. record { rest = v; stand = parameters_each f; rising = f.is.rising; same = refl };
 }
 
-module _ {octets : List ℕ} {offset end : ℕ} {old one : List ℕ} {start at from : ℕ} (p : PutsOn octets offset old one start at from)
-    (e : EndsAt octets offset end) where
-  -- the octets so far, the next parameter, and the others
-  behind : {v : List (Numbered ParameterValue)} (l : LeftOf octets offset old one start at from v) (x : FirstOf octets offset end l.rest)
-      → tlvs (parameter_tlvs v) ≡ ((l.done ++ slice octets from offset) ++ tlv (x.first.0, parameter_octets x.first.1)) ++ tlvs (parameter_tlvs x.rest)
-  behind l x =
-      let before = l.done ++ slice octets from offset in
-      l.same ∙ ap (λ (s : List ℕ). before ++ s) x.same
-      ∙ sym (append_assoc before (tlv (x.first.0, parameter_octets x.first.1)) (tlvs (parameter_tlvs x.rest)))
+-- what the canonical octets are
+abbrev pub Are : List ℕ → List ℕ → Type 0
+Are octets own = (v : Value Parameters) → Field octets 0 Parameters v (length octets) → field_octets Parameters v ≡ own
 
-  -- one that is copied waits, too
-  pub puts_kept : (take 2 (slice octets offset end) ≡ 0 ∷ 3 ∷ [] → length (slice octets offset end) ≤ 6) → PutsOn octets end old one start at from
-  puts_kept short = record {
-    inside = e.room.1;
-    further = omega (arith, p.further, e.room.0);
-    few = omega (arith, p.few, p.further, e.room.0);
-    only = λ v f.
-        let l = p.only v f in
-        let x = first_of l.rest l.stand e in
-        let body = x.one.octets in
-        let own = tlv (x.first.0, parameter_octets x.first.1) in
-        let few : x.first.0 ≡ 3 → length body ≤ 2 = λ three.
-        let begins = port_first body (slice octets offset end) (x.part ∙ ap (λ (k : ℕ). tlv (k, body)) three) in
-        omega (arith, short begins, ap length x.part, length-tlv (x.first.0, body)) in
-        let same : slice octets offset end ≡ own = x.part ∙ ap (λ (b : List ℕ). tlv (x.first.0, b)) (same_octets x.first.0 body x.first.1 x.one.held few) in
-        let waits : slice octets from end ≡ slice octets from offset ++ own =
-        whole_slice end (slice_at octets from offset p.further p.inside) (omega (arith, e.room.0)) ∙ ap (λ (s : List ℕ). slice octets from offset ++ s) same in
-        record {
-          rest = x.rest;
-          stand = x.stand;
-          done = l.done;
-          put = l.put;
-          same = behind l x ∙ ap (λ (s : List ℕ). s ++ tlvs (parameter_tlvs x.rest))
-              (append_assoc l.done (slice octets from offset) own ∙ ap (λ (s : List ℕ). l.done ++ s) (sym waits));
-        };
-  }
-
-  -- a port with octets after it is written after those that wait
-  pub puts_port : {two three new : List ℕ} {i j k : ℕ} → Put one two at i (slice octets from offset) → Put two three i j (0 ∷ 3 ∷ 0 ∷ 2 ∷ [])
-      → Put three new j k (take 2 (drop 4 (slice octets offset end))) → take 2 (slice octets offset end) ≡ 0 ∷ 3 ∷ []
-      → 6 < length (slice octets offset end) → PutsOn octets end old new start k end
-  puts_port {two} {three} {new} {i} {j} {k} flush head value first long = record {
-    inside = e.room.1;
-    further = omega arith;
-    few = omega (arith, p.few, flush.ends, head.ends, value.ends, size, waited, most);
-    only = λ v f.
-        let l = p.only v f in
-        let x = first_of l.rest l.stand e in
-        let port = port_parameter head value first x.first.0 x.one.octets x.first.1 x.part x.one.fits x.one.held in
-        let octets_now = (l.done ++ slice octets from offset) ++ tlv (x.first.0, parameter_octets x.first.1) in
-        let none : slice octets end end ≡ [] = ap (λ (n : ℕ). take n (drop end octets)) (zero end) in
-        record {
-          rest = x.rest;
-          stand = x.stand;
-          done = octets_now;
-          put = put_then (put_then l.put flush) port;
-          same = behind l x ∙ ap (λ (s : List ℕ). s ++ tlvs (parameter_tlvs x.rest))
-              (sym (append-nil octets_now) ∙ ap (λ (s : List ℕ). octets_now ++ s) (sym none));
-        };
-  }
-    where
-      zero : (n : ℕ) → n - n ≡ 0
-      zero n = omega arith
-
-      size : length (slice octets offset end) ≡ end - offset
-      size = omega (arith, (slice_at octets offset end (omega (arith, e.room.0)) e.room.1).ends, e.room.0)
-
-      waited : length (slice octets from offset) ≡ offset - from
-      waited = omega (arith, (slice_at octets from offset p.further p.inside).ends, p.further)
-
-      most : length (take 2 (drop 4 (slice octets offset end))) ≤ 2
-      most = omega (arith, length-take 2 (drop 4 (slice octets offset end)))
-
-pub puts_done : {octets : List ℕ} {offset : ℕ} {old one new : List ℕ} {start at from end : ℕ} → PutsOn octets offset old one start at from
-    → NoTlv octets offset → Put one new at end (slice octets from offset)
-    → (v : Value Parameters) → Field octets 0 Parameters v (length octets) → Put old new start end (field_octets Parameters v)
+pub all_before : {octets : List ℕ} {offset : ℕ} → NoPortYet octets offset → NoTlv octets offset → Are octets octets
 unfolding field_octets
-puts_done {octets} {offset} {old} {one} {new} {start} {at} {from} {end} p missing flush v f =
+all_before {octets} {offset} p missing v f =
     let l = p.only v f in
-    let none : l.rest ≡ [] = none_left l.rest l.stand missing in
-    let all : tlvs (parameter_tlvs v) ≡ l.done ++ slice octets from offset =
-    l.same ∙ ap (λ (r : List (Numbered ParameterValue)). (l.done ++ slice octets from offset) ++ tlvs (parameter_tlvs r)) none
-    ∙ append-nil (l.done ++ slice octets from offset) in
-    subst (λ (s : List ℕ). Put old new start end s) (sym all) (put_then l.put flush)
+    let none : l.rest ≡ [] = none_left ParameterHeld l.rest l.stand missing in
+    let all : offset ≡ length octets = subst (λ (r : List (Numbered ParameterValue)). StandEach OneOf octets offset r (length octets)) none l.stand in
+    l.same ∙ ap (λ (r : List (Numbered ParameterValue)). take offset octets ++ tlvs (parameter_tlvs r)) none ∙ append-nil (take offset octets)
+    ∙ take_all offset octets (omega (arith, all))
+
+-- with the next parameter, whose key is a number
+module _ {octets : List ℕ} {offset end n : ℕ} (p : NoPortYet octets offset) (e : EndsAt octets offset end)
+    (key : n ≡ from_be_bytes w16 (get_or octets offset 0 ∷ get_or octets (offset + 1) 0 ∷ [])) where
+  -- the first of those that are left, and its key
+  next : {v : Value Parameters} (l : LeftOf octets offset v) → (x : NextOf octets offset end l.rest) × (n ≡ x.first.0)
+  next l = let x = first_of l.rest l.stand e in (x, key_there (tlv_of x.one) key)
+
+  -- those after it
+  others : {v : Value Parameters} (l : LeftOf octets offset v) (x : NextOf octets offset end l.rest) → 3 ≤ x.first.0
+      → tlvs (parameter_tlvs x.rest) ≡ drop end octets
+  others l x high = let r : Rising (x.first ∷ x.rest) = subst Rising x.is l.rising in after_port octets end x.rest x.stand (below_less 3 x.first.0 x.rest high r.0)
+
+  pub before_port : n ≤ 2 → NoPortYet octets end
+  before_port small = record {
+    inside = e.room.1;
+    only = λ v f.
+        let l = p.only v f in
+        let x = (next l).0 in
+        let k = (next l).1 in
+        let own = tlv (x.first.0, parameter_octets x.first.1) in
+        let same : slice octets offset end ≡ own = between_is x.one.at ∙ own_octets x.one (λ three. omega (arith, small, k, three)) in
+        let long : end ≡ offset + (end - offset) = omega (arith, e.room.0) in
+        let more : take end octets ≡ take offset octets ++ own =
+        ap (λ (i : ℕ). take i octets) long ∙ take-add offset (end - offset) octets ∙ ap (λ (s : List ℕ). take offset octets ++ s) same in
+        let r : Rising (x.first ∷ x.rest) = subst Rising x.is l.rising in
+        record {
+          rest = x.rest;
+          stand = x.stand;
+          rising = r.1;
+          same = l.same ∙ ap (λ (s : List ℕ). take offset octets ++ s) (next_octets x) ∙ sym (append_assoc (take offset octets) own (tlvs (parameter_tlvs x.rest)))
+              ∙ ap (λ (s : List ℕ). s ++ tlvs (parameter_tlvs x.rest)) (sym more);
+        };
+  }
+
+  pub no_surplus : 3 ≤ n → (n ≡ 3 → end ≤ offset + 6) → Are octets octets
+  unfolding field_octets
+  no_surplus high short v f =
+      let l = p.only v f in
+      let x = (next l).0 in
+      let k = (next l).1 in
+      let rest : tlvs (parameter_tlvs l.rest) ≡ drop offset octets =
+      next_octets x ∙ ap (λ (s : List ℕ). s ++ tlvs (parameter_tlvs x.rest)) (sym (own_octets x.one (λ three. short (k ∙ three))))
+      ∙ ap (λ (s : List ℕ). tlv (x.first.0, x.one.octets) ++ s) (others l x (omega (arith, high, k))) ∙ sym (at_split x.one.at) in
+      l.same ∙ ap (λ (s : List ℕ). take offset octets ++ s) rest ∙ take-append-drop offset octets
+
+  pub surplus_found : n ≡ 3 → offset + 6 < end → Are octets (short_port octets offset end)
+  unfolding field_octets
+  surplus_found is long v f =
+      let l = p.only v f in
+      let x = (next l).0 in
+      let three : x.first.0 ≡ 3 = sym (next l).1 ∙ is in
+      let body = x.one.octets in
+      let own = parameter_octets x.first.1 in
+      let o = port_octets body x.first.1 (subst (λ (k : ℕ). ParameterHeld k body x.first.1) three x.one.held) in
+      let many : 2 ≤ length body = omega (arith, x.one.at.ends, length-tlv (x.first.0, body), long) in
+      let value : take 2 (drop (offset + 4) octets) ≡ own =
+      ap (take 2) (sym (drop-drop 4 offset octets) ∙ ap (drop 4) (at_split x.one.at ∙ tlv_before (x.first.0, body) (drop end octets)) ∙ behind_head x.first.0 body (drop end octets))
+      ∙ take-append-le 2 body (drop end octets) many ∙ o.0 in
+      let head : tlv (x.first.0, own) ≡ 0 ∷ 3 ∷ 0 ∷ 2 ∷ own =
+      ap (λ (k : ℕ). tlv (k, own)) three ∙ ap (λ (m : ℕ). bytes_high_first 2 3 ++ (bytes_high_first 2 m ++ own)) o.1 in
+      l.same ∙ ap (λ (s : List ℕ). take offset octets ++ s) (next_octets x ∙ (λ i. head i ++ others l x (omega (arith, three)) i)
+      ∙ ap (λ (s : List ℕ). 0 ∷ 3 ∷ 0 ∷ 2 ∷ (s ++ drop end octets)) (sym value))
+    where
+      behind_head : (k : ℕ) (b s : List ℕ) → drop 4 (bytes_high_first 2 k ++ (bytes_high_first 2 (length b) ++ (b ++ s))) ≡ b ++ s
+      behind_head k b s = refl
+
+-- the octets with a shorter port, written part by part
+pub port_put : (offset to : ℕ) {old one two three new octets : List ℕ} {start a b c end : ℕ} → Put old one start a (take offset octets)
+    → Put one two a b (0 ∷ 3 ∷ 0 ∷ 2 ∷ []) → Put two three b c (slice octets (offset + 4) (offset + 6)) → Put three new c end (slice octets to (length octets))
+    → Are octets (short_port octets offset to) → (v : Value Parameters) → Field octets 0 Parameters v (length octets)
+    → Put old new start end (field_octets Parameters v)
+port_put offset to {old} {new = new} {octets = octets} {start = start} {end = end} p q r s are v f =
+    let two : offset + 6 - (offset + 4) ≡ 2 = omega arith in
+    let same : take offset octets ++ (0 ∷ 3 ∷ 0 ∷ 2 ∷ (slice octets (offset + 4) (offset + 6) ++ slice octets to (length octets))) ≡ field_octets Parameters v =
+    (λ i. take offset octets ++ (0 ∷ 3 ∷ 0 ∷ 2 ∷ (take (two i) (drop (offset + 4) octets) ++ take_rest octets to i))) ∙ sym (are v f) in
+    subst (λ (x : List ℕ). Put old new start end x) same (put_then p (put_then q (put_then r s)))

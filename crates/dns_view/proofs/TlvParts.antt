@@ -72,6 +72,15 @@ pub record PartsOn (octets : List ℕ) (offset : ℕ) : Type 0 where
   pub fit : AreTlvs read
   pub only : AreComplete octets → (rest : List (Numbered (List ℕ))) × At octets offset (tlvs rest) (length octets) × AreTlvs rest
 
+pub parts_first : (octets : List ℕ) → PartsOn octets 0
+parts_first octets = record {
+  inside = omega arith;
+  read = [];
+  at = record { ends = omega arith; within = omega arith; same = refl };
+  fit = tt;
+  only = λ c. (c.read, c.at, c.fit);
+}
+
 pub tlvs_more : (xs : List (Numbered (List ℕ))) (x : Numbered (List ℕ)) → tlvs xs ++ tlv x ≡ tlvs (xs ++ x ∷ [])
 tlvs_more xs x = sym (flat_map-append tlv xs (x ∷ []) ∙ ap (λ (t : List ℕ). tlvs xs ++ t) (append-nil (tlv x)))
 

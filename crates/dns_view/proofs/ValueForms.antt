@@ -1,8 +1,8 @@
 -- Octets that are, or are not, the value of a service parameter.
 use Rattle.std.proofs.Common.{◌≡◌, ◌≢◌, inl, inr, ℕ, zero, suc, ◌+◌, ◌*◌, ◌-◌, ◌%◌, ◌/◌, ◌^◌, ◌<◌, ◌≤◌, Bool, true, false, List, [], ◌∷◌, ◌++◌}
 use Rattle.std.proofs.Common.{length, take, drop, get_or, refl, sym, ap, ◌∙◌, arith, subst, append_assoc}
-use Rattle.std.proofs.lemmas.List.{length-append, length-take, length-drop, append-nil, take-append-drop, nil_from_length, take_all, get_or-append_right}
-use Rattle.std.proofs.{lemmas.Bool.Decides.nat_tests, lemmas.Grind.common_steps}
+use Rattle.std.proofs.lemmas.List.{length-append, length-take, length-drop, append-nil, take-append-drop, nil_from_length, take_all, get_or-append_right, get_or_past}
+use Rattle.std.proofs.{Common.⊎_elim, lemmas.Bool.cases_lt, lemmas.Str.IsUtf8-from_ascii, lemmas.Bool.Decides.nat_tests, lemmas.Grind.common_steps}
 use Rattle.std.specs.{Prelude.IsUtf8, List.flat_map, List.AllByRecursion, Int.bytes_high_first}
 use Rattle.dns_types.specs.declared.error.DecodeError.{DecodeError}
 use Rattle.dns_fields.specs.Tlvs.{string, ParameterValue, ParameterForm, Keys, Names, form_of, Mandatory, Alpn, NoDefaultAlpn, Port, Ipv4Hint, Ipv6Hint}
@@ -13,6 +13,10 @@ use Rattle.dns_rows.specs.Rules.{is_text_key, HasText}
 use Rattle.dns_view.specs.Values.{HasValue, NoValue, HasForm, WrongName, IsFormError, IsKeyError}
 use Rattle.dns_view.proofs.{Splits.length_numbers, Splits.string_first, Splits.strings_prefix, Splits.all_behind, Splits.all_append, Numbers.number_of}
 use Rattle.dns_view.proofs.{Numbers.NumberOf}
+
+-- octets of which each is below 128 are UTF-8
+pub all_ascii : (octets : List ℕ) → ((i : ℕ) → i < length octets → get_or octets i 0 < 128) → IsUtf8 octets
+all_ascii octets h = IsUtf8-from_ascii octets (λ i. ⊎_elim (h i) (λ le. subst (λ x. x < 128) (sym (get_or_past octets i 0 le)) (omega arith)) (cases_lt i (length octets)))
 
 -- ---- what is none
 

@@ -56,3 +56,8 @@ padded (suc n) (x ∷ octets) = x ∷ padded n octets
 -- the first eight octets as a number, high octet first
 abbrev pub key_of : List ℕ → ℕ
 key_of octets = from_be_bytes w64 (padded 8 octets)
+
+-- parameters with the port that is encoded from offset to end cut to two octets, and its length with it (RFC 9460, 2.2 and 7.2)
+abbrev pub short_port : List ℕ → ℕ → ℕ → List ℕ
+short_port octets offset end =
+    take offset octets ++ (0 ∷ 3 ∷ 0 ∷ 2 ∷ (take 2 (drop (offset + 4) octets) ++ drop end octets))

@@ -30,8 +30,10 @@ fn put_recoded(out: &mut [u8], at: usize, kind: Kind, low: bool, octets: &[u8]) 
     }
 }
 
-/// Writes the octets of RDATA at the front of a buffer, with names uncompressed, and lowercased if `low` is set, and returns
-/// how many they are; or `None` if no fields of the row fill the RDATA. Allocates nothing.
+/// Writes the octets of RDATA that fields of the row fill at the front of a buffer, with names uncompressed, and lowercased if
+/// `low` is set, and returns how many they are. Allocates nothing.
+///
+/// Of other RDATA it returns `None` or writes any octets, since what was checked is not checked again.
 ///
 /// If the octets are more than the buffer has, as many as fit are written, and the number is still theirs.
 pub fn put_row(

@@ -44,10 +44,13 @@ fn compare_within<const N: usize>(a: &[u8], b: &[u8]) -> Ordering
 {
     let mut left = [0u16; N];
     let count = list_options(a, &mut left);
-    let left = &mut left[..count];
-    sort_options(a, left, true);
     let mut right = [0u16; N];
     let other = list_options(b, &mut right);
+    if count == 0 || other == 0 {
+        return count.cmp(&other);
+    }
+    let left = &mut left[..count];
+    sort_options(a, left, true);
     let right = &mut right[..other];
     sort_options(b, right, true);
     compare_each(a, left, b, right)

@@ -1,8 +1,8 @@
 //! The canonical octets of the parameters of a service binding (RFC 9460, 2.2), written into a buffer.
 
-ghost use Rattle.std.specs.Prelude.{◌≡◌, ◌+◌, ◌^◌, ◌<◌, ◌≤◌, [], ◌∷◌, true, false, length, take};
+ghost use Rattle.std.specs.Prelude.{◌≡◌, ◌+◌, ◌^◌, ◌<◌, ◌≤◌, [], ◌∷◌, true, false, length, take, IfSome, IfNone};
 ghost use Rattle.dns_fields.specs.{Fields.Value, Fields.Field, Fields.field_octets, declared.Kind.TheVariants.Parameters};
-ghost use Rattle.dns_view.specs.Putting.{Put};
+ghost use Rattle.dns_view.specs.Putting.{Put, short_port};
 
 use crate::put::put_octets;
 use crate::tlv::end_of;
@@ -22,26 +22,42 @@ pub(crate) fn has_surplus(part: &[u8]) -> bool
     part[1] == 3
 }
 
+// Returns where the port with octets after it begins and ends, if there is one. Keys rise, so nothing after the first key above 2
+// is gone over.
+fn find_surplus(octets: &[u8]) -> Option<(usize, usize)>
+    ensures some { IfSome result (λ p. (v : Value Parameters) → Field octets.now 0 Parameters v (length octets.now) →
+        field_octets Parameters v ≡ short_port octets.now p.0 p.1) }
+    ensures range { IfSome result (λ p. (p.0 + 6 < p.1) × (p.1 ≤ length octets.now)) }
+    ensures none { IfNone result ((v : Value Parameters) → Field octets.now 0 Parameters v (length octets.now) →
+        field_octets Parameters v ≡ octets.now) }
+{
+    let mut offset = 0;
+    'tlvs: while let Some(end) = end_of(octets, offset) {
+        let key = u16::from_be_bytes([octets[offset], octets[offset + 1]]);
+        if key > 2 {
+            if key > 3 || end - offset <= 6 {
+                return None;
+            }
+            return Some((offset, end));
+        }
+        offset = end;
+    }
+    None
+}
+
 /// Writes the canonical octets of parameters, given by their octets in a message, and returns where they end.
 pub fn put_parameters(out: &mut [u8], start: usize, octets: &[u8]) -> usize
     requires room { start + length octets.now < 2 ^ 64 }
     ensures { (v : Value Parameters) → Field octets.now 0 Parameters v (length octets.now) →
         Put out.old out.new start result (field_octets Parameters v) }
 {
-    // What is encoded before the offset `from` has been written, up to `at` of the buffer. Parameters from there to `offset`
-    // are copied at once: before a port with octets after it, or at the end.
-    let mut at = start;
-    let mut from = 0;
-    let mut offset = 0;
-    'tlvs: while let Some(end) = end_of(octets, offset) {
-        let part = &octets[offset..end];
-        if has_surplus(part) {
-            let copied = put_octets(out, at, &octets[from..offset]);
-            let head = put_octets(out, copied, &[0, 3, 0, 2]);
-            at = put_octets(out, head, &part[4..6]);
-            from = end;
+    match find_surplus(octets) {
+        None => put_octets(out, start, octets),
+        Some((offset, end)) => {
+            let head = put_octets(out, start, &octets[..offset]);
+            let port = put_octets(out, head, &[0, 3, 0, 2]);
+            let rest = put_octets(out, port, &octets[offset + 4..offset + 6]);
+            put_octets(out, rest, &octets[end..])
         }
-        offset = end;
     }
-    put_octets(out, at, &octets[from..offset])
 }

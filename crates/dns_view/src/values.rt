@@ -1,6 +1,6 @@
 //! The values of service parameters (RFC 9460, 7 and 8; RFC 9461, 5).
 
-ghost use Rattle.std.specs.Prelude.{◌≡◌, ◌↔◌, IsTrue, IsUtf8, OnOk, IfErr};
+ghost use Rattle.std.specs.Prelude.{◌≡◌, ◌↔◌, true, IsTrue, IsUtf8, OnOk, IfErr};
 ghost use Rattle.dns_fields.specs.Octets.{AreOctets};
 ghost use Rattle.dns_fields.specs.Tlvs.{Keys, Names};
 ghost use Rattle.dns_view.specs.Values.{HasForm, HasValue, IsFormError, IsKeyError};
@@ -15,12 +15,26 @@ pub(crate) fn are_octets(octets: &[u8])
     let _ = octets;
 }
 
-// Returns whether the octets are UTF-8.
+// Returns whether all octets are ASCII, as those of most texts are.
 #[inline]
-fn is_text(octets: &[u8]) -> bool
+#[tactic(auto, using(crate::proofs::ValueForms::all_ascii))]
+fn are_ascii(octets: &[u8]) -> bool
+    ensures { result ≡ true → IsUtf8 octets.now }
+{
+    for octet in octets {
+        if *octet >= 128 {
+            return false;
+        }
+    }
+    true
+}
+
+/// Returns whether the octets are UTF-8.
+#[inline]
+pub fn is_text(octets: &[u8]) -> bool
     ensures { IsTrue result ↔ IsUtf8 octets.now }
 {
-    str::from_utf8(octets).is_ok()
+    are_ascii(octets) || str::from_utf8(octets).is_ok()
 }
 
 // Checks a list of protocols (RFC 9460, 7.1.1): at least one name, each of them UTF-8.
@@ -71,7 +85,7 @@ fn check_keys(octets: &[u8]) -> Result<(), DecodeError>
 /// - [`InsufficientBytes`](DecodeError::InsufficientBytes): the octets end within a key, a protocol, a port or an address.
 /// - [`Utf8`](DecodeError::Utf8): a protocol, or a path of DNS queries, is not UTF-8.
 /// - [`IncorrectRDataLengthRead`](DecodeError::IncorrectRDataLengthRead): octets of the key that has none.
-pub fn check_value(key: u16, octets: &[u8]) -> Result<(), DecodeError>
+pub(crate) fn check_value(key: u16, octets: &[u8]) -> Result<(), DecodeError>
     ensures found { OnOk result (HasValue key octets.now) }
     ensures refused { IfErr result (λ e. IsKeyError key octets.now e) }
 {
