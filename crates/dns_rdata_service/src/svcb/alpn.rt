@@ -1,6 +1,6 @@
 //! The protocols of a service.
 
-ghost use Rattle.std.specs.Prelude.{◌≡◌, ◌≤◌, ◌↔◌, drop, length, map, IfErr, IfOk, IsTrue, IsUtf8};
+ghost use Rattle.std.specs.Prelude.{◌≡◌, ◌≤◌, drop, length, map, IfErr, IfOk};
 ghost use Rattle.dns_fields.specs.{Tlvs.Names};
 ghost use Rattle.std.specs.String.{string_bytes};
 ghost use Rattle.dns_names_wire.specs.Terms.{ReadsBy};
@@ -11,6 +11,7 @@ use bstr::BStr;
 use dns_names_wire::{
     BinDecodable, BinDecoder, BinEncodable, BinEncoder, DecodeError, ProtoError, SmallOctets,
 };
+use dns_view::values::is_text;
 use std::alloc::{AllocError, Global};
 use std::fmt;
 
@@ -78,14 +79,6 @@ impl BinDecodable for Alpn {
         }
         Ok(Alpn(names))
     }
-}
-
-// Whether the octets are UTF-8.
-#[inline]
-pub(super) fn is_text(octets: &[u8]) -> bool
-    ensures { IsTrue result ↔ IsUtf8 octets.now }
-{
-    str::from_utf8(octets).is_ok()
 }
 
 // How many strings begin in the octets. If strings fill the octets, this is their number.

@@ -4,12 +4,12 @@ ghost use Rattle.std.specs.{Prelude.◌≡◌, Prelude.drop, Prelude.IfErr, Prel
 ghost use Rattle.dns_names_wire.specs.Terms.{ReadsBy};
 ghost use Rattle.dns_rdata_service.specs.SvcParamValue.{doh_path_value, DohPathAt, IsPathError, EmitsValue};
 
-use crate::svcb::alpn::is_text;
 use crate::svcb::unknown::emit_octets;
 use bstr::BStr;
 use dns_names_wire::{
     BinDecodable, BinDecoder, BinEncodable, BinEncoder, DecodeError, ProtoError, SmallOctets,
 };
+use dns_view::values::is_text;
 use std::alloc::AllocError;
 use std::fmt;
 
