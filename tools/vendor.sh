@@ -1,20 +1,21 @@
 #!/usr/bin/env bash
-# Copies the crates that `dns_rdata` needs, and with the word `zone` those that `dns_rdata_zone` needs, into another repository,
-# and adds their lines to its crates.txt:
+# Copies the crates `dns_rdata` and `dns_message`, and with the word `zone` also `dns_rdata_zone`, with all crates that they use,
+# into another repository, and adds their lines to its crates.txt:
 #   tools/vendor.sh FOLDER [zone]
 # Crates that FOLDER has already are replaced, and lines that it has stay. Status 2 for other words.
 set -u
 top=$(cd "$(dirname "$0")/.." && pwd)
 . "$top/tests/build.sh"
-wanted=dns_rdata
+wanted=(dns_rdata dns_message)
 case "$#-${2:-}" in
   1-) ;;
-  2-zone) wanted=dns_rdata_zone ;;
+  2-zone) wanted+=(dns_rdata_zone) ;;
   *) echo 'usage: tools/vendor.sh FOLDER [zone]' >&2; exit 2 ;;
 esac
 to=$1
 mkdir -p "$to/crates" && touch "$to/crates.txt" || exit 1
-for crate in $(in_order "$wanted"); do
+crates=$(for name in "${wanted[@]}"; do in_order "$name"; done | awk '!seen[$0]++')
+for crate in $crates; do
   rm -rf "${to:?}/crates/$crate"
   mkdir -p "$to/crates/$crate"
   for part in src specs proofs; do
@@ -23,4 +24,4 @@ for crate in $(in_order "$wanted"); do
   grep -qE "^$crate( staticlib)?:" "$to/crates.txt" || grep -E "^$crate:" "$top/crates.txt" >>"$to/crates.txt"
 done
 cp "$top/LICENSE-APACHE" "$top/LICENSE-MIT" "$to/crates/dns_rdata/" || exit 1
-echo "vendor: $(in_order "$wanted" | wc -l) crates are in $to/crates; list dns_rdata$([ "$wanted" = dns_rdata ] || echo ' and dns_rdata_zone') in the line of your crate"
+echo "vendor: $(wc -w <<<"$crates") crates are in $to/crates; list those of ${wanted[*]} that you use in the line of your crate"

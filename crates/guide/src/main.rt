@@ -1,7 +1,7 @@
 //! The programs of docs/GUIDE.md, one after the other, then walks that are limited or
 //! resumed (`walks.rt`), and then the examples in the library's comments (`comments.rt`).
-//! Each program is a module: as a program of its own, its `main` takes `rt: HostRuntime`. They are one crate, so that
-//! dropping an `RData` is proved once.
+//! Each program is a module; docs/GUIDE.md has the `main.rt` that runs one by itself. They are one crate, so that dropping an
+//! `RData` is proved once.
 #![tactic(auto)]
 
 mod again;
