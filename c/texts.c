@@ -9,7 +9,7 @@ const char *dns_rdata_strerror(dns_rdata_status status) {
     case DNS_RDATA_TOO_LONG: return "more than 65535 octets";
     case DNS_RDATA_ORIGIN: return "the origin is not a name";
     case DNS_RDATA_NOT_UTF8: return "the text is not UTF-8";
-    case DNS_RDATA_ABSENT: return "there is no name or part with this index";
+    case DNS_RDATA_ABSENT: return "there is nothing with this index, or nothing is left";
     case DNS_RDATA_OTHER_TYPE: return "the types differ";
     case DNS_RDATA_MISSING_OCTETS: return "octets are missing at the end of the message";
     case DNS_RDATA_LENGTH: return "wrong length of RDATA";

@@ -35,8 +35,8 @@ static struct {
     unsigned long messages, damaged, others, records, rejected, by_status[STATUSES], by_type[TYPES];
 } counts;
 
-/* Long enough for the text of any RDATA. */
-static char text[1 << 19];
+/* Long enough for the text of any RDATA: that of CSYNC with all types has 644,187 octets. */
+static char text[1 << 20];
 
 /* What is read from a file: a packet or a message. */
 static uint8_t room[LONGEST_PACKET];

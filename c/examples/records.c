@@ -1,13 +1,11 @@
 /*
  * Reads a DNS message from a file and prints its records, a line each, as in a zone file: owner, TTL, class, type and RDATA. Of RDATA
- * that is rejected the line tells the status. Status 0; 1 if the message is damaged or RDATA was rejected; 2 for other words or a
- * file that cannot be read.
+ * that is rejected the line tells why. Status 0; 1 if the message is damaged, RDATA was rejected, or memory ran out; 2 for other words,
+ * or a file that cannot be read or is longer than a message.
  */
 #include "dns_rdata.h"
 
 #include <stdio.h>
-
-enum { FIXED = 10, TYPE_NS = 2 };
 
 /* The octets of a message, and how many there are. */
 struct message {
@@ -15,14 +13,12 @@ struct message {
     size_t length;
 };
 
-/* Long enough for the text of any RDATA. */
-static char text[1 << 19];
+/* Long enough for the text of any RDATA: that of CSYNC with all types has 644,187 octets. */
+static char text[1 << 20];
 
-/* Prints the owner of a record: its octets are the RDATA of a record of type NS. */
 static void print_owner(const struct message *message, const struct dns_rdata_record *record) {
-    size_t count, length = record->rdata - FIXED - record->owner;
-    struct dns_rdata owner = {message->octets, message->length, record->owner, (uint16_t)length, TYPE_NS};
-    if (dns_rdata_text(&owner, text, sizeof text, &count) == DNS_RDATA_OK)
+    size_t count;
+    if (dns_rdata_name_text(message->octets, message->length, record->owner, text, sizeof text, &count) == DNS_RDATA_OK)
         printf("%s", text);
 }
 
@@ -44,19 +40,26 @@ static void print_rejection(const struct dns_rdata *data) {
     if (status == DNS_RDATA_LENGTH && why.cause == DNS_RDATA_OK)
         printf(" ; rejected: the record takes %zu octets, and RDLENGTH is %zu", why.read, why.len);
     else if (status != DNS_RDATA_OK)
-        printf(" ; rejected: status %u at offset %zu", (unsigned)why.cause, why.offset);
+        printf(" ; rejected: %s at offset %zu", dns_rdata_strerror(why.cause), why.offset);
 }
 
-static void print_record(const struct message *message, const struct dns_rdata_record *record, int is_right) {
+/* Prints a record. Returns whether its RDATA was printed, or it has none. */
+static int print_record(const struct message *message, const struct dns_rdata_record *record, int is_right) {
     size_t count;
     struct dns_rdata data = dns_rdata_of_record(message->octets, message->length, record);
+    dns_rdata_status status = DNS_RDATA_OK;
     print_owner(message, record);
     print_fields(record);
     if (!is_right)
         print_rejection(&data);
-    else if (record->has_data && dns_rdata_text(&data, text, sizeof text, &count) == DNS_RDATA_OK)
+    else if (record->has_data)
+        status = dns_rdata_text(&data, text, sizeof text, &count);
+    if (status != DNS_RDATA_OK)
+        printf(" ; no text: %s", dns_rdata_strerror(status));
+    else if (is_right && record->has_data)
         printf(" %s", text);
     printf("\n");
+    return is_right && status == DNS_RDATA_OK;
 }
 
 static int print_message(const struct message *message) {
@@ -67,11 +70,10 @@ static int print_message(const struct message *message) {
     if (status == DNS_RDATA_OK)
         while ((status = dns_rdata_records_next(message->octets, message->length, &records, &record)) != DNS_RDATA_ABSENT &&
                status < DNS_RDATA_DAMAGED) {
-            rejected |= status != DNS_RDATA_OK;
-            print_record(message, &record, status == DNS_RDATA_OK);
+            rejected |= !print_record(message, &record, status == DNS_RDATA_OK);
         }
     if (status != DNS_RDATA_ABSENT)
-        printf("a damaged message: status %u\n", (unsigned)status);
+        printf("a damaged message: %s\n", dns_rdata_strerror(status));
     return rejected || status != DNS_RDATA_ABSENT;
 }
 
@@ -83,5 +85,5 @@ int main(int argc, char **argv) {
     message.length = fread(message.octets, 1, sizeof message.octets, file);
     int is_read = !ferror(file);
     fclose(file);
-    return is_read ? print_message(&message) : 2;
+    return is_read && message.length < sizeof message.octets ? print_message(&message) : 2;
 }

@@ -15,16 +15,19 @@
  *    its usual result if it can do without that memory. Calls that never allocate say so.
  *  - Calls keep no state: threads may call at the same time. Not for signal handlers. A stack of 40 KiB is enough, and of 96 KiB
  *    for OPT of more than 8,195 octets.
- *  - Calls return a status, DNS_RDATA_OK or why not. From DNS_RDATA_REFUSED on, the octets are the data of no record of that
- *    type; from DNS_RDATA_DAMAGED on, the message is damaged; from DNS_RDATA_NO_DATA_TEXT on, the text is of none, or is no name.
- *    None of these is returned for octets, messages or texts that are right. A later version may have more statuses in these
- *    ranges and below them: treat a status that you do not know by its range.
+ *  - Calls return a status, DNS_RDATA_OK or why not. From DNS_RDATA_REFUSED on, the octets are not RDATA of the type; from
+ *    DNS_RDATA_DAMAGED on, the message is damaged; from DNS_RDATA_NO_DATA_TEXT on, the text gives no RDATA, or is no name. None of
+ *    these is returned for octets, messages or texts that are right, with these exceptions: what is listed below as rejected here;
+ *    DNS_RDATA_UNSUPPORTED_TYPE, since the text of some types is read in the form of unknown data alone; DNS_RDATA_POINTERS; and
+ *    DNS_RDATA_NO_TYPE, which is about a text. A later version may have more statuses in these ranges and below them: treat a
+ *    status that you do not know by its range.
  *  - If octets or a text do not fit into the buffer, the call returns DNS_RDATA_BUFFER, and *count tells how many octets they
- *    are (of a text without the 0 after it, as snprintf does), so the call can be made again; a buffer of length 0 asks
- *    for that number. *count is set with DNS_RDATA_OK and DNS_RDATA_BUFFER, and otherwise left as it was.
- *  - RDATA is rejected for the first of these reasons that holds: the type is never read (DNS_RDATA_NEVER); the record takes
- *    another number of octets than `length` (DNS_RDATA_LENGTH); the record itself has an error (the other statuses). A record stops
- *    at its first error, mostly before the end of the RDATA. So most damaged RDATA is rejected with DNS_RDATA_LENGTH, and a status
+ *    are, so the call can be made again; a buffer of length 0 asks for that number. Of a text *count is the length without the 0
+ *    after it, as with snprintf: the buffer needs one octet more. *count is set with DNS_RDATA_OK and DNS_RDATA_BUFFER, and otherwise left as it was.
+ *  - RDATA is rejected for the first of these reasons that holds: its offset is past the end of the message
+ *    (DNS_RDATA_MISSING_OCTETS); the type is never read (DNS_RDATA_NEVER); the record takes another number of octets than `length`
+ *    (DNS_RDATA_LENGTH); the record itself has an error (the other statuses). Reading stops at the first error, mostly before the end
+ *    of the RDATA. So most damaged RDATA is rejected with DNS_RDATA_LENGTH, and a status
  *    such as DNS_RDATA_NAME is returned only if the error is found at the end of the RDATA. See dns_rdata_check.
  *
  * Stricter and looser than other libraries:
@@ -32,14 +35,18 @@
  *  - Rejected here, and accepted by other libraries: a client subnet (RFC 7871) of family 0; an ALPN id that is not UTF-8 (RFC
  *    8701 reserves some); a CAA tag of more than 15 letters and digits (RFC 6844, section 3; RFC 8659 has no limit); CSYNC flags in
  *    the bits 2 to 7, counted from the lowest (RFC 7477 defines the bits 0 and 1).
- *  - Accepted here: an SSHFP fingerprint of type SHA-256 that has not 32 octets.
+ *  - Accepted here: an SSHFP fingerprint of type SHA-256 that does not have 32 octets; SSHFP, TLSA, SMIMEA and OPENPGPKEY without
+ *    data; TXT without strings; CSYNC windows in any order, repeated, or with zeros at their ends; of SVCB and HTTPS an empty ALPN
+ *    id, empty address hints, an empty ech, key 65535, and any keys in `mandatory`.
  *  - Type 65305 is in the range for private use, and is ANAME here.
  *  - dns_rdata_wire and dns_rdata_text leave out octets that are read and have no meaning: those of a port (SVCB, HTTPS) after its
- *    first two, those of a client subnet after its address, and the options of an OPT that ends inside an option.
+ *    first two, those of a client subnet after its address, and the options of a truncated OPT (see dns_rdata_part).
  *
  * Types with a form of their own: A, AAAA, ANAME, CAA, CERT, CNAME, CSYNC, HINFO, HTTPS, MX, NAPTR, NULL, NS, OPENPGPKEY,
- * OPT, PTR, SMIMEA, SOA, SRV, SSHFP, SVCB, TLSA, TXT and 0. ANY, AXFR and IXFR have no data. The data of every other type is
- * octets of any form.
+ * OPT, PTR, SMIMEA, SOA, SRV, SSHFP, SVCB, TLSA, TXT and 0. ANY, AXFR and IXFR have no data. The RDATA of every other type is any
+ * octets, and names in it are not known: case counts, and a compression pointer, which old senders may have written in MB, MD, MF, MG,
+ * MINFO, MR, AFSDB, NXT, PX, RP, RT and SIG (RFC 3597, section 4), stays one in what dns_rdata_wire, dns_rdata_canonical and
+ * dns_rdata_text write.
  */
 #ifndef DNS_RDATA_H
 #define DNS_RDATA_H
@@ -71,11 +78,11 @@ typedef uint32_t dns_rdata_status;
 enum {
     DNS_RDATA_OK = 0,
     DNS_RDATA_MEMORY = 1,                /* malloc failed */
-    DNS_RDATA_BUFFER = 2,                /* the buffer is too small, and *count says how large it must be */
+    DNS_RDATA_BUFFER = 2,                /* the buffer is too small: *count octets do not fit (of a text, *count + 1 with its 0) */
     DNS_RDATA_TOO_LONG = 3,              /* more than 65535 octets with all names uncompressed (dns_rdata_parse: WRONG_WORD) */
     DNS_RDATA_ORIGIN = 6,                /* the octets of the origin are no name */
     DNS_RDATA_NOT_UTF8 = 7,              /* the text is not UTF-8 (dns_rdata_type_number alone) */
-    DNS_RDATA_ABSENT = 9,                /* there is no name, option or parameter of this number, or no record is left */
+    DNS_RDATA_ABSENT = 9,                /* no name, option or parameter has this index, no record is left, or the text is right (dns_rdata_parse_why) */
     DNS_RDATA_OTHER_TYPE = 10,           /* two records have different types (dns_rdata_compare and dns_rdata_equal) */
 
     DNS_RDATA_REFUSED = 16,              /* the first refusal of octets */
@@ -175,8 +182,8 @@ DNS_RDATA_NONNULL dns_rdata_status dns_rdata_canonical(const struct dns_rdata *d
                                                        size_t *count);
 
 /*
- * Writes the uncompressed octets of the RDATA, names with their case preserved. They mean the same in every message, and a DNSSEC
- * signer or validator starts from them. The buffer is written with DNS_RDATA_OK alone. Does not allocate.
+ * Writes the uncompressed octets of the RDATA, names with their case preserved. For types with a form of their own they mean the same
+ * in every message, and a DNSSEC signer or validator starts from them. The buffer is written with DNS_RDATA_OK alone. Does not allocate.
  */
 DNS_RDATA_NONNULL dns_rdata_status dns_rdata_wire(const struct dns_rdata *data, uint8_t *out, size_t out_length,
                                                   size_t *count);
@@ -193,8 +200,12 @@ DNS_RDATA_NONNULL dns_rdata_status dns_rdata_name(const struct dns_rdata *data, 
 /*
  * Finds an option of OPT, or a parameter of SVCB and HTTPS: sets *number to its code or key, and *begin and *count to the offset in
  * the message and the number of the octets of its value. Parts are counted from 0 in the order of the message. If there is no part
- * with this index it returns DNS_RDATA_ABSENT, and so it does for every other type. An OPT that ends inside an option is valid and
- * has no options. The three numbers are set with DNS_RDATA_OK alone. Does not allocate.
+ * with this index it returns DNS_RDATA_ABSENT, and so it does for every other type. The three numbers are set with DNS_RDATA_OK alone.
+ * Does not allocate.
+ *
+ * An OPT that ends right after the code of an option, or inside the value of an option whose length is at most RDLENGTH, is valid and
+ * has no options. One that ends inside a code or a length, or that has an option whose length is above RDLENGTH, is rejected
+ * (DNS_RDATA_LENGTH).
  *
  * The call looks at the code and the length of every part up to the end of the RDATA, and of the parts before `index` once more. To
  * go over all parts use dns_rdata_parts_begin: with this call it takes time in the square of their number.
@@ -252,15 +263,16 @@ DNS_RDATA_NONNULL dns_rdata_status dns_rdata_compare(const struct dns_rdata *dat
 DNS_RDATA_NONNULL dns_rdata_status dns_rdata_equal(const struct dns_rdata *data, const struct dns_rdata *other,
                                                    int32_t *equal);
 
-/* -1, 0 or 1, the order of two lists of octets, a beginning of the other first: a total order. Takes no memory. */
+/* -1, 0 or 1, the order of two lists of octets, a beginning of the other first: a total order. Does not allocate. */
 DNS_RDATA_NONNULL int32_t dns_rdata_compare_canonical(const uint8_t *octets, size_t octets_length, const uint8_t *other,
                                                       size_t other_length);
 
 /*
  * Writes the zone file text of the RDATA, followed by a zero octet, in the presentation format that every name server reads (RFC
  * 1035, section 5.1; RFC 9460, section 2.1): one line of printable ASCII, names fully qualified and with their case preserved,
- * strings in quotes. Types without a format of their own, OPT, and RDATA that has no such text (as TXT without strings) are written
- * as unknown RDATA, \# and hexadecimal digits (RFC 3597, section 5). The buffer is written with DNS_RDATA_OK alone. RDATA of more than
+ * strings in quotes. Types without a form of their own, OPT, NULL, ANAME, 0, and RDATA that has no such text (as TXT without strings, or a
+ * service with an empty ALPN id) are written as unknown RDATA, \# and hexadecimal digits (RFC 3597, section 5). 1,048,576 octets hold any
+ * text; the longest is that of CSYNC with all types. The buffer is written with DNS_RDATA_OK alone. RDATA of more than
  * 65535 octets once its names are uncompressed is rejected with DNS_RDATA_TOO_LONG, since nothing reads its text.
  */
 DNS_RDATA_NONNULL dns_rdata_status dns_rdata_text(const struct dns_rdata *data, char *out, size_t out_length,
@@ -270,8 +282,9 @@ DNS_RDATA_NONNULL dns_rdata_status dns_rdata_text(const struct dns_rdata *data, 
  * Data from its text in a zone file, as it comes after the type, into the octets of dns_rdata_wire (RFC 1035, 5.1; RFC 9460, 2.1;
  * the RFCs of the types). The form of unknown data, \# and octets, is read of every type (RFC 3597, 5), and of a type without a form
  * of its own, of OPT, NULL, ANAME and 0 no other is. The text is octets, and need not be UTF-8. `origin` is the octets of a name,
- * with its 0 at the end, by which relative names are completed; with origin_length 0 there is none, and they stand as if they were
- * fully qualified.
+ * with its 0 at the end, by which relative names are completed; with origin_length 0 there is none, and they are read as if they were
+ * fully qualified. @ alone is the origin, and is rejected if there is none. An origin that is not one uncompressed name to its end is
+ * rejected with DNS_RDATA_ORIGIN, whatever the text.
  *
  * What is written is valid RDATA of the type (dns_rdata_check returns DNS_RDATA_OK for it). Text that dns_rdata_text wrote is read
  * again, with any origin, as the octets that dns_rdata_wire writes. The buffer is written with DNS_RDATA_OK alone. A text is rejected
@@ -288,7 +301,7 @@ struct dns_rdata_text_fault {
     size_t end;          /* the offset in the text where it ends, with its quotes */
     size_t field;        /* the offset in the reason where the name of the field starts */
     size_t field_length; /* how many octets the name has; 0 if the reason is about no field */
-    uint32_t cause;      /* the status with which the octets of the text are rejected, if that is the reason */
+    uint32_t cause;      /* what dns_rdata_check returns for the octets of the text, if that is the reason: mostly DNS_RDATA_LENGTH */
 };
 
 /*
@@ -321,7 +334,8 @@ struct dns_rdata_record {
     uint16_t type;     /* the number of its type */
     uint16_t rrclass;  /* its class: 1 for IN; of OPT the size of UDP payloads */
     uint16_t length;   /* RDLENGTH */
-    uint16_t has_data; /* 0 for a record of UPDATE that has no data: class ANY or NONE, RDLENGTH 0 (RFC 2136, 2.4 and 2.5); else 1 */
+    uint16_t has_data; /* 0 if it has no data, as in UPDATE (RFC 2136, 2.4 and 2.5): class ANY or NONE, RDLENGTH 0, and not OPT,
+                        whatever the OPCODE; in other messages treat it as damaged. Else 1 */
 };
 
 /*
@@ -378,8 +392,9 @@ DNS_RDATA_NONNULL dns_rdata_status dns_rdata_name_length(const uint8_t *message,
 
 /*
  * Writes the text of the name at an offset of the message, such as the owner of a record, followed by a zero octet: the presentation
- * format that dns_rdata_text prints too (RFC 1035, section 5.1), fully qualified and with case preserved; "." for the root. 1,005
- * octets hold any text with its zero octet. The buffer is written with DNS_RDATA_OK alone. Fails as dns_rdata_name_length does, and
+ * format that dns_rdata_text prints too (RFC 1035, section 5.1), fully qualified and with case preserved; "." for the root. The
+ * question's name is at offset 12. To get the octets of a name at an offset, take it as RDATA of type NS whose length is that of
+ * dns_rdata_name_length, and call dns_rdata_name with index 0. 1,005 octets hold any text with its zero octet. The buffer is written with DNS_RDATA_OK alone. Fails as dns_rdata_name_length does, and
  * with DNS_RDATA_MEMORY.
  */
 DNS_RDATA_NONNULL dns_rdata_status dns_rdata_name_text(const uint8_t *message, size_t message_length, size_t offset, char *out,
@@ -387,18 +402,24 @@ DNS_RDATA_NONNULL dns_rdata_status dns_rdata_name_text(const uint8_t *message, s
 
 /*
  * Reads a name from its text in a zone file (RFC 1035, section 5.1), and writes its octets, uncompressed and with case preserved: 255
- * hold any name. The text is one token without quotes: labels joined by dots, where \DDD is the octet with that number and \X the
- * character X; a dot alone is the root, and @ alone the origin. A name without a dot at its end is completed by the origin, as in
- * dns_rdata_parse. What dns_rdata_name_text wrote is read as the octets of that name. The buffer is written with DNS_RDATA_OK alone.
+ * hold any name. The text is one token without quotes, blanks, line ends, parentheses and comments around it left out: labels joined by
+ * dots, where \DDD is the octet with that number and \X the character X; a dot alone is the root, and @ alone the origin, if there is
+ * one. A name without a dot at its end is completed by the origin, and the origin is rejected, as in dns_rdata_parse. What dns_rdata_name_text wrote is read as the octets of that name. The buffer is written with DNS_RDATA_OK alone.
  * Any other text is rejected with DNS_RDATA_MISSING_WORD if it has no token, and otherwise with DNS_RDATA_WRONG_WORD.
  */
 DNS_RDATA_NONNULL dns_rdata_status dns_rdata_name_from_text(const char *text, size_t text_length, const uint8_t *origin,
                                                             size_t origin_length, uint8_t *out, size_t out_length, size_t *count);
 
-/* The type's name in capitals, or TYPE and its number (RFC 3597, 5), with a 0 after it. */
+/*
+ * Writes the type's name in capitals, or TYPE and its number (RFC 3597, 5), with a 0 after it; 11 octets hold any. The names are those
+ * of the constants above. The buffer is written with DNS_RDATA_OK alone.
+ */
 DNS_RDATA_NONNULL dns_rdata_status dns_rdata_type_text(uint16_t type, char *out, size_t out_length, size_t *count);
 
-/* The type of a name in capitals, or of TYPE and a number. DNS_RDATA_NO_TYPE where the text is of none. Takes no memory. */
+/*
+ * The type that a text names: a name of IANA's registry in either case (LOC, too, which has no constant above), ZERO, ANAME, or TYPE in
+ * capitals and a number. DNS_RDATA_NO_TYPE for every other text. *type is set with DNS_RDATA_OK alone. Does not allocate.
+ */
 DNS_RDATA_NONNULL dns_rdata_status dns_rdata_type_number(const char *text, size_t text_length, uint16_t *type);
 
 /*

@@ -293,7 +293,9 @@ int main(void) {
     dns_rdata_status status;
 
     want(dns_rdata_type_number("MX", 2, &type) == DNS_RDATA_OK && type == 15, "the number of MX");
-    want(dns_rdata_type_number("mx", 2, &type) == DNS_RDATA_NO_TYPE, "no type mx");
+    want(dns_rdata_type_number("mx", 2, &type) == DNS_RDATA_OK && type == 15, "the number of mx");
+    want(dns_rdata_type_number("Loc", 3, &type) == DNS_RDATA_OK && type == 29, "the number of Loc");
+    want(dns_rdata_type_number("type29", 6, &type) == DNS_RDATA_NO_TYPE && type == 29, "no type type29");
     want(dns_rdata_type_text(4711, text, sizeof text, &count) == DNS_RDATA_OK, "the text of 4711");
     printf("type 4711 is %s, of %zu\n", text, count);
 

@@ -133,7 +133,7 @@ class Calls(unittest.TestCase):
     def test_types(self):
         self.assertEqual([_calls.type_text(15), _calls.type_text(4711)], ["MX", "TYPE4711"])
         self.assertEqual([_calls.type_number("MX"), _calls.type_number("TYPE4711")], [15, 4711])
-        self.rejected(Status.NO_TYPE, _calls.type_number, "mx")
+        self.rejected(Status.NO_TYPE, _calls.type_number, "mxx")
         named = {_calls.type_text(number): number for number in range(65536)}
         named = {name: number for name, number in named.items() if name != f"TYPE{number}"}
         self.assertEqual({it.name: it.value for it in RdataType}, named)

@@ -44,6 +44,35 @@ class Checked(unittest.TestCase):
         self.assertRaises(OverflowError, Rdata.from_wire, RdataType.A, b"\0\0\0\0", -1)
         self.assertRaises(OverflowError, Rdata, 65536, b"")
 
+    def test_octets(self):
+        for octets in (3, None, "abc", [1, 2]):
+            self.assertRaises(TypeError, Rdata, RdataType.A, octets)
+            self.assertRaises(TypeError, Rdata.from_wire, RdataType.A, octets)
+            self.assertRaises(TypeError, Name, octets)
+            self.assertRaises(TypeError, next, dns_rdata.records(octets))
+        self.assertEqual(Rdata(RdataType.A, memoryview(b"\1\2\3\4")), Rdata(RdataType.A, bytearray(b"\1\2\3\4")))
+
+    def test_text_with_surrogates(self):
+        for call in (Name.from_text, RdataType.from_text, lambda text: Rdata.from_text(RdataType.TXT, text)):
+            with self.assertRaises(TextError) as caught:
+                call("\ud800")
+            self.assertEqual(caught.exception.status, Status.NOT_UTF8)
+
+    def test_statuses_of_later_versions(self):
+        status = Status(29)
+        self.assertEqual((status.name, int(status), pickle.loads(pickle.dumps(status))), ("STATUS29", 29, 29))
+        self.assertRaises(ValueError, Status, -1)
+
+    def test_names_of_types(self):
+        self.assertEqual([str(RdataType.from_text(text)) for text in ("mx", "Loc", "TYPE29", "ANAME")], ["MX", "TYPE29", "TYPE29", "ANAME"])
+        self.assertEqual((f"{MX}", f"{MX:d}", f"{MX:>4}", "%d" % MX), ("MX", "15", "  15", "15"))
+
+    def test_names_in_messages(self):
+        self.assertEqual(Name.from_wire(MESSAGE), (Name.from_text("www.example.com"), 17))
+        self.assertEqual(Name.from_wire(bytearray(MESSAGE), 19), (Name.from_text("www.example.com"), 2))
+        self.assertRaises(WireError, Name.from_wire, MESSAGE, 18)
+        self.assertRaises(WireError, Name.from_wire, MESSAGE, 22)
+
     def test_text(self):
         origin = Name.from_text("example.")
         self.assertEqual(Rdata.from_text(MX, "10 mail", origin).octets, b"\0\x0a\4mail\7example\0")
@@ -158,7 +187,7 @@ class Types(unittest.TestCase):
         for number in [-1, 65536, "MX"]:
             self.assertRaises(ValueError, RdataType, number)
         with self.assertRaises(TextError) as caught:
-            RdataType.from_text("mx")
+            RdataType.from_text("mxx")
         self.assertEqual(caught.exception.status, Status.NO_TYPE)
 
 

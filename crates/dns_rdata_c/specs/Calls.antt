@@ -1,5 +1,5 @@
 -- What the calls give.
-use Rattle.std.specs.Prelude.{◌≡◌, ◌⊎◌, ℕ, ◌<◌, ◌≤◌, ℤ, pos, negsuc, Option, Some, None, List, [], length}
+use Rattle.std.specs.Prelude.{◌≡◌, ◌⊎◌, ℕ, ◌≤◌, ℤ, pos, negsuc, Option, Some, None, List, [], length}
 use Rattle.std.specs.Prelude.{Result, Ok, Err}
 use Rattle.std.specs.{Ordering.nat_cmp, Cmp.Lexicographic.slice_cmp, declared.cmp.Ordering.Ordering}
 use Rattle.std.specs.declared.cmp.Ordering.TheVariants.{Less, Equal, Greater}

@@ -1,7 +1,8 @@
 //! Domain names in a message, in RDATA and in text, and the names of the types of records.
 
 ghost use Rattle.std.specs.{Prelude.◌≡◌, Prelude.◌≢◌, Prelude.◌+◌, Prelude.◌<◌, Prelude.◌≤◌, Prelude.◌⊎◌, Prelude.length as size, Str.IsUtf8};
-ghost use Rattle.dns_types.specs.RecordTypes.{record_type_of, number_of, type_text, IsTypeText};
+ghost use Rattle.dns_types.specs.RecordTypes.{record_type_of, number_of, type_text};
+ghost use Rattle.dns_zone_tokens.specs.TypeNames.{IsZoneType};
 ghost use Rattle.dns_view.specs.{NameEnds.NameEnds, NameFields.names_in};
 ghost use Rattle.dns_rdata.specs.{Data.fields_of, WholeOctets.name_octets};
 ghost use Rattle.dns_rdata_zone.specs.Names.{zone_name};
@@ -16,7 +17,7 @@ use crate::status::{
 };
 use crate::writing::put_text;
 use dns_rdata::{BinDecodable, BinDecoder, DecodeError, Name, RecordType};
-use dns_rdata_zone::{ZoneName, name_from_zone_text};
+use dns_rdata_zone::{ZoneName, name_from_zone_text, type_named};
 use dns_view::names::skip_name;
 use std::alloc::Global;
 
@@ -173,20 +174,21 @@ pub extern "C" fn dns_rdata_type_text(
     }
 }
 
-/// Tells the number of the type of this name: its name in capitals, or `TYPE` and its number. Allocates nothing.
+/// Tells the number of the type that a text names: a name of IANA's registry in either case, a name that
+/// `dns_rdata_type_text` writes, or `TYPE` in capitals and a number. Allocates nothing.
 #[unsafe(no_mangle)]
 pub extern "C" fn dns_rdata_type_number(text: &[u8], type_number: &mut u16) -> u32
-    ensures ok { result ≡ OK → (t : _) × IsTypeText text.now t × (type_number.new ≡ number_of t) }
-    ensures refused { result ≡ NO_TYPE → (t : _) → ¬ (IsTypeText text.now t) }
+    ensures ok { result ≡ OK → (t : _) × IsZoneType text.now t × (type_number.new ≡ number_of t) }
+    ensures refused { result ≡ NO_TYPE → (t : _) → ¬ (IsZoneType text.now t) }
     ensures not_utf8 { result ≡ NOT_UTF8 → ¬ (IsUtf8 text.now) }
     ensures utf8 { result ≢ NOT_UTF8 → IsUtf8 text.now }
     ensures status { (result ≡ OK) ⊎ (result ≡ NOT_UTF8) ⊎ (result ≡ NO_TYPE) }
     ensures untold { result ≢ OK → type_number.new ≡ type_number.old }
 {
-    let Ok(text) = str::from_utf8(text) else {
+    if str::from_utf8(text).is_err() {
         return NOT_UTF8;
-    };
-    let Ok(record_type) = text.parse::<RecordType>() else {
+    }
+    let Some(record_type) = type_named(text) else {
         return NO_TYPE;
     };
     *type_number = u16::from(record_type);

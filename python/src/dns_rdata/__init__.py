@@ -1,6 +1,6 @@
 """The data of DNS resource records (RDATA): checked, compared, printed and parsed, by a library in which every function is proved.
 
->>> from dns_rdata import Rdata, RdataType
+>>> from dns_rdata import Rdata, RdataType, WireError
 >>> message = bytes.fromhex("074578616d706c6503636f6d00" "000ac000")
 >>> mx = Rdata.from_wire(RdataType.MX, message, 13, 4)
 >>> mx.to_text()

@@ -135,8 +135,23 @@ _SIZES = 1 << 8 * ctypes.sizeof(ctypes.c_size_t)
 
 def data(message: Octets, offset: int, length: int, type_number: int) -> Data:
     """RDATA in a message. ctypes truncates a number that is too large without a word, so it is rejected here."""
-    octets = bytes(message)
+    octets = octets_of(message)
     return Data(octets, len(octets), _size(offset), _short(length), _short(type_number))
+
+
+def octets_of(octets: Octets) -> bytes:
+    """The octets as bytes. What has no octets, as a number, raises TypeError."""
+    return octets if type(octets) is bytes else bytes(memoryview(octets))
+
+
+def _text_octets(text: Union[str, Octets]) -> bytes:
+    """The octets of a text. One with surrogates, which UTF-8 has not, raises TextError."""
+    if not isinstance(text, str):
+        return octets_of(text)
+    try:
+        return text.encode()
+    except UnicodeEncodeError:
+        raise TextError(Status.NOT_UTF8) from None
 
 
 def _size(offset: int) -> int:
@@ -243,7 +258,7 @@ def equal(first: Data, second: Data) -> bool:
 
 def compare_canonical(octets: Octets, other: Octets) -> int:
     """-1, 0 or 1: the order of two lists of octets, of which a beginning of the other comes first."""
-    first, second = bytes(octets), bytes(other)
+    first, second = octets_of(octets), octets_of(other)
     order: int = _library.dns_rdata_compare_canonical(first, len(first), second, len(second))
     return order
 
@@ -252,7 +267,7 @@ def parse(text: Union[str, Octets], type_number: int, origin: Octets = b"") -> b
     """The uncompressed octets of the RDATA that a zone file's text gives, which is what follows the type (RFC 1035, section 5.1; RFC
     9460, section 2.1; RFC 3597, section 5). `origin` is the octets of a name, by which relative names are completed. What `text`
     writes is read again as the octets of `wire`, whatever the origin."""
-    octets, name = text.encode() if isinstance(text, str) else bytes(text), bytes(origin)
+    octets, name = _text_octets(text), octets_of(origin)
     given = octets, len(octets), _short(type_number), name, len(name)
     try:
         return _filled(_library.dns_rdata_parse, *given)
@@ -274,21 +289,21 @@ def _explained(status: Status, *given: Any) -> TextError:
 def name_length(message: Octets, offset: int) -> int:
     """The number of octets that the name at an offset of the message takes there, with the zero octet or the compression pointer at its
     end. Raises WireError if no name is encoded there."""
-    octets, count = bytes(message), ctypes.c_size_t()
+    octets, count = octets_of(message), ctypes.c_size_t()
     _want_ok(_library.dns_rdata_name_length(octets, len(octets), _size(offset), _byref(count)))
     return count.value
 
 
 def name_text(message: Octets, offset: int) -> str:
     """The text of the name at an offset of the message, with a dot at its end. Raises WireError if no name is encoded there."""
-    octets = bytes(message)
+    octets = octets_of(message)
     return _filled(_library.dns_rdata_name_text, octets, len(octets), _size(offset)).decode()
 
 
 def name_from_text(text: Union[str, Octets], origin: Octets = b"") -> bytes:
     """The uncompressed octets of the name that a zone file's text is. `origin` is the octets of a name, by which a relative name is
     completed. Raises TextError if the text is not one name."""
-    octets, name = text.encode() if isinstance(text, str) else bytes(text), bytes(origin)
+    octets, name = _text_octets(text), octets_of(origin)
     return _filled(_library.dns_rdata_name_from_text, octets, len(octets), name, len(name))
 
 
@@ -321,7 +336,7 @@ def type_text(type_number: int) -> str:
 
 
 def type_number(text: str) -> int:
-    """The number of the type with this name in capitals, or with the number after TYPE."""
-    octets, number = text.encode(), ctypes.c_uint16()
+    """The number of the type with this name of IANA's registry, in either case, or with the number after TYPE."""
+    octets, number = _text_octets(text), ctypes.c_uint16()
     _want_ok(_library.dns_rdata_type_number(octets, len(octets), _byref(number)))
     return number.value

@@ -3,13 +3,14 @@
 from __future__ import annotations
 
 import enum
-from typing import Optional, Tuple
+from typing import Optional, Tuple, Type
 
 __all__ = ["MessageError", "RdataError", "Status", "TextError", "WireError"]
 
 
 class Status(enum.IntEnum):
-    """What a call returns: the names and numbers of dns_rdata.h."""
+    """What a call returns: the names and numbers of dns_rdata.h. A later library may have others, which are named by their number,
+    as STATUS29: treat them by their range."""
 
     OK = 0
     MEMORY = 1
@@ -41,13 +42,25 @@ class Status(enum.IntEnum):
     UNSUPPORTED_TYPE = 50
     WRONG_VALUE = 52
 
+    @classmethod
+    def _missing_(cls, value: object) -> Optional[Status]:
+        if not isinstance(value, int) or not 0 <= value < 1 << 32:
+            return None
+        member = int.__new__(cls, value)
+        member._name_ = f"STATUS{value}"
+        member._value_ = value
+        return member
+
+    def __reduce_ex__(self, protocol: object) -> Tuple[Type[Status], Tuple[int]]:
+        return type(self), (int(self),)
+
 
 _MEANINGS = {
     Status.BUFFER: "the buffer is too small",
     Status.TOO_LONG: "more than 65535 octets",
     Status.ORIGIN: "the origin is not a name",
     Status.NOT_UTF8: "the text is not UTF-8",
-    Status.ABSENT: "there is no name or part with this index",
+    Status.ABSENT: "there is nothing with this index, or nothing is left",
     Status.OTHER_TYPE: "the types differ",
     Status.MISSING_OCTETS: "octets are missing at the end of the message",
     Status.LENGTH: "wrong length of RDATA",

@@ -8,6 +8,7 @@ from typing import List, Optional, Tuple
 
 from . import _calls
 from ._errors import Status, TextError, WireError
+from ._rdtype import RdataType
 
 # A token without an octet that ends or quotes one (RFC 1035, section 5.1), unless a backslash is before it.
 _TOKEN = re.compile(r'(?:[^\\\t\n\r "();]|\\.)*\\?', re.DOTALL)
@@ -33,7 +34,7 @@ class Name:
 
     def __init__(self, octets: _calls.Octets) -> None:
         """The name whose uncompressed octets are exactly these. Raises WireError if they are not one name."""
-        self._octets = bytes(octets)
+        self._octets = _calls.octets_of(octets)
         # What begins at offset 0 has no compression pointer.
         if _calls.name_length(self._octets, 0) != len(self._octets):
             raise WireError(Status.NAME)
@@ -41,10 +42,25 @@ class Name:
     @classmethod
     def from_text(cls, text: str, origin: Optional[Name] = None) -> Name:
         """The name of a text in a zone file (RFC 1035, section 5.1). A relative name is completed by the origin, and `@` is the
-        origin; without one, it is read as if it had a dot at its end. Raises TextError if the text is not one name."""
+        origin; without one, a relative name is read as if it had a dot at its end, and `@` is an error. Raises TextError if the text
+        is not one name."""
         if not _TOKEN.fullmatch(text):
             raise TextError(Status.WRONG_WORD)
         return cls(_calls.name_from_text(text, origin.octets if origin else b""))
+
+    @classmethod
+    def from_wire(cls, message: _calls.Octets, offset: int = 0) -> Tuple[Name, int]:
+        """The name that is encoded at an offset of a message, as that of a question at offset 12, and the number of octets that it
+        takes there, with the zero octet or the compression pointer at its end. Raises WireError if no name is encoded there.
+
+        >>> Name.from_wire(b"\\x01x\\x00\\x01y\\xc0\\x00", 3)
+        (<Name y.x.>, 4)
+        """
+        octets = _calls.octets_of(message)
+        length = _calls.name_length(octets, offset)
+        # The RDATA of NS is a name.
+        ((_, name),) = _calls.names(octets, offset, length, RdataType.NS)
+        return cls(name), length
 
     @property
     def octets(self) -> bytes:

@@ -59,8 +59,9 @@ class Rdata:
     _length: int
 
     def __init__(self, rdtype: int, wire: _calls.Octets) -> None:
-        """All of these octets, if they are RDATA of the type: `from_wire` without an offset and a length."""
-        octets = bytes(wire)
+        """All of these octets, if they are RDATA of the type: `from_wire` without an offset and a length. Raises WireError if they
+        are not, and OverflowError if they are more than 65535 or the number of the type has more than 16 bits."""
+        octets = _calls.octets_of(wire)
         _calls.check(octets, 0, len(octets), rdtype)
         self._rdtype, self._message, self._offset, self._length = RdataType(rdtype), octets, 0, len(octets)
 
@@ -83,7 +84,7 @@ class Rdata:
         Traceback (most recent call last):
         dns_rdata.WireError: LENGTH: wrong length of RDATA: 2 octets read, 4 expected: damaged domain name at offset 2
         """
-        message = bytes(wire)
+        message = _calls.octets_of(wire)
         size = max(len(message) - offset, 0) if length is None else length
         _calls.check(message, offset, size, rdtype)
         return cls._checked(rdtype, message, offset, size)
@@ -91,8 +92,8 @@ class Rdata:
     @classmethod
     def from_text(cls, rdtype: int, text: Union[str, _calls.Octets], origin: Optional[Name] = None) -> Rdata:
         """The RDATA of a zone file's text, which is what follows the type (RFC 1035, section 5.1; RFC 9460, section 2.1). The
-        unknown-data form of RFC 3597 is read of every type. Relative names are completed by the origin; without one, they are read
-        as if they had a dot at their end.
+        unknown-data form of RFC 3597 is read of every type. Relative names are completed by the origin, and `@` is the origin; without
+        one, relative names are read as if they had a dot at their end, and `@` is an error.
 
         Raises TextError if the text is not that of RDATA of the type.
 
@@ -118,13 +119,13 @@ class Rdata:
 
     def to_text(self) -> str:
         """The text in a zone file, as every name server reads it (RFC 1035, section 5.1; RFC 9460, section 2.1). Types without a
-        format of their own, and OPT, are written in the unknown-data form of RFC 3597. Raises RdataError (TOO_LONG) if the RDATA has
+        format of their own, OPT, NULL, ANAME, 0, and RDATA that has no such text are written in the unknown-data form of RFC 3597. Raises RdataError (TOO_LONG) if the RDATA has
         more than 65535 octets with its names uncompressed."""
         return _calls.text(self._message, self._offset, self._length, self._rdtype)
 
     def to_wire(self) -> bytes:
-        """The uncompressed octets, names with their case preserved. They mean the same in every message, and a DNSSEC signer starts
-        from them. Raises RdataError (TOO_LONG) if they are more than 65535."""
+        """The uncompressed octets, names with their case preserved. For types with a format of their own they mean the same in every
+        message, and a DNSSEC signer starts from them; the octets of all other types are copied. Raises RdataError (TOO_LONG) if they are more than 65535."""
         return _calls.wire(self._message, self._offset, self._length, self._rdtype)
 
     def to_canonical(self) -> bytes:

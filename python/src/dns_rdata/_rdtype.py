@@ -72,9 +72,17 @@ class RdataType(enum.IntEnum):
 
     @classmethod
     def from_text(cls, text: str) -> RdataType:
-        """The type with this name in capitals, or with the number after TYPE. Raises TextError if there is none."""
+        """The type with this name of IANA's registry, in either case, or with the number after TYPE. Raises TextError if there is
+        none."""
         return cls(_calls.type_number(text))
 
     def to_text(self) -> str:
         """The name in capitals, or TYPE and the number."""
         return self.name
+
+    def __str__(self) -> str:
+        return self.to_text()
+
+    def __format__(self, format_spec: str) -> str:
+        """As text, or as a number if there is a format: `f"{rdtype:d}"`."""
+        return format(int(self) if format_spec else self.to_text(), format_spec)

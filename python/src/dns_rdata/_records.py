@@ -109,7 +109,7 @@ def records(message: _calls.Octets, limit: int = 65536) -> Iterator[Record]:
     ...     print(record.section.name, record.owner, record.ttl, record.rdtype.name, record.rdata)
     ANSWER a. 60 A 192.0.2.1
     """
-    octets = bytes(message)
+    octets = _calls.octets_of(message)
     cursor = _calls.records_begin(octets, limit)
     while True:
         found = _calls.records_next(octets, cursor)

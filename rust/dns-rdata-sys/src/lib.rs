@@ -26,7 +26,7 @@ pub type dns_rdata_status = u32;
 pub const DNS_RDATA_OK: dns_rdata_status = 0;
 /// An allocation failed.
 pub const DNS_RDATA_MEMORY: dns_rdata_status = 1;
-/// The buffer is too small, and `count` says how large it must be.
+/// The buffer is too small: `count` octets do not fit (of a text, `count` + 1 with its 0).
 pub const DNS_RDATA_BUFFER: dns_rdata_status = 2;
 /// More than 65535 octets with all names uncompressed.
 pub const DNS_RDATA_TOO_LONG: dns_rdata_status = 3;
@@ -34,7 +34,7 @@ pub const DNS_RDATA_TOO_LONG: dns_rdata_status = 3;
 pub const DNS_RDATA_ORIGIN: dns_rdata_status = 6;
 /// The text is not UTF-8 ([`dns_rdata_type_number`] alone).
 pub const DNS_RDATA_NOT_UTF8: dns_rdata_status = 7;
-/// There is no name, option or parameter with this index, or no record is left.
+/// No name, option or parameter has this index, no record is left, or the text is right ([`dns_rdata_parse_why`]).
 pub const DNS_RDATA_ABSENT: dns_rdata_status = 9;
 /// Two records have different types.
 pub const DNS_RDATA_OTHER_TYPE: dns_rdata_status = 10;

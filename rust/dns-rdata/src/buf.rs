@@ -177,6 +177,7 @@ fn why(
         },
         Error::of_status,
     )
+    .map_err(Error::with_zero)
 }
 
 impl AsRef<[u8]> for RdataBuf {

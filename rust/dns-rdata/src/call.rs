@@ -37,9 +37,8 @@ pub(crate) fn octets(
                 out.truncate(count);
                 return Ok(out);
             }
-            // A text needs one octet more than it has, for the zero octet after it.
             Err(error) => match error.needed() {
-                Some(needed) if needed >= room => room = needed + 1,
+                Some(needed) if needed > room => room = needed,
                 _ => return Err(error),
             },
         }

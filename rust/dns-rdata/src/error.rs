@@ -16,7 +16,7 @@ macro_rules! statuses {
         #[repr(u32)]
         pub enum Status {
             $($(#[$meaning])+ $name = sys::$number,)+
-            /// A status that this version does not know.
+            /// A status that this version does not know: [`Error::status_number`] has its number, by whose range it can be treated.
             Unknown = u32::MAX,
         }
 
@@ -52,8 +52,8 @@ statuses! {
         /// The octets of the origin are not a name.
     NotUtf8 DNS_RDATA_NOT_UTF8 "the text is not UTF-8"
         /// The text is not UTF-8.
-    Absent DNS_RDATA_ABSENT "there is no name or part with this index"
-        /// There is no name, option or parameter with this index. Calls of this crate return `None` instead.
+    Absent DNS_RDATA_ABSENT "there is nothing with this index, or nothing is left"
+        /// There is no name, option or parameter with this index, or nothing is left. Calls of this crate return `None` instead.
     OtherType DNS_RDATA_OTHER_TYPE "the types differ"
         /// The RDATA of two records has different types. Comparisons of this crate order it by its type instead.
     MissingOctets DNS_RDATA_MISSING_OCTETS "octets are missing at the end of the message"
@@ -102,7 +102,7 @@ statuses! {
 }
 
 impl Status {
-    /// The number in `dns_rdata.h`.
+    /// The number in `dns_rdata.h`; of [`Status::Unknown`], which is any number that this version does not know, `u32::MAX`.
     #[must_use]
     pub const fn number(self) -> u32 {
         self as u32
@@ -137,7 +137,7 @@ impl fmt::Display for Status {
 /// ```
 #[derive(Clone, Copy, Debug, PartialEq, Eq, Hash)]
 pub struct Error {
-    status: Status,
+    status: u32,
     numbers: Numbers,
 }
 
@@ -164,7 +164,7 @@ enum Numbers {
 impl Error {
     pub(crate) fn of_status(status: u32) -> Error {
         Error {
-            status: Status::from_number(status).unwrap_or(Status::Unknown),
+            status,
             numbers: Numbers::None,
         }
     }
@@ -187,8 +187,16 @@ impl Error {
 
     pub(crate) fn too_small(needed: usize) -> Error {
         Error {
-            status: Status::Buffer,
+            status: sys::DNS_RDATA_BUFFER,
             numbers: Numbers::Needed(needed),
+        }
+    }
+
+    /// The same of a text, after which the call writes a zero octet.
+    pub(crate) fn with_zero(self) -> Error {
+        match self.numbers {
+            Numbers::Needed(needed) => Error::too_small(needed + 1),
+            _ => self,
         }
     }
 
@@ -216,6 +224,13 @@ impl Error {
     /// Why the call failed.
     #[must_use]
     pub fn status(&self) -> Status {
+        // 0 is no reason to fail.
+        Status::from_number(self.status).unwrap_or(Status::Unknown)
+    }
+
+    /// The number of the status in `dns_rdata.h`, also of one that this version does not know.
+    #[must_use]
+    pub fn status_number(&self) -> u32 {
         self.status
     }
 
@@ -256,7 +271,7 @@ impl Error {
     #[must_use]
     pub fn read(&self) -> Option<usize> {
         match self.numbers {
-            Numbers::Rdata { read, .. } if self.status == Status::Length => Some(read),
+            Numbers::Rdata { read, .. } if self.status() == Status::Length => Some(read),
             _ => None,
         }
     }
@@ -265,7 +280,7 @@ impl Error {
     #[must_use]
     pub fn expected(&self) -> Option<usize> {
         match self.numbers {
-            Numbers::Rdata { expected, .. } if self.status == Status::Length => Some(expected),
+            Numbers::Rdata { expected, .. } if self.status() == Status::Length => Some(expected),
             _ => None,
         }
     }
@@ -279,14 +294,14 @@ impl Error {
                 Status::Never | Status::CsyncFlags | Status::AddressFamily => Some(number),
                 _ => None,
             },
-            Numbers::Text { record_type, .. } if self.status == Status::UnsupportedType => {
+            Numbers::Text { record_type, .. } if self.status() == Status::UnsupportedType => {
                 Some(u32::from(record_type.0))
             }
             _ => None,
         }
     }
 
-    /// With [`Status::Buffer`], the number of octets that the buffer must have.
+    /// With [`Status::Buffer`], the number of octets that the buffer must have; for a text, with the zero octet after it.
     #[must_use]
     pub fn needed(&self) -> Option<usize> {
         match self.numbers {
@@ -298,11 +313,11 @@ impl Error {
 
 impl fmt::Display for Error {
     fn fmt(&self, f: &mut fmt::Formatter<'_>) -> fmt::Result {
-        write!(f, "{}", self.status)?;
+        write!(f, "{}", self.status())?;
         if let (Some(read), Some(expected)) = (self.read(), self.expected()) {
             write!(f, ": {read} octets read, {expected} expected")?;
         }
-        if let Some(cause) = self.cause().filter(|&cause| cause != self.status) {
+        if let Some(cause) = self.cause().filter(|&cause| cause != self.status()) {
             write!(f, ": {cause}")?;
         }
         if let Some(number) = self.number() {

@@ -68,7 +68,7 @@ impl Name {
     }
 
     /// The name of a text in a zone file (RFC 1035, section 5.1). A relative name is completed by the origin, and `@` is the
-    /// origin; without one, it is read as if it had a dot at its end.
+    /// origin; without one, a relative name is read as if it had a dot at its end, and `@` is an error.
     ///
     /// # Errors
     ///
@@ -109,6 +109,34 @@ impl Name {
         )?;
         name.length = short(count);
         Ok(name)
+    }
+
+    /// The name that is encoded at an offset of a message, as that of a question at offset 12, and the number of octets that it
+    /// takes there ([`Name::encoded_len`]).
+    ///
+    /// # Errors
+    ///
+    /// [`Status::Name`](crate::Status::Name) if no name is encoded there, and
+    /// [`Status::MissingOctets`](crate::Status::MissingOctets) if the offset is past the end of the message.
+    ///
+    /// # Examples
+    ///
+    /// ```
+    /// use dns_rdata::Name;
+    ///
+    /// let (name, length) = Name::from_wire(b"\x01x\x00\x01y\xc0\x00", 3)?;
+    /// assert_eq!((name.as_octets(), length), (&b"\x01y\x01x\0"[..], 4));
+    /// # Ok::<(), dns_rdata::Error>(())
+    /// ```
+    pub fn from_wire(message: &[u8], offset: usize) -> Result<(Name, usize), Error> {
+        let damaged = Error::of_status(DNS_RDATA_NAME);
+        let length = Name::encoded_len(message, offset)?;
+        let short = u16::try_from(length).map_err(|_| damaged)?;
+        // The RDATA of NS is a name.
+        match Name::in_rdata(Rdata::unchecked(message, offset, short, RecordType::NS), 0) {
+            Some((name, _)) => Ok((name, length)),
+            None => Err(damaged),
+        }
     }
 
     /// How many octets the name that is encoded at an offset of a message takes there, with the zero octet or the compression pointer

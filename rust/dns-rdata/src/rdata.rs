@@ -159,7 +159,7 @@ impl<'a> Rdata<'a> {
     }
 
     /// The text in a zone file, as every name server reads it (RFC 1035, section 5.1; RFC 9460, section 2.1). Types without a
-    /// format of their own, and OPT, are written in the unknown-data form of RFC 3597.
+    /// format of their own, OPT, NULL, ANAME, 0, and RDATA that has no such text are written in the unknown-data form of RFC 3597.
     ///
     /// # Errors
     ///
@@ -173,14 +173,13 @@ impl<'a> Rdata<'a> {
     ///
     /// # Errors
     ///
-    /// As [`Rdata::to_text`], and [`Status::Buffer`] if the buffer is too small, whose [`Error::needed`] is the length of the
-    /// text: the buffer needs one octet more.
+    /// As [`Rdata::to_text`], and [`Status::Buffer`] if the buffer is too small, whose [`Error::needed`] counts the zero octet.
     pub fn write_text(&self, out: &mut [u8]) -> Result<usize, Error> {
-        put!(self, dns_rdata_text, out)
+        put!(self, dns_rdata_text, out).map_err(Error::with_zero)
     }
 
-    /// The uncompressed octets, names with their case preserved. They mean the same in every message, and a DNSSEC signer starts
-    /// from them.
+    /// The uncompressed octets, names with their case preserved. For types with a format of their own they mean the same in every
+    /// message, and a DNSSEC signer starts from them; the octets of all other types are copied.
     ///
     /// # Errors
     ///

@@ -93,7 +93,7 @@ impl From<RecordType> for u16 {
 impl FromStr for RecordType {
     type Err = Error;
 
-    /// The type with this name in capitals, or with the number after `TYPE`.
+    /// The type with this name of IANA's registry, in either case, or with the number after `TYPE`.
     ///
     /// # Errors
     ///

@@ -47,9 +47,10 @@ fn hash(value: &impl Hash) -> u64 {
 #[test]
 fn types() {
     assert_eq!("MX".parse(), Ok(MX));
+    assert_eq!("Loc".parse(), Ok(RecordType(29)));
     assert_eq!("TYPE15".parse(), Ok(MX));
     assert_eq!(
-        "mx".parse::<RecordType>().unwrap_err().status(),
+        "mxx".parse::<RecordType>().unwrap_err().status(),
         Status::NoType
     );
     assert_eq!(
@@ -242,7 +243,7 @@ fn buffers_of_the_caller() {
     assert_eq!(&out[..20], b"10 WWW.example.com.\0");
     assert_eq!(
         mx().write_text(&mut [0; 19]).unwrap_err().needed(),
-        Some(19)
+        Some(20)
     );
     assert_eq!(
         mx().write_canonical(&mut []).unwrap_err().needed(),
