@@ -7,7 +7,8 @@ top=$(cd "$(dirname "$0")/.." && pwd)
 need_rt vendor
 dir=$(mktemp -d)
 trap 'rm -rf "$dir"' EXIT
-good=0 bad=0
+. "$top/tests/want.sh"
+to="$dir/there"
 
 # The first block of a page that is marked with a word and is after a line with a text.
 block() { # PAGE WORD TEXT
@@ -18,27 +19,30 @@ block() { # PAGE WORD TEXT
     after && $0 == mark word { inside = 1 }' "$top/$1"
 }
 
-tell() { # STATUS WHAT
-  if [ "$1" = 0 ]; then good=$((good + 1)); else bad=$((bad + 1)); echo "not as wanted: $2"; fi
+# Without the word `zone`.
+few() { "$top/tools/vendor.sh" "$to" && [ -d "$to/crates/dns_message" ] && [ ! -d "$to/crates/dns_rdata_zone" ]; }
+
+# With it, after a copy that is there: no line of crates.txt is there twice.
+all() { "$top/tools/vendor.sh" "$to" zone && [ -d "$to/crates/dns_rdata_zone" ] && [ -z "$(sort "$to/crates.txt" | uniq -d)" ]; }
+
+# Another word.
+other() {
+  "$top/tools/vendor.sh" "$to" other
+  [ $? = 2 ]
 }
 
-"$top/tools/vendor.sh" "$dir" >/dev/null
-[ -d "$dir/crates/dns_message" ] && [ ! -d "$dir/crates/dns_rdata_zone" ]
-tell $? 'tools/vendor.sh FOLDER copies dns_rdata and dns_message'
-"$top/tools/vendor.sh" "$dir" zone >/dev/null
-[ -d "$dir/crates/dns_rdata_zone" ] && [ "$(sort "$dir/crates.txt" | uniq -d | wc -l)" = 0 ]
-tell $? 'tools/vendor.sh FOLDER zone also copies dns_rdata_zone, and writes no line twice'
-"$top/tools/vendor.sh" "$dir" other 2>/dev/null
-[ $? = 2 ]
-tell $? 'tools/vendor.sh FOLDER other ends with status 2'
+# Whether the program prints what the first module of `guide` prints.
+runs() {
+  mkdir -p "$to/crates/app/src" && echo 'app: dns_rdata dns_message dns_rdata_zone anyhow' >>"$to/crates.txt" && cd "$to/crates/app" || return 1
+  block docs/GUIDE.md text 'main.rt' >src/main.rt
+  block README.md rust 'prints every record of a response' >src/response.rt
+  rt try >"$dir/out"
+  head -n 3 "$top/crates/guide/stdout" | diff - "$dir/out"
+}
 
-mkdir -p "$dir/crates/app/src"
-echo 'app: dns_rdata dns_message dns_rdata_zone anyhow' >>"$dir/crates.txt"
-block docs/GUIDE.md text 'main.rt' >"$dir/crates/app/src/main.rt"
-block README.md rust 'prints every record of a response' >"$dir/crates/app/src/response.rt"
-(cd "$dir/crates/app" && rt try 2>"$dir/log") >"$dir/out"
-head -n 3 "$top/crates/guide/stdout" | cmp -s - "$dir/out"
-tell $? "README's program in another repository"
-[ "$bad" = 0 ] || { cat "$dir/out"; tail -n 20 "$dir/log"; }
+want 'tools/vendor.sh FOLDER' few
+want 'tools/vendor.sh FOLDER zone' all
+want 'tools/vendor.sh FOLDER with another word' other
+want "README's program in another repository" runs
 echo "$good as wanted, $bad not"
 [ "$bad" = 0 ]

@@ -23,7 +23,8 @@
  *    status that you do not know by its range.
  *  - If octets or a text do not fit into the buffer, the call returns DNS_RDATA_BUFFER, and *count tells how many octets they
  *    are, so the call can be made again; a buffer of length 0 asks for that number. Of a text *count is the length without the 0
- *    after it, as with snprintf: the buffer needs one octet more. *count is set with DNS_RDATA_OK and DNS_RDATA_BUFFER, and otherwise left as it was.
+ *    after it, as with snprintf: the buffer needs one octet more. *count is set with DNS_RDATA_OK and DNS_RDATA_BUFFER, and otherwise
+ *    left as it was.
  *  - RDATA is rejected for the first of these reasons that holds: its offset is past the end of the message
  *    (DNS_RDATA_MISSING_OCTETS); the type is never read (DNS_RDATA_NEVER); the record takes another number of octets than `length`
  *    (DNS_RDATA_LENGTH); the record itself has an error (the other statuses). Reading stops at the first error, mostly before the end
@@ -82,7 +83,7 @@ enum {
     DNS_RDATA_TOO_LONG = 3,              /* more than 65535 octets with all names uncompressed (dns_rdata_parse: WRONG_WORD) */
     DNS_RDATA_ORIGIN = 6,                /* the octets of the origin are no name */
     DNS_RDATA_NOT_UTF8 = 7,              /* the text is not UTF-8 (dns_rdata_type_number alone) */
-    DNS_RDATA_ABSENT = 9,                /* no name, option or parameter has this index, no record is left, or the text is right (dns_rdata_parse_why) */
+    DNS_RDATA_ABSENT = 9,                /* nothing has this index, nothing is left, or the text is right (dns_rdata_parse_why) */
     DNS_RDATA_OTHER_TYPE = 10,           /* two records have different types (dns_rdata_compare and dns_rdata_equal) */
 
     DNS_RDATA_REFUSED = 16,              /* the first refusal of octets */
@@ -394,7 +395,8 @@ DNS_RDATA_NONNULL dns_rdata_status dns_rdata_name_length(const uint8_t *message,
  * Writes the text of the name at an offset of the message, such as the owner of a record, followed by a zero octet: the presentation
  * format that dns_rdata_text prints too (RFC 1035, section 5.1), fully qualified and with case preserved; "." for the root. The
  * question's name is at offset 12. To get the octets of a name at an offset, take it as RDATA of type NS whose length is that of
- * dns_rdata_name_length, and call dns_rdata_name with index 0. 1,005 octets hold any text with its zero octet. The buffer is written with DNS_RDATA_OK alone. Fails as dns_rdata_name_length does, and
+ * dns_rdata_name_length, and call dns_rdata_name with index 0. 1,005 octets hold any text with its zero octet. The buffer is written
+ * with DNS_RDATA_OK alone. Fails as dns_rdata_name_length does, and
  * with DNS_RDATA_MEMORY.
  */
 DNS_RDATA_NONNULL dns_rdata_status dns_rdata_name_text(const uint8_t *message, size_t message_length, size_t offset, char *out,
@@ -404,7 +406,8 @@ DNS_RDATA_NONNULL dns_rdata_status dns_rdata_name_text(const uint8_t *message, s
  * Reads a name from its text in a zone file (RFC 1035, section 5.1), and writes its octets, uncompressed and with case preserved: 255
  * hold any name. The text is one token without quotes, blanks, line ends, parentheses and comments around it left out: labels joined by
  * dots, where \DDD is the octet with that number and \X the character X; a dot alone is the root, and @ alone the origin, if there is
- * one. A name without a dot at its end is completed by the origin, and the origin is rejected, as in dns_rdata_parse. What dns_rdata_name_text wrote is read as the octets of that name. The buffer is written with DNS_RDATA_OK alone.
+ * one. A name without a dot at its end is completed by the origin, and a wrong origin is rejected, as in dns_rdata_parse. What
+ * dns_rdata_name_text wrote is read as the octets of that name. The buffer is written with DNS_RDATA_OK alone.
  * Any other text is rejected with DNS_RDATA_MISSING_WORD if it has no token, and otherwise with DNS_RDATA_WRONG_WORD.
  */
 DNS_RDATA_NONNULL dns_rdata_status dns_rdata_name_from_text(const char *text, size_t text_length, const uint8_t *origin,

@@ -145,7 +145,7 @@ def octets_of(octets: Octets) -> bytes:
 
 
 def _text_octets(text: Union[str, Octets]) -> bytes:
-    """The octets of a text. One with surrogates, which UTF-8 has not, raises TextError."""
+    """The octets of a text. One with surrogates, which UTF-8 cannot encode, raises TextError."""
     if not isinstance(text, str):
         return octets_of(text)
     try:

@@ -2,13 +2,14 @@
 
 from __future__ import annotations
 
-import enum
-from typing import Optional, Tuple, Type
+from typing import Optional, Tuple
+
+from ._open import OpenEnum
 
 __all__ = ["MessageError", "RdataError", "Status", "TextError", "WireError"]
 
 
-class Status(enum.IntEnum):
+class Status(OpenEnum):
     """What a call returns: the names and numbers of dns_rdata.h. A later library may have others, which are named by their number,
     as STATUS29: treat them by their range."""
 
@@ -43,16 +44,8 @@ class Status(enum.IntEnum):
     WRONG_VALUE = 52
 
     @classmethod
-    def _missing_(cls, value: object) -> Optional[Status]:
-        if not isinstance(value, int) or not 0 <= value < 1 << 32:
-            return None
-        member = int.__new__(cls, value)
-        member._name_ = f"STATUS{value}"
-        member._value_ = value
-        return member
-
-    def __reduce_ex__(self, protocol: object) -> Tuple[Type[Status], Tuple[int]]:
-        return type(self), (int(self),)
+    def _others(cls) -> Tuple[str, int]:
+        return "STATUS", 1 << 32
 
 
 _MEANINGS = {

@@ -119,13 +119,14 @@ class Rdata:
 
     def to_text(self) -> str:
         """The text in a zone file, as every name server reads it (RFC 1035, section 5.1; RFC 9460, section 2.1). Types without a
-        format of their own, OPT, NULL, ANAME, 0, and RDATA that has no such text are written in the unknown-data form of RFC 3597. Raises RdataError (TOO_LONG) if the RDATA has
-        more than 65535 octets with its names uncompressed."""
+        format of their own, OPT, NULL, ANAME, 0, and RDATA that has no such text are written in the unknown-data form of RFC 3597.
+        Raises RdataError (TOO_LONG) if the RDATA has more than 65535 octets with its names uncompressed."""
         return _calls.text(self._message, self._offset, self._length, self._rdtype)
 
     def to_wire(self) -> bytes:
         """The uncompressed octets, names with their case preserved. For types with a format of their own they mean the same in every
-        message, and a DNSSEC signer starts from them; the octets of all other types are copied. Raises RdataError (TOO_LONG) if they are more than 65535."""
+        message, and a DNSSEC signer starts from them; the octets of all other types are copied. Raises RdataError
+        (TOO_LONG) if they are more than 65535."""
         return _calls.wire(self._message, self._offset, self._length, self._rdtype)
 
     def to_canonical(self) -> bytes:

@@ -2,12 +2,13 @@
 
 from __future__ import annotations
 
-import enum
+from typing import Tuple
 
 from . import _calls
+from ._open import OpenEnum
 
 
-class RdataType(enum.IntEnum):
+class RdataType(OpenEnum):
     """The type of a resource record, by its number. The members are the types that the library has names for; every other number
     of 16 bits is a type, too, whose name is TYPE and the number (RFC 3597, section 5).
 
@@ -58,17 +59,8 @@ class RdataType(enum.IntEnum):
     ANAME = 65305
 
     @classmethod
-    def _missing_(cls, value: object) -> RdataType | None:
-        if not isinstance(value, int) or not 0 <= value <= 65535:
-            return None
-        member = int.__new__(cls, value)
-        member._name_ = f"TYPE{value}"
-        member._value_ = value
-        return member
-
-    def __reduce_ex__(self, protocol: object) -> tuple[type[RdataType], tuple[int]]:
-        # By the number, since some versions of Python pickle the name, and find members of the class alone by it.
-        return type(self), (int(self),)
+    def _others(cls) -> Tuple[str, int]:
+        return "TYPE", 1 << 16
 
     @classmethod
     def from_text(cls, text: str) -> RdataType:
