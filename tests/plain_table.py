@@ -1,6 +1,6 @@
 """A plain table of record data: what octets are data of a type, and what is printed of them.
 
-It is slow, whole, and written from the tables of the RFCs, as docs/DEFINITIONS.md and docs/TEXTS.md retell them, and not
+It is slow, whole, and written from the tables of the RFCs, as docs/dev/DEFINITIONS.md and docs/TEXTS.md retell them, and not
 from the library's code. The tests compare the program with it.
 
 Each type has a recognizer: a function of a `Window` that takes the fields from it, and answers the fields' canonical octets,

@@ -1,5 +1,6 @@
 #!/usr/bin/env python3
-"""Makes docs/API.md: each public item of the crates that users name, with its first sentence and whether it allocates.
+"""Makes docs/API.md: each public item of the crates that users name, with its first sentence, the traits that it implements, its
+public fields or its variants, and whether a call allocates.
 
     tools/api.py            writes docs/API.md
     tools/api.py --check    compares it with what would be written; the last line is 'N as wanted, M not'
@@ -16,16 +17,32 @@ TOP = pathlib.Path(__file__).resolve().parent.parent
 PAGE = TOP / "docs/API.md"
 USERS = ["dns_rdata", "dns_message", "dns_rdata_zone", "dns_rdata_laws"]
 ITEM = re.compile(r"^( *)pub (?:const |unsafe |extern \"C\" )*(struct|enum|trait|fn|const|static|type|macro) (\w+)")
-IMPL = re.compile(r"^impl(?:<[^{]*?>)? (?:(?P<trait>[\w:]+)(?:<.*?>)? for )?&?(?:'\w+ )?(?P<type>\w+)")
+IMPL = re.compile(r"^impl(?:<[^{]*?>)? (?:(?P<trait>[\w:]+)(?P<of><.*?>)? for )?(?P<lent>&?)(?:'\w+ )?(?P<type>\w+)")
+TRAIT = re.compile(r"^(?:pub(?:\([a-z]+\))? )?trait ")
+FIELD = re.compile(r"^    pub (\w+): (.+),$")
+VARIANT = re.compile(r"^    (\w+)(?:[,({]| \{)")
+# The traits that a user asks for.
+ASKED = (
+    "Clone Copy Debug Display Error Eq PartialEq Ord PartialOrd Hash Default Iterator IntoIterator From FromStr AsRef AsMut Deref "
+    "BinDecodable BinEncodable RecordDataDecodable RecordData"
+).split()
+
+IMPLIED = {
+    "Error": ["Display"],
+    "DecodesFields": ["BinDecodable", "RecordDataDecodable"],
+    "EncodesFields": ["BinEncodable"],
+    "Variant": ["RecordData"],
+}
 
 
 class Item:
     def __init__(self, kind, name, doc, text, crate):
         self.kind, self.name, self.doc, self.text, self.crate = kind, name, doc, text, crate
-        self.calls = []
+        self.calls, self.derived, self.fields, self.variants = [], [], [], []
 
     def sentence(self):
         text = re.sub(r"\[([^\]]*)\]\([^)]*\)", r"\1", " ".join(self.doc).strip())
+        text = re.sub(r"\[(`[^\]]*`)\]", r"\1", text)
         found = re.match(r"(.*?[.:])(?: [A-Z`]|$)", text)
         return (found.group(1) if found else text).replace("|", "\\|")
 
@@ -43,21 +60,50 @@ class Item:
         return "yes" if "alloc: Global" in head or "AllocError" in result else "may"
 
 
+def parts_of(lines, i):
+    """The public fields of the struct, or the variants of the enum, that begins in a line, each with its first sentence."""
+    fields, variants, doc = [], [], []
+    if lines[i].rstrip().endswith("{"):
+        for line in lines[i + 1 :]:
+            if line.startswith("}"):
+                break
+            said = re.match(r"^    /// ?(.*)$", line)
+            field, variant = FIELD.match(line), VARIANT.match(line)
+            if said:
+                doc.append(said.group(1))
+            elif field:
+                it = Item("field", field.group(1), doc[: doc.index("")] if "" in doc else doc, "", "")
+                fields.append((it.name, field.group(2), it.sentence()))
+            elif variant and variant.group(1)[0].isupper():
+                variants.append(variant.group(1))
+            if not said and not line.strip().startswith("#["):
+                doc = []
+    return fields, variants
+
+
 def items_of(crate):
     """The public items of a crate, by file (its module), and the calls of each type."""
     modules, types = {}, {}
     for file in sorted((TOP / f"crates/{crate}/src").glob("**/*.rt")):
         module = "::".join(file.relative_to(TOP / f"crates/{crate}/src").with_suffix("").parts)
-        found, doc, owner, trait = [], [], None, None
+        found, doc, owner, trait, derived = [], [], None, None, []
         lines = file.read_text(encoding="utf-8").split("\n")
         for i, line in enumerate(lines):
             said = re.match(r"^ *///? ?(.*)$", line) if line.strip().startswith("///") else None
             if said:
                 doc.append(said.group(1))
                 continue
+            derive = re.match(r"^#\[derive\((.*)\)\]", line)
+            if derive:
+                derived = re.findall(r"\w+", derive.group(1))
             impl = IMPL.match(line)
             if impl:
                 owner, trait = impl.group("type"), impl.group("trait")
+                if trait and not impl.group("lent"):
+                    types.setdefault(f"{owner}.impls", set()).add(trait.split("::")[-1] + (impl.group("of") or ""))
+            if TRAIT.match(line) and not line.startswith("pub trait"):
+                # A trait that is not public: its calls are no one's.
+                owner, trait = "", ""
             if line.startswith("}"):
                 owner = trait = None
             item = ITEM.match(line)
@@ -68,6 +114,11 @@ def items_of(crate):
                 it = Item(item.group(2), item.group(3), paragraph, text, crate)
                 it.doc_all = doc
                 if item.group(1) == "":
+                    it.derived, derived = derived, []
+                    if it.kind in ("struct", "enum"):
+                        it.fields, it.variants = parts_of(lines, i)
+                        if it.kind == "struct":
+                            it.variants = []
                     found.append(it)
                     types.setdefault(it.name, it)
                 elif owner and trait is None and len(item.group(1)) == 4:
@@ -130,8 +181,9 @@ def page():
     out = [
         "# The public interface",
         "",
-        "Made by `tools/api.py` from the sources; the gate compares. The last column says whether a call allocates: `no` is a call that",
-        "cannot fail for memory, `yes` one that is given an allocator or fails for memory alone, `may` one that can fail for memory.",
+        "Made by `tools/api.py` from the sources; the gate compares. Each type has the traits that it implements, its public fields or",
+        "its variants, and its calls. The last column says whether a call allocates: `no` is a call that cannot fail for memory, `yes` one",
+        "that is given an allocator or fails for memory alone, `may` one that can fail for memory.",
         "Contracts are in the sources; [GUARANTEES](GUARANTEES.md) has them in words, [TYPES](TYPES.md) the record types.",
         "",
     ]
@@ -142,9 +194,28 @@ def page():
             found += types.get(f"{name}.calls", [])
         return found
 
+    def traits_of(it):
+        found = set(it.derived)
+        for _, types in crates.values():
+            found |= types.get(f"{it.name}.impls", set())
+        # By the `impl`s for all types with another trait.
+        for trait, others in IMPLIED.items():
+            if trait in found:
+                found |= set(others)
+        return [name for asked in ASKED for name in sorted(found) if name == asked or name.startswith(asked + "<")]
+
     def show(it, path, level):
         out.append(f"{'#' * level} `{it.name}`\n")
         out.append(f"`use {path}::{it.name};` {it.sentence()}\n")
+        traits = traits_of(it)
+        if traits:
+            out.append(f"Implements: {', '.join(f'`{name}`' for name in traits)}.\n")
+        if it.variants:
+            out.append(f"Variants: {', '.join(f'`{name}`' for name in it.variants)}.\n")
+        if it.fields:
+            out.append("| Field | Type | What it is |\n|---|---|---|")
+            out.extend(f"| `{name}` | `{kind}` | {said} |" for name, kind, said in it.fields)
+            out.append("")
         calls = it.calls if it.kind == "trait" else calls_of(it.name)
         if calls:
             out.append("| Call | What it does | Allocates |\n|---|---|---|")

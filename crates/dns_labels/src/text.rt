@@ -213,7 +213,8 @@ fn read_name(text: &[u8], octets: &mut NameBuffer) -> Result<bool, &'static str>
 /// with a dot at the end if the name is fully qualified. In a label an octet is a graphic character of ASCII other than
 /// `.` and `\`, or `\` and three digits up to 255, or `\` and a graphic character that is no digit. A label has 1 to 63
 /// octets, and a name at most 255 on the wire. For any other text this returns [`Invalid`](NameTextError::Invalid) with
-/// the reason and allocates nothing; otherwise it allocates once if the name has more than 32 octets.
+/// the reason and allocates nothing; otherwise it allocates once if the name has more than 32 octets
+/// before its final zero octet.
 #[tactic(auto, using(crate::proofs::NameTexts::one_name, crate::proofs::NameTexts::name_reads))]
 pub fn parse_octets(alloc: Global, text: &[u8]) -> Result<(NameOctets, bool), NameTextError>
     ensures ok { IfOk result (λ r. IsNameText (name_of r.0 r.1) text.now) }

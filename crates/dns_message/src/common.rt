@@ -7,7 +7,7 @@ ghost use Rattle.dns_message.specs.Passing.{PassesRData};
 
 use crate::reading::FixedFields;
 use dns_view::Walk;
-use dns_view::names::pass_name;
+use dns_view::skip::is_name_near;
 
 // The numbers of these types (RFC 1035, section 3.2.2; RFC 3596, section 2.1).
 const A: u16 = 1;
@@ -22,26 +22,8 @@ const MX: u16 = 15;
 
 const AAAA: u16 = 28;
 
-// Whether a name is encoded from one offset to another. Takes its compression pointers off `left` if it is.
-#[inline]
-fn is_name(message: &[u8], start: usize, end: usize, left: &mut usize) -> bool
-    requires { start ≤ length message.now }
-    ensures ends { OnTrue result (NameEnds message.now start end) }
-    ensures pointers { OnTrue result (Leaves (NamePointers message.now start) left.old left.new) }
-    ensures unchanged { OnFalse result (left.new ≡ left.old) }
-{
-    let mut after = *left;
-    match pass_name(message, start, &mut after) {
-        Some(found) if found == end => {
-            *left = after;
-            true
-        }
-        _ => false,
-    }
-}
-
-// Whether a record has RDATA that is as its type asks, if its type is a common one: `false` says nothing about the record.
-// Takes the compression pointers of the RDATA off `left` if it does.
+// Returns whether the type of a record is a common one and its RDATA is as the type asks, and then subtracts from `left` how
+// many compression pointers the RDATA has; it stops at 0. `false` says nothing about the record.
 #[inline]
 pub(crate) fn has_common_rdata(message: &[u8], fields: &FixedFields, left: &mut usize) -> bool
     requires { fields.now.rdata + fields.now.rdlength ≤ length message.now }
@@ -55,8 +37,8 @@ pub(crate) fn has_common_rdata(message: &[u8], fields: &FixedFields, left: &mut 
     match fields.record_type {
         A => len == 4,
         AAAA => len == 16,
-        NS | CNAME | PTR if len > 0 => is_name(message, start, start + len, left),
-        MX if len > 2 => is_name(message, start + 2, start + len, left),
+        NS | CNAME | PTR if len > 0 => is_name_near(message, start, start + len, left),
+        MX if len > 2 => is_name_near(message, start + 2, start + len, left),
         _ => false,
     }
 }

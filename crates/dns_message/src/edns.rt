@@ -25,7 +25,8 @@ pub struct Edns {
     pub version: u8,
     /// DO: DNSSEC records are wanted (RFC 3225).
     pub dnssec_ok: bool,
-    /// Z: 15 bits that have no meaning.
+    /// The other 15 bits, Z of RFC 6891, as they are encoded. The highest, 0x4000, is CO (RFC 9824); IANA's registry "EDNS
+    /// Header Flags" lists those with a meaning.
     pub reserved: u16,
 }
 

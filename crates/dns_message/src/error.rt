@@ -39,10 +39,12 @@ impl fmt::Display for Section {
 /// What is wrong with a question or a record.
 #[derive(Clone, Copy, Debug, PartialEq, Eq, Error)]
 pub enum Fault {
-    /// No domain name is encoded where the question or the record starts (RFC 1035, sections 3.1 and 4.1.4).
+    /// No domain name is encoded where the question or the record starts (RFC 1035, sections 3.1 and 4.1.4). It is also the
+    /// fault if the message ends there or inside the name, as a truncated one often does.
     #[error("invalid domain name")]
     Name,
-    /// The message ends in the fields after the name: four octets of a question, ten of a record.
+    /// The message ends in the fields after the name: four octets of a question, ten of a record. If it ends before them, the
+    /// fault is [`Name`](Fault::Name).
     #[error("unexpected end of the message")]
     Truncated,
     /// RDLENGTH passes the end of the message.

@@ -65,9 +65,10 @@ impl<'a> MessageRef<'a> {
     /// The same message with another limit: how many compression pointers (RFC 1035, section 4.1.4) one walk over its
     /// questions or records may follow. The limit of a message that was read is 65,536.
     ///
-    /// The names in a hostile message of 64 KiB can follow the same 8,000 pointers some 4,000 times. A walk that passes
-    /// the limit ends with [`Pointers`](crate::Fault::Pointers), so before that it has followed at most so many
-    /// pointers, and those of one record.
+    /// The names in a hostile message of 64 KiB can follow the same 8,000 pointers some 4,000 times. A walk counts each pointer
+    /// once, and ends with [`Pointers`](crate::Fault::Pointers) at the record with which the count passes the limit. Names in
+    /// RDATA that is rejected are gone over up to three times ([`step`](MessageRef::step)), so a walk follows at most three
+    /// times as many pointers as the limit, and those of one record.
     #[inline]
     pub fn with_limit(&self, limit: u32) -> MessageRef<'a>
         ensures { result ≡ record { octets = self.now.octets; limit = limit } }
@@ -76,6 +77,14 @@ impl<'a> MessageRef<'a> {
             octets: self.octets,
             limit,
         }
+    }
+
+    /// How many compression pointers one walk may follow: see [`with_limit`](MessageRef::with_limit).
+    #[inline]
+    pub fn limit(&self) -> u32
+        ensures { result ≡ self.now.limit }
+    {
+        self.limit
     }
 
     /// The octets of the message.
@@ -212,8 +221,8 @@ impl<'a> MessageRef<'a> {
     /// [`resume`](MessageRef::resume) and a call of `next` do, for callers that keep numbers alone. Allocates nothing.
     ///
     /// Returns `None` if no record is left, or if no walk can be there, as for `resume`; `progress` is then unchanged. A
-    /// record whose RDATA is rejected is passed. The name in the RDATA of a CNAME, MX, NS or PTR record that is rejected is
-    /// gone over twice, and its compression pointers are counted once.
+    /// record whose RDATA is rejected is passed. The names in its RDATA are then gone over twice, and the name of a CNAME, MX,
+    /// NS or PTR record up to three times; their compression pointers are counted once.
     ///
     /// # Errors
     ///

@@ -133,8 +133,8 @@ impl<'a> Iterator for Questions<'a> {
     }
 }
 
-// Goes over the questions of a message, and returns the offset where they end. Takes the compression pointers of their
-// names off `left`.
+// Goes over the questions of a message, and returns the offset where they end. Subtracts the compression pointers of
+// their names from `left`, which stops at 0.
 pub(crate) fn skip_questions(
     message: &[u8],
     count: usize,

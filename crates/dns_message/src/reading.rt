@@ -64,7 +64,8 @@ fn read_asked(message: &[u8], offset: usize, end: usize) -> Result<Asked, Fault>
     })
 }
 
-// Reads the question at an offset (RFC 1035, section 4.1.2), and takes the compression pointers of its name off `left`.
+// Reads the question at an offset (RFC 1035, section 4.1.2), and subtracts the compression pointers of its name from
+// `left`, which stops at 0.
 pub(crate) fn read_question(message: &[u8], offset: usize, left: &mut usize) -> Result<Asked, Fault>
     requires { offset ≤ length message.now }
     ensures found { IfOk result (IsAsked message.now offset) }
@@ -117,8 +118,8 @@ fn read_fixed(message: &[u8], offset: usize, end: usize) -> Result<FixedFields, 
     })
 }
 
-// Reads the record at an offset (RFC 1035, section 4.1.3), all but its RDATA, of which it only tells where it is. Takes
-// the compression pointers of its owner off `left`.
+// Reads the record at an offset (RFC 1035, section 4.1.3), all but its RDATA, of which it only tells where it is. Subtracts
+// the compression pointers of its owner from `left`, which stops at 0.
 pub(crate) fn read_record(
     message: &[u8],
     offset: usize,

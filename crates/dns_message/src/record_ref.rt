@@ -53,11 +53,12 @@ pub struct RecordRef<'a> {
     pub record_type: RecordType,
     /// The class: 1 for IN. Of OPT it is the UDP payload size: see [`edns`](RecordRef::edns).
     pub class: u16,
-    /// The TTL in seconds, as it is encoded: a value of 2^31 or more means 0 (RFC 2181, section 8). Of OPT it is more:
-    /// see [`edns`](RecordRef::edns).
+    /// The TTL in seconds, as it is encoded. RFC 2181, section 8, takes a value of 2^31 or more as 0; RFC 8767, section 4,
+    /// takes it as positive and caps it. Neither is done here. Of OPT it is more: see [`edns`](RecordRef::edns).
     pub ttl: u32,
-    /// The RDATA. `None` for a record of UPDATE that has no data: class NONE or ANY, and RDLENGTH 0 (RFC 2136, sections
-    /// 2.4 and 2.5), but not for OPT.
+    /// The RDATA, or `None` if the class is NONE or ANY, RDLENGTH is 0 and the type is not OPT. UPDATE has such records (RFC
+    /// 2136, sections 2.4 and 2.5). The OPCODE of the message is not looked at, so a caller that expects no UPDATE must reject
+    /// them.
     pub rdata: Option<RDataRef<'a>>,
 }
 
@@ -74,7 +75,7 @@ impl<'a> RecordRef<'a> {
     }
 }
 
-// Whether a record is one of UPDATE that has no data.
+// Returns whether a record has no data, as records of UPDATE may.
 fn has_no_data(record_type: u16, class: u16, rdlength: u16) -> bool
     ensures { IsTrue result ↔ HasNoData record_type class rdlength }
 {
@@ -87,7 +88,7 @@ fn has_no_data(record_type: u16, class: u16, rdlength: u16) -> bool
     }
 }
 
-// Checks the RDATA at an offset, and takes its compression pointers off `left`.
+// Checks the RDATA at an offset, and subtracts its compression pointers from `left`, which stops at 0.
 fn read_rdata<'a>(
     message: &'a [u8],
     record_type: RecordType,
@@ -133,8 +134,8 @@ pub(crate) fn rdata_of<'a>(
     }
 }
 
-// What is given for the record at an offset, whose fixed fields were read. Takes the compression pointers of its RDATA
-// off `left`.
+// Returns the item for the record at an offset, whose fixed fields were read. Subtracts the compression pointers of its RDATA
+// from `left`, which stops at 0.
 fn record_at<'a>(
     message: &'a [u8],
     position: Position,
@@ -171,15 +172,15 @@ fn record_at<'a>(
     }
 }
 
-// What is given for a record, and its fixed fields.
+// The item for a record, and its fixed fields.
 #[derive(Clone, Copy)]
 pub(crate) struct Entry<'a> {
     pub(crate) item: Result<RecordRef<'a>, RecordError>,
     pub(crate) fixed: FixedFields,
 }
 
-// What is given for the record at an offset. Takes its compression pointers off `left`: those of its owner, and those
-// of its RDATA. If none are left then, it is not given.
+// Returns the item for the record at an offset. Subtracts its compression pointers, those of its owner and of its RDATA, from
+// `left`, which stops at 0. If it is 0 then, the record is not returned.
 pub(crate) fn read_entry<'a>(
     message: &'a [u8],
     position: Position,

@@ -55,8 +55,9 @@ impl<'a> Model for Records<'a> {
 }
 
 impl<'a> Records<'a> {
-    /// The octets after the last record of the message, or `None` if the walk has not come there: records are left, in
-    /// its own section or a later one, or one was damaged. Allocates nothing.
+    /// The octets after the last record of the message, or `None` if the walk has not passed all records: some are left, in its
+    /// own section or a later one, or it ended with an error in an owner, in fixed fields or RDLENGTH, or with
+    /// [`Pointers`](crate::Fault::Pointers). Allocates nothing.
     pub fn trailing(&self) -> Option<&'a [u8]>
         ensures { MatchOption result (self.now.passed < record_count self.now.header)
             (λ s. (record_count self.now.header ≤ self.now.passed) × (s.now ≡ drop self.now.offset self.now.message)) }
@@ -127,8 +128,8 @@ impl<'a> Iterator for Records<'a> {
     }
 }
 
-// Goes over so many records from an offset on, whatever their RDATA is, and returns the offset where they end. Takes
-// the compression pointers of their owners off `left`.
+// Goes over so many records from an offset on, whatever their RDATA is, and returns the offset where they end. Subtracts
+// the compression pointers of their owners from `left`, which stops at 0.
 fn skip_records(
     message: &[u8],
     header: &Header,

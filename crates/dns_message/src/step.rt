@@ -20,12 +20,13 @@ pub struct PassedRecord {
     pub index: usize,
     /// The fields between its owner and its RDATA, and where the RDATA is.
     pub fields: FixedFields,
-    /// Whether it has RDATA, which a record of UPDATE may lack
-    /// ([`RecordRef::rdata`](crate::RecordRef::rdata)), or why its RDATA is rejected.
+    /// `true` if it has RDATA, `false` if it has none ([`RecordRef::rdata`](crate::RecordRef::rdata)), or why its RDATA is
+    /// rejected.
     pub content: Result<bool, DecodeError>,
 }
 
-// Whether a record has RDATA, or why that is rejected. Takes the compression pointers of the RDATA off `left`.
+// Returns whether a record has RDATA, or why that is rejected. Subtracts the compression pointers of the RDATA from `left`,
+// which stops at 0.
 #[inline]
 fn content_of(message: &[u8], fields: &FixedFields, left: &mut usize) -> Result<bool, DecodeError>
     requires { fields.now.rdata + fields.now.rdlength ≤ length message.now }
@@ -44,8 +45,8 @@ fn content_of(message: &[u8], fields: &FixedFields, left: &mut usize) -> Result<
     }
 }
 
-// The fields of the record at an offset, and whether it has RDATA, or why that is rejected. Takes its compression
-// pointers off `left`. If none are left then, it is not passed.
+// Returns the fields of the record at an offset, and whether it has RDATA, or why that is rejected. Subtracts its compression
+// pointers from `left`, which stops at 0. If it is 0 then, the record is not passed.
 #[inline]
 pub(crate) fn pass_record(
     message: &[u8],

@@ -203,7 +203,8 @@ impl BinDecodable for Name {
     ghost refuses = { IsNoName };
 
     /// Reads a name (RFC 1035, sections 3.1 and 4.1.4) with case preserved: labels, and then a zero octet, or a
-    /// compression pointer to an earlier offset where the rest is. Allocates once if the name has more than 32 octets.
+    /// compression pointer to an earlier offset where the rest is. Allocates once if the name has more than 33 octets
+    /// without pointers.
     ///
     /// # Errors
     ///
@@ -243,7 +244,7 @@ impl BinEncodable for Name {
 impl Clone for Name {
     ghost is_clone = { λ a b. b ≡ a };
 
-    /// The same name, with case preserved. Allocates once if the name has more than 32 octets.
+    /// The same name, with case preserved. Allocates once if the name has more than 33 octets on the wire.
     #[inline]
     fn clone(&self) -> Result<Name, AllocError> {
         Ok(Name {

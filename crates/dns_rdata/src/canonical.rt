@@ -79,9 +79,10 @@ impl RData {
         }
     }
 
-    /// Whether the value can be emitted. Each value that was read can; of what a caller built, a string, a tag or a
-    /// protocol may be too long, the keys of parameters may not rise, or a prefix may need more octets than its address
-    /// has. Allocates nothing.
+    /// Returns whether [`emit`](BinEncodable::emit) can encode the value. Each value that was read can be emitted. One that a
+    /// caller built cannot if a character string, a tag of CAA or a protocol has more than 255 octets, an option or a parameter
+    /// has more than 65,535, the keys of parameters do not rise, or a source prefix needs more octets than its address has. Room
+    /// is not looked at: RDATA of more than 65,535 octets passes here, and does not fit RDLENGTH. Allocates nothing.
     pub fn is_emittable(&self) -> bool
         ensures { IsTrue result ↔ IsEmittable self.now }
     {

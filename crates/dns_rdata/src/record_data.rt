@@ -256,6 +256,9 @@ impl RData {
     /// mean the same at any offset of any message. Fails as [`emit`](BinEncodable::emit). The encoder is in its earlier
     /// mode afterwards; on error the octets that were there before are unchanged.
     ///
+    /// They are the octets of the value. What reading leaves out is not among them: options of a truncated OPT record, octets
+    /// after the address of a client subnet or a port of SVCB and HTTPS, and zeros of a bitmap of CSYNC that is not minimal.
+    ///
     /// ```rust
     /// fn octets_of(alloc: Global, data: &RData, octets: &mut Vec<u8>) -> ProtoResult<()> {
     ///     let mut encoder = BinEncoder::new(alloc, octets);
@@ -350,14 +353,15 @@ impl RData {
 impl BinEncodable for RData {
     ghost emits = { λ v r old new. EmitsAs (mode_for old.mode v) (fields_of v).kinds (fields_of v).values r old new };
 
-    /// Appends the RDATA, its names compressed or not as the type says. Reading it again gives an equal value.
+    /// Appends the RDATA, with names compressed or not as the type says. If the value was read, reading the RDATA again gives an
+    /// equal value. RDATA of a value that a caller built may be rejected, such as that of a CERT record without certificate data.
     ///
     /// # Errors
     ///
     /// The octets that were there before are unchanged then, and the encoder is in its earlier mode.
     ///
-    /// - [`Message`](ProtoError::Message): the value cannot be encoded, as a string of more than 255 octets or
-    ///   parameters whose keys do not rise.
+    /// - [`Message`](ProtoError::Message): the value cannot be encoded ([`is_emittable`](RData::is_emittable)), such as a string
+    ///   of more than 255 octets, or parameters whose keys do not rise.
     /// - [`MaxBufferSizeExceeded`](ProtoError::MaxBufferSizeExceeded): the octets would pass the encoder's limit.
     /// - [`Memory`](ProtoError::Memory): an allocation failed.
     ///
@@ -421,7 +425,8 @@ impl PartialEq for RData {
 
     ghost laws = { partial_equiv_from_equiv equal_equiv };
 
-    /// Whether both are of one variant and equal there: names but for ASCII case.
+    /// Returns whether both are of one variant with equal fields. Names are compared without ASCII case, options of OPT in any
+    /// order, and types of CSYNC as a set.
     fn eq(&self, other: &RData) -> bool
         ensures value { result ≡ equal self.now other.now }
         // Two values that were read under one type are equal exactly if their canonical octets are the same.

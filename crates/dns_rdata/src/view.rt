@@ -20,10 +20,10 @@ use std::alloc::{AllocError, Global};
 use std::cmp::Ordering;
 use std::net::{IpAddr, Ipv4Addr, Ipv6Addr};
 
-/// RDATA that was checked, as it is encoded in a message: the value of a record that was not built.
+/// A view of the RDATA of one record in a message, which was checked.
 ///
-/// A view is made exactly where [`RData::read`] returns a value, and it never fails for memory, since nothing is
-/// allocated. A copy is cheap.
+/// [`read`](RDataRef::read) succeeds exactly where [`RData::read`] returns a value, and never fails for memory, since it
+/// allocates nothing. A copy is cheap.
 #[derive(Clone, Copy)]
 pub struct RDataRef<'a> {
     view: RowView<'a>,
@@ -159,8 +159,8 @@ impl<'a> RDataRef<'a> {
     /// The same by a decoder without an allocator: checks that the next `length` octets are the RDATA of a record of this type.
     /// The decoder is then at their end. Allocates nothing.
     ///
-    /// Takes off `left` how many compression pointers the names of the RDATA follow (RFC 1035, section 4.1.4), down to
-    /// 0. If the RDATA is rejected, these are the names up to and with the field that is rejected.
+    /// Subtracts from `left` how many compression pointers the names of the RDATA follow (RFC 1035, section 4.1.4); it stops at
+    /// 0. If the RDATA is rejected, these are the names up to and including the field that is rejected.
     ///
     /// # Errors
     ///
@@ -203,7 +203,7 @@ impl<'a> RDataRef<'a> {
     }
 
     /// The record's own result for RDATA of this type, before its octets are counted: that of
-    /// [`RData::own_result`], but never [`Memory`](DecodeError::Memory). Allocates nothing.
+    /// [`RData::own_result`]. Allocates nothing.
     ///
     /// # Errors
     ///
@@ -250,6 +250,14 @@ impl<'a> RDataRef<'a> {
         self.view.record_type
     }
 
+    /// The offset of the RDATA in its message.
+    #[inline]
+    pub fn offset(&self) -> usize
+        ensures { (m : List ℕ) (p n : ℕ) (t : RecordType) → IsViewOf m p n t self.now → result ≡ p }
+    {
+        self.view.offset()
+    }
+
     /// The octets of the RDATA, as they are encoded in the message: names may end with a compression pointer.
     #[inline]
     pub fn octets(&self) -> &'a [u8]
@@ -260,6 +268,9 @@ impl<'a> RDataRef<'a> {
 
     /// Writes the uncompressed octets at the front of a buffer, and returns how many they are: names uncompressed with
     /// case preserved, options in their order. They are what `emit_whole` appends for the value.
+    ///
+    /// They are the octets of the value: options of a truncated OPT record, and what follows the address of a client subnet or a
+    /// port of SVCB and HTTPS, are left out, and the bitmap of CSYNC is in its shortest form.
     ///
     /// If they are more than the buffer has, as many as fit are written, and the number is still theirs. Allocates nothing.
     pub fn put_whole(&self, out: &mut [u8]) -> usize
@@ -388,9 +399,9 @@ impl<'a> RDataRef<'a> {
     /// The types of CSYNC's bitmap (RFC 7477, 2.1.1; RFC 4034, 4.1.2) in the order in which they are encoded: window by
     /// window, and in rising order in each. Other types of records have none. Allocates nothing.
     ///
-    /// They have the types of the value, and no others; if they rise, they are those of the value. The RFC asks for windows that
-    /// rise, and then they do. A bitmap whose windows do not rise is read too: its types come in the order of its windows, and a
-    /// type twice if its window comes twice.
+    /// They are the types of the value's set. If the windows are in rising order, as RFC 4034 asks, each type comes once, and in
+    /// rising order. A bitmap whose windows are in another order is read too: its types come window by window, and a type comes
+    /// again if its window does.
     pub fn types(&self) -> TypesRef<'a>
         ensures set { (m : List ℕ) (p n : ℕ) (t : RecordType) (v : RData) → IsViewOf m p n t self.now → Fills m p n t v → ListsTypes result (types_in v) }
         ensures order { (m : List ℕ) (p n : ℕ) (t : RecordType) → IsViewOf m p n t self.now → TypesInOrder m p n t result }

@@ -10,6 +10,9 @@ use dns_view::{FieldRef, NameRef};
 const MOST_FIELDS: usize = 64;
 
 /// The fields of RDATA in order, lent from the message. Allocates nothing.
+///
+/// Each is found from the start of the RDATA, as [`RDataRef::field`] finds it, so a name is gone over once more for each field
+/// from it on: 15 times in all for the two names of SOA.
 #[derive(Drop)]
 pub struct Fields<'a> {
     rdata: RDataRef<'a>,
@@ -37,6 +40,8 @@ impl<'a> Iterator for Fields<'a> {
 }
 
 /// The names among the fields of RDATA in order, lent from the message. Allocates nothing.
+///
+/// Each is found from the start of the RDATA, as [`RDataRef::name`] finds it: the two names of SOA are gone over five times in all.
 #[derive(Drop)]
 pub struct Names<'a> {
     rdata: RDataRef<'a>,

@@ -1,6 +1,6 @@
 -- What was put of a name is of that name.
-use Rattle.std.proofs.Common.{◌≡◌, ℕ, ◌-◌, ◌≤◌, Bool, true, List, [], length, take, drop, map, Option, None, refl, sym, ap, ◌∙◌, arith, subst}
-use Rattle.std.proofs.lemmas.List.{take_at}
+use Rattle.std.proofs.Common.{◌≡◌, ℕ, ◌-◌, ◌≤◌, Bool, true, false, List, [], ◌∷◌, length, take, drop, map, Option, None, append_assoc, refl, sym, ap, ◌∙◌, arith, subst}
+use Rattle.std.proofs.lemmas.List.{length-append, take_at}
 use Rattle.std.specs.{Char.to_ascii_lowercase, Cmp.Lexicographic.slice_cmp, Ordering.nat_cmp, declared.cmp.Ordering.Ordering}
 use Rattle.dns_fields.specs.{Labels.DomainName, Labels.wire, Labels.lowname, Names.IsNameIn}
 use Rattle.dns_labels.specs.{Labels.name_of, Reading.IsNameAt}
@@ -22,6 +22,15 @@ pub put_front : {m : List ℕ} {p end q : ℕ} {old new : List ℕ} {behind : �
 put_front {old = old} {new} {behind} x n room is =
     let w = put_same x n is in
     ap (take behind) (put_fits w room) ∙ take_at (lowname x) (drop behind old) behind (omega (arith, w.ends))
+
+-- its octets without the 0 at the end
+pub plain_front : {m : List ℕ} {p end : ℕ} {old new : List ℕ} {behind : ℕ} (n : PutName m p end false old new 0 behind) → behind ≤ length old
+    → (1 ≤ behind) × (take (behind - 1) new ≡ wire n.name.labels)
+plain_front {old = old} {new} {behind} n room =
+    let octets = wire n.name.labels in
+    let long = length-append octets (0 ∷ []) in
+    let split = append_assoc octets (0 ∷ []) (drop behind old) in
+    (omega (arith, n.put.ends, long), ap (take (behind - 1)) (put_fits n.put room ∙ split) ∙ take_at octets (0 ∷ drop behind old) (behind - 1) (omega (arith, n.put.ends, long)))
 
 -- ---- names that stand whole
 

@@ -1,11 +1,12 @@
 -- The octets of a name that is encoded in a message.
-use Rattle.std.proofs.Common.{◌≡◌, ℕ, Bool, List, sym, ap, subst, ◌∙◌}
+use Rattle.std.proofs.Common.{◌≡◌, ℕ, Bool, true, List, sym, ap, subst, ◌∙◌}
 use Rattle.std.proofs.{Math.Logic.∥∥₁_elim, lemmas.Map.Text.is_eq-slice_cmp, lemmas.Slice.Eq.bytes_eq-Decides}
 use Rattle.std.specs.{Bool.Decides, Ordering.is_eq}
 use Rattle.std.specs.Coded.{Coded-set, coded_list, coded_ℕ}
 use Rattle.std.specs.{Cmp.Lexicographic.slice_cmp, Ordering.nat_cmp, Ordering.Ordering-set, declared.cmp.Ordering.Ordering}
 use Rattle.dns_fields.specs.{Labels.DomainName, Labels.lowered, Labels.lowname, Names.IsNameIn}
-use Rattle.dns_view.specs.{NameEnds.IsNamed, LabelList.low_octets}
+use Rattle.dns_labels.specs.Labels.{labels_of, name_of}
+use Rattle.dns_view.specs.{NameEnds.IsNamed, LabelList.labels_at, LabelList.low_octets}
 use Rattle.dns_view.proofs.LabelSteps.{labels_found}
 
 pub low_of : {m : List ℕ} {p q : ℕ} {x : DomainName} → IsNameIn m p x q → lowname x ≡ low_octets m p
@@ -13,6 +14,13 @@ low_of is = ap lowered (sym (labels_found is))
 
 pub low_shown : {m : List ℕ} {p : ℕ} {s : List ℕ} → ∥ IsNamed m p ∥₁ → ((x : DomainName) (q : ℕ) → IsNameIn m p x q → s ≡ lowname x) → s ≡ low_octets m p
 low_shown n h = ∥∥₁_elim n (Coded-set (coded_list coded_ℕ) _ _) (λ w. h w.name w.end w.is ∙ low_of w.is)
+
+pub plain_shown : {m : List ℕ} {p : ℕ} (octets : List ℕ) → ∥ IsNamed m p ∥₁ → ((x : DomainName) (q : ℕ) → IsNameIn m p x q → labels_of octets ≡ x.labels)
+    → name_of octets true ≡ record { labels = labels_at m p; fully_qualified = true }
+plain_shown {m} {p} octets n h =
+    let labels : labels_of octets ≡ labels_at m p =
+    ∥∥₁_elim n (Coded-set (coded_list (coded_list coded_ℕ)) _ _) (λ w. h w.name w.end w.is ∙ sym (labels_found w.is)) in
+    ap (λ (l : List (List ℕ)). record { labels = l; fully_qualified = true }) labels
 
 pub low_compared : {a b : List ℕ} {x y : ℕ} {o : Ordering} → ∥ IsNamed a x ∥₁ → ∥ IsNamed b y ∥₁
     → ((u : DomainName) (q : ℕ) (v : DomainName) (r : ℕ) → IsNameIn a x u q → IsNameIn b y v r → o ≡ slice_cmp nat_cmp (lowname u) (lowname v))

@@ -1,5 +1,5 @@
 -- Options one after the other.
-use Rattle.std.proofs.lemmas.List.{length-append, take-append-drop, take_at, take-append-le, append-nil}
+use Rattle.std.proofs.lemmas.List.{length-append, take-append-drop, take_at, take_all, take-append-le, append-nil}
 use Rattle.std.proofs.Common.{append_assoc, Ok, Err, ◌-◌}
 use Rattle.std.proofs.lemmas.Grind.{flat_map-append}
 use Rattle.std.proofs.Common.{◌≡◌, ℕ, ◌+◌, ◌≤◌, ◌<◌, ◌^◌, ◌⊎◌, inl, inr, ⊎_elim, List, [], ◌∷◌, ◌++◌, length, take, drop, refl, sym, ap, ◌∙◌, arith, subst}
@@ -14,8 +14,9 @@ use Rattle.dns_names_wire.proofs.{FieldReads.took_number, Strings.at_front, Stri
 use Rattle.dns_rows.specs.declared.row.Rule.{Rule}
 use Rattle.dns_rows.specs.declared.row.Rule.TheVariants as rules
 use Rattle.dns_view.specs.Parts.{IsUnasked, Skips}
+use Rattle.dns_view.specs.{Tlvs.TlvThere, Options.HasOptions}
 use Rattle.dns_view.specs.Options.{OptionsLeft, NoneLeft, TookTlv, TookCut, RefusedTlv, IsTlvError, HasOption, IsSubnetError, IsNextError}
-use Rattle.dns_view.proofs.{Asked.unasked, Splits.all_append, Subnets.subnet_none}
+use Rattle.dns_view.proofs.{Alone.slice, Alone.slice_at, Alone.between_is, Asked.unasked, Splits.all_append, Subnets.subnet_none}
 
 -- ---- what begins the rest
 
@@ -329,3 +330,62 @@ cut_taken {rule} {start} {n} {from} {size} {old} {d} {b} {done} before same is r
     let fits : old.index ≤ start + n = omega (arith, r.behind, r.inside) in
     let end : from + size ≡ start + n = omega (arith, same, is, before, fits) in
     options_cut before r (subst (λ (k : ℕ). TookCut d k (start + n) b) is (subst (λ (q : ℕ). TookCut d size q b) end t))
+
+-- ---- whole options that fill octets
+
+pub record OptionsRead (octets : List ℕ) (offset : ℕ) : Type 0 where
+  pub inside : offset ≤ length octets
+  pub values : List (Numbered OptionValue)
+  pub complete : CompleteOptions octets 0 values offset
+
+pub none_read : (octets : List ℕ) → OptionsRead octets 0
+none_read octets = record {
+  inside = omega arith;
+  values = [];
+  complete = record { read = []; at = record { ends = omega arith; within = omega arith; same = refl }; fit = tt; held = tt };
+}
+
+-- the octets of the value of an option
+pub body_is : {octets : List ℕ} {offset end : ℕ} (t : TlvThere octets offset end) → slice octets (offset + 4) end ≡ t.body
+body_is {octets} {offset} {end} t =
+    let size = bytes_high_first 2 (length t.body) in
+    let there : At octets (offset + 2 + 2) t.body end = at_rest size t.body (at_rest (bytes_high_first 2 t.key) (size ++ t.body) t.is.at) in
+    let four : offset + 2 + 2 ≡ offset + 4 = omega arith in
+    between_is (subst (λ (p : ℕ). At octets p t.body end) four there)
+
+pub one_read : {octets : List ℕ} {offset end : ℕ} → OptionsRead octets offset → end ≤ length octets → (t : TlvThere octets offset end) → HasOption t.key t.body
+    → OptionsRead octets end
+one_read {octets} {offset} {end} o room t h = record {
+  inside = room;
+  values = o.values ++ (t.key, h.value) ∷ [];
+  complete = record {
+    read = o.complete.read ++ (t.key, t.body) ∷ [];
+    at = subst (λ (s : List ℕ). At octets 0 s end) (tlvs_more o.complete.read (t.key, t.body)) (at_then o.complete.at t.is.at);
+    fit = all_append IsTlv o.complete.read ((t.key, t.body) ∷ []) o.complete.fit (t.is.fits, tt);
+    held = held_more o.complete.read o.values (t.key, t.body) h.value o.complete.held h.held;
+  };
+}
+
+pub all_read : {octets : List ℕ} {offset : ℕ} → OptionsRead octets offset → length octets ≤ offset → HasOptions octets
+all_read {octets} {offset} o end =
+    let all : offset ≡ length octets = omega (arith, o.inside, end) in
+    record { values = o.values; complete = subst (λ (q : ℕ). CompleteOptions octets 0 o.values q) all o.complete }
+
+-- they are taken if they fill the RDATA
+pub options_fill : (start n : ℕ) {m : List ℕ} {at : ℕ} → at ≤ start + n → start + n ≤ length m → HasOptions (slice m at (start + n)) → (rule : Rule)
+    → Skips rule Options start n (Ok tt) (record { message = m; index = at }) (record { message = m; index = start + n })
+options_fill start n {m} {at} le inside h rule =
+    let s = slice m at (start + n) in
+    let c = h.complete in
+    let whole : tlvs c.read ≡ s = sym c.at.same ∙ take_all (length (tlvs c.read)) s (omega (arith, c.at.ends)) in
+    let there : CompleteOptions m at h.values (start + n) =
+    record { read = c.read; at = subst (λ (x : List ℕ). At m at x (start + n)) (sym whole) (slice_at m at (start + n) le inside); fit = c.fit; held = c.held } in
+    record {
+      is = record {
+        value = h.values;
+        took = record { message = refl; field = record { is = inl there } };
+        asked = unasked rule Options h.values (any_options rule);
+        one = λ v q f e. e;
+        ends = refl;
+      };
+    }

@@ -1,12 +1,12 @@
 -- The canonical octets of one option.
-use Rattle.std.proofs.Common.{◌≡◌, ◌≢◌, ℕ, ◌+◌, ◌-◌, ◌/◌, ◌%◌, ◌≤◌, ◌<◌, ◌⊎◌, ⊎_elim, true, false, ◌==◌, nat_le, List, [], ◌∷◌, ◌++◌, length, take, drop, get_or}
+use Rattle.std.proofs.Common.{◌≡◌, ◌≢◌, ℕ, ◌+◌, ◌-◌, ◌/◌, ◌%◌, ◌^◌, ◌≤◌, ◌<◌, ◌⊎◌, ⊎_elim, true, false, ◌==◌, nat_le, List, [], ◌∷◌, ◌++◌, length, take, drop, get_or}
 use Rattle.std.proofs.Common.{refl, sym, ap, ◌∙◌, arith, append_assoc}
 use Rattle.std.proofs.lemmas.List.{length-append, take_at, take_all, drop_at}
 use Rattle.std.proofs.lemmas.Bool.{cases_Bool, Decides.nat_tests}
-use Rattle.std.specs.{Int.bytes_high_first, Cmp.first_so, Cmp.second_so, Cmp.Lexicographic.slice_cmp, Ordering.nat_cmp, Ordering.ordering_then}
+use Rattle.std.specs.{Int.bytes_high_first, Cmp.first_so, Cmp.second_so, Cmp.Lexicographic.slice_cmp, FinMap.nat_cmp-IsAntisymmetric, Ordering.nat_cmp, Ordering.ordering_then}
 use Rattle.std.specs.declared.cmp.Ordering.{Ordering, TheVariants.Less, TheVariants.Equal, TheVariants.Greater}
 use Rattle.dns_fields.specs.Tlvs.{OptionValue, Subnet, OpaqueOption, OptionHeld, IsTlv, tlv, option_octets}
-use Rattle.dns_fields.proofs.{Numbers.length-bytes, Tlvs.length-tlv}
+use Rattle.dns_fields.proofs.{Numbers.length-bytes, Numbers.number_cmp, Tlvs.length-tlv}
 use Rattle.dns_canonical.proofs.{Fronts.front_then, Comparing.then_kept}
 use Rattle.dns_view.specs.{Parameters.IsTlvAt, OptionOctets.value_size, OptionOctets.option_at, OptionOctets.subnet_size, OptionOctets.is_subnet, OptionOctets.own_octets}
 use Rattle.dns_view.proofs.{HeldLists.size_there, Alone.between_is}
@@ -190,6 +190,25 @@ pub by_heads : (a b h s k t : List ℕ) {o : Ordering} → own_octets a ≡ h ++
     → o ≡ slice_cmp nat_cmp (own_octets a) (own_octets b)
 by_heads a b h s k t {o} x y e is ne =
     then_kept o (slice_cmp nat_cmp s t) ne ∙ ap (λ (r : Ordering). ordering_then r (slice_cmp nat_cmp s t)) is ∙ sym (by_parts a b h s k t x y e)
+
+-- the code first, whatever follows
+code_first : (p : List ℕ) → 4 ≤ length p → (s : List ℕ) × (own_octets p ≡ get_or p 0 0 ∷ get_or p 1 0 ∷ s)
+code_first p l = ⊎_elim
+    (λ (t : is_subnet p ≡ true).
+    let h = subnet_there p t in
+    let s = 0 ∷ subnet_size p ∷ take (subnet_size p) (drop 4 p) in
+    (s, own_subnet p l t ∙ (λ i. sym h.high i ∷ sym h.low i ∷ s)))
+    (λ (f : is_subnet p ≡ false). (get_or p 2 0 ∷ get_or p 3 0 ∷ take (length p - 4) (drop 4 p), plain_parts p l f)) (cases_Bool (is_subnet p))
+
+pub by_codes : (a b : List ℕ) {m n : ℕ} {o : Ordering} → 4 ≤ length a → 4 ≤ length b → bytes_high_first 2 m ≡ get_or a 0 0 ∷ get_or a 1 0 ∷ []
+    → bytes_high_first 2 n ≡ get_or b 0 0 ∷ get_or b 1 0 ∷ [] → m < 256 ^ 2 → n < 256 ^ 2 → m ≢ n → o ≡ nat_cmp m n
+    → o ≡ slice_cmp nat_cmp (own_octets a) (own_octets b)
+by_codes a b {m} {n} {o} l k x y small few ne is =
+    let s = code_first a l in
+    let t = code_first b k in
+    by_heads a b (bytes_high_first 2 m) s.0 (bytes_high_first 2 n) t.0 (s.1 ∙ ap (λ (h : List ℕ). h ++ s.0) (sym x))
+    (t.1 ∙ ap (λ (h : List ℕ). h ++ t.0) (sym y)) (length-bytes 2 m ∙ sym (length-bytes 2 n)) (is ∙ sym (number_cmp 2 m n small few))
+    (λ e. ne (nat_cmp-IsAntisymmetric m n (sym is ∙ e)))
 
 pub by_bodies : (a b h s k t : List ℕ) {o : Ordering} → own_octets a ≡ h ++ s → own_octets b ≡ k ++ t → length h ≡ length k → Equal ≡ slice_cmp nat_cmp h k
     → o ≡ slice_cmp nat_cmp s t → o ≡ slice_cmp nat_cmp (own_octets a) (own_octets b)

@@ -15,6 +15,11 @@ pub record HasOption (code : ℕ) (body : List ℕ) : Type 0 where
   pub value : OptionValue
   pub held : OptionHeld code body value
 
+-- whole options fill the octets
+pub record HasOptions (octets : List ℕ) : Type 0 where
+  pub values : List (Numbered OptionValue)
+  pub complete : CompleteOptions octets 0 values (length octets)
+
 pub record NoOption (code : ℕ) (body : List ℕ) : Type 0 where
   pub none : (v : OptionValue) → OptionHeld code body v → ⊥
 

@@ -15,15 +15,15 @@ use dns_types::DecodeError;
 ///
 /// # Errors
 ///
-/// The error is the one that reading the record returns. On error the decoder may be anywhere after the offset where the
+/// The error is the one that reading the record returns. On error the decoder may be at any offset from the one where the
 /// call began.
 ///
-/// - [`IncorrectRDataLengthRead`](DecodeError::IncorrectRDataLengthRead): the fields take another number of octets than
-///   `len`, with both numbers.
-/// - Otherwise the error of the first field that is not there or not as its row asks.
+/// - [`IncorrectRDataLengthRead`](DecodeError::IncorrectRDataLengthRead): reading ended, after the last field or where a
+///   field was rejected, after another number of octets than `len`, with both numbers.
+/// - Otherwise the error of the first field that is missing or breaks the rule of its row.
 ///
-/// Takes off `left` how many compression pointers are followed, down to 0: those of the names up to and with a field that
-/// is rejected.
+/// Subtracts from `left` how many compression pointers are followed; it stops at 0. They are those of the names up to and
+/// including a field that is rejected.
 #[inline]
 pub fn check_data(
     walk: &mut Walk<'_>,

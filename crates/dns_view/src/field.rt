@@ -18,7 +18,7 @@ use dns_rows::{Part, Rule};
 pub enum FieldRef<'a> {
     /// An unsigned number.
     Number(u32),
-    /// Octets of a fixed number.
+    /// A fixed number of octets.
     Octets(&'a [u8]),
     /// A domain name.
     Name(NameRef<'a>),

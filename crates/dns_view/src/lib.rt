@@ -1,4 +1,5 @@
-//! RDATA as it is encoded in a message: it is checked, and looked at, by its row of fields. Nothing here allocates.
+//! RDATA as it is encoded in a message: it is checked, and looked at, by its row of fields. Nothing here allocates but
+//! [`NameRef::to_name`].
 //!
 //! - [`Walk`] is a decoder without an allocator; [`check::check_data`] checks RDATA by a row.
 //! - [`RowView`] is RDATA that was checked: its fields, its canonical and uncompressed octets, its order.

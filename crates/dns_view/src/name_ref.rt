@@ -1,16 +1,20 @@
 //! A name in a message (RFC 1035, 3.1 and 4.1.4).
 
-ghost use Rattle.std.specs.Prelude.{◌≡◌, ◌+◌, ◌≤◌, ℕ, true, false, length, take, drop, IfOk, IfSome};
+ghost use Rattle.std.specs.Prelude.{◌≡◌, ◌+◌, ◌≤◌, ℕ, true, false, length, take, drop, IfOk, IfSome, IfNone};
 ghost use Rattle.std.specs.{Cmp.Lexicographic.slice_cmp, Ordering.nat_cmp};
 ghost use Rattle.dns_fields.specs.{Labels.DomainName, Labels.lowname, Names.IsNameIn};
-ghost use Rattle.dns_view.specs.{NameEnds.IsNamed, Putting.Put, Putting.name_form, LabelList.low_octets};
+ghost use Rattle.dns_labels.specs.Labels.{AreNameOctets, labels_of};
+ghost use Rattle.dns_view.specs.{NameEnds.IsNamed, NameEnds.NameEnds, Putting.Put, Putting.name_form, LabelList.low_octets};
 
 use crate::label_list::Labels;
 use crate::name_order::compare_names;
+use crate::names::skip_name;
 use crate::put::put_name;
+use dns_labels::text::NameText;
 use dns_names_wire::{BinDecodable, BinDecoder, Name};
 use std::alloc::{AllocError, Global};
 use std::cmp::Ordering;
+use std::fmt;
 use std::hash::{Hash, Hasher};
 
 // The most octets that a name has (RFC 1035, 3.1).
@@ -19,7 +23,7 @@ const NAME_OCTETS: usize = 255;
 /// A name that is encoded at an offset of a message, perhaps with compression pointers. A copy is cheap.
 ///
 /// Names are compared and hashed without ASCII case, by their uncompressed octets with A to Z lowercased. Nothing here
-/// allocates.
+/// allocates but [`to_name`](NameRef::to_name).
 #[derive(Clone, Copy)]
 pub struct NameRef<'a> {
     pub(crate) message: &'a [u8],
@@ -50,10 +54,23 @@ fn low_octets_of(message: &[u8], offset: usize, out: &mut [u8; 255]) -> usize
     lowered_octets(message, offset, out)
 }
 
+// Writes the labels of a name at the front of a buffer, each after its length, and returns how many octets they have.
+fn plain_octets(message: &[u8], offset: usize, out: &mut [u8; 255]) -> usize
+    requires { offset ≤ length message.now }
+    ensures octets { AreNameOctets (take result out.new) }
+    ensures labels { (x : DomainName) (q : ℕ) → IsNameIn message.now offset x q → labels_of (take result out.new) ≡ x.labels }
+    ensures few { result ≤ 254 }
+{
+    match put_name(message, offset, false, out, 0) {
+        Some((_, count)) => count - 1,
+        None => 0,
+    }
+}
+
 impl<'a> NameRef<'a> {
     ghost use Rattle.dns_view.specs.LabelList.{labels_at};
 
-    /// The name at an offset of a message.
+    /// The name at an offset of a message, where the caller knows that one is encoded. [`read`](NameRef::read) finds out.
     #[inline]
     pub fn at(message: &'a [u8], offset: usize) -> NameRef<'a>
         requires inside { offset ≤ length message.now }
@@ -62,6 +79,21 @@ impl<'a> NameRef<'a> {
         ensures offset { result.offset ≡ offset }
     {
         NameRef { message, offset }
+    }
+
+    /// Returns the name that is encoded at an offset of a message, and the offset after its encoding, or `None` if no name is
+    /// encoded there. Allocates nothing.
+    pub fn read(message: &'a [u8], offset: usize) -> Option<(NameRef<'a>, usize)>
+        ensures message { IfSome result (λ r. r.0.message.now ≡ message.now) }
+        ensures offset { IfSome result (λ r. r.0.offset ≡ offset) }
+        ensures ends { IfSome result (λ r. NameEnds message.now offset r.1) }
+        ensures none { IfNone result ((name : DomainName) (end : ℕ) → IsNameIn message.now offset name end → ⊥) }
+    {
+        if message.len() < offset {
+            return None;
+        }
+        let end = skip_name(message, offset)?;
+        Some((NameRef { message, offset }, end))
     }
 
     /// The offset in the message where the name is encoded.
@@ -96,7 +128,8 @@ impl<'a> NameRef<'a> {
         }
     }
 
-    /// Makes the name, with case preserved. Allocates once if it has more than 32 octets, and fails only if that fails.
+    /// Makes the name, with case preserved. Allocates once if it has more than 33 octets without pointers, and fails only if
+    /// that fails.
     pub fn to_name(&self, alloc: Global) -> Result<Name, AllocError>
         ensures { (x : DomainName) (q : ℕ) → IsNameIn self.now.message.now self.now.offset x q → IfOk result (λ name. name ≡ x) }
     {
@@ -110,7 +143,8 @@ impl<'a> NameRef<'a> {
         }
     }
 
-    /// Orders two names by their uncompressed octets in lower case. Allocates nothing.
+    /// Orders two names by their uncompressed octets in lower case: by their labels from the first one on, each after its
+    /// length. This is not the order of names in a zone (RFC 4034, section 6.1), which begins at the root. Allocates nothing.
     pub fn compare(&self, other: &NameRef<'_>) -> Ordering
         ensures names { (u : DomainName) (q : ℕ) (v : DomainName) (r : ℕ) → IsNameIn self.now.message.now self.now.offset u q →
             IsNameIn other.now.message.now other.now.offset v r → result ≡ slice_cmp nat_cmp (lowname u) (lowname v) }
@@ -177,7 +211,7 @@ impl<'a> Ord for NameRef<'a> {
 
     ghost matches_eq = { Prim.search (comparing, rules) };
 
-    /// By the first difference of the uncompressed octets in lower case. Allocates nothing.
+    /// The same as [`compare`](NameRef::compare). Allocates nothing.
     #[inline]
     fn cmp(&self, other: &NameRef<'a>) -> Ordering {
         self.compare(other)
@@ -199,5 +233,21 @@ impl<'a> Hash for NameRef<'a> {
         let mut octets = [0; NAME_OCTETS];
         let count = low_octets_of(self.message, self.offset, &mut octets);
         state.write(&octets[..count]);
+    }
+}
+
+impl<'a> fmt::Display for NameRef<'a> {
+    ghost use Rattle.std.specs.Prelude.{Some};
+    ghost use Rattle.dns_labels.specs.Text.{name_text};
+    ghost use Rattle.dns_view.specs.NamesShown.{name_shown};
+
+    ghost output = { λ r. Some (name_text (name_shown r)) };
+
+    /// Prints the name as [`Name`] does: its labels, each with a dot after it, and the root as a dot. In a label `.` and `\`
+    /// are preceded by `\`, and an octet that is no graphic character of ASCII is `\` and three digits. Allocates nothing.
+    fn fmt<W: fmt::Write>(&self, f: &mut fmt::Formatter<W>) -> fmt::Result {
+        let mut octets = [0; NAME_OCTETS];
+        let count = plain_octets(self.message, self.offset, &mut octets);
+        f.write(NameText::new(&octets[..count], true))
     }
 }

@@ -135,8 +135,8 @@ pub fn skip_name(message: &[u8], start: usize) -> Option<usize>
     follow_name(message, start).end
 }
 
-/// The same, and takes off `left` how many compression pointers are followed, down to 0. If no name is encoded there,
-/// these are the pointers up to the damage.
+/// Returns where the encoding of a name ends, or `None` if no name is encoded there, and subtracts from `left` how many
+/// compression pointers are followed; it stops at 0. If no name is encoded there, these are the pointers up to the damage.
 pub fn pass_name(message: &[u8], start: usize, left: &mut usize) -> Option<usize>
     requires { start ≤ length message.now }
     ensures some { IfSome result (λ end. NameEnds message.now start end) }
@@ -149,8 +149,8 @@ pub fn pass_name(message: &[u8], start: usize, left: &mut usize) -> Option<usize
     followed.end
 }
 
-/// Returns where the encoding of a name ends, and takes off `left` how many compression pointers are followed, down to 0.
-/// If no name is encoded there, it returns `None` and leaves `left` as it is.
+/// Returns where the encoding of a name ends, and subtracts from `left` how many compression pointers are followed; it stops
+/// at 0. If no name is encoded there, it returns `None` and leaves `left` as it is.
 #[inline]
 pub(crate) fn near_name(message: &[u8], start: usize, left: &mut usize) -> Option<usize>
     requires { start ≤ length message.now }

@@ -1,6 +1,7 @@
 //! Options of EDNS, given by their octets in a message (RFC 6891, 6.1.2): the option at an offset, and its canonical octets.
 
-ghost use Rattle.std.specs.Prelude.{◌≡◌, ◌+◌, ◌^◌, ◌<◌, ◌≤◌, ◌++◌, length};
+ghost use Rattle.std.specs.Prelude.{◌≡◌, ◌+◌, ◌^◌, ◌<◌, ◌≤◌, [], ◌∷◌, ◌++◌, length, get_or};
+ghost use Rattle.std.specs.Int.{bytes_high_first};
 ghost use Rattle.std.specs.{Cmp.Lexicographic.slice_cmp, Ordering.nat_cmp};
 ghost use Rattle.dns_view.specs.{Putting.Put, OptionOctets.option_at as octets_at, OptionOctets.own_octets, OptionOctets.is_subnet as has_subnet};
 ghost use Rattle.dns_view.specs.OptionOctets.{own_at};
@@ -51,7 +52,31 @@ fn parts_of(part: &[u8]) -> ([u8; 4], &[u8])
     ([part[0], part[1], part[2], part[3]], &part[4..])
 }
 
-// Orders two options by their canonical octets.
+// The code of an option.
+#[inline]
+fn code_of(part: &[u8]) -> u16
+    requires { 2 ≤ length part.now }
+    ensures { bytes_high_first 2 result ≡ get_or part.now 0 0 ∷ get_or part.now 1 0 ∷ [] }
+{
+    u16::from_be_bytes([part[0], part[1]])
+}
+
+// Orders two options by their canonical octets, whatever their codes are.
+#[inline(never)]
+fn compare_whole(a: &[u8], b: &[u8]) -> Ordering
+    requires first { 4 ≤ length a.now }
+    requires second { 4 ≤ length b.now }
+    ensures { result ≡ slice_cmp nat_cmp (own_octets a.now) (own_octets b.now) }
+{
+    let (head, body) = parts_of(a);
+    let (other, others) = parts_of(b);
+    match octets_cmp(&head, &other) {
+        Ordering::Equal => octets_cmp(body, others),
+        order => order,
+    }
+}
+
+// Orders two options by their canonical octets. Most options differ in their codes.
 #[inline]
 fn compare_parts(a: &[u8], b: &[u8]) -> Ordering
     ensures { result ≡ slice_cmp nat_cmp (own_octets a.now) (own_octets b.now) }
@@ -62,12 +87,12 @@ fn compare_parts(a: &[u8], b: &[u8]) -> Ordering
         (false, true) => return Ordering::Greater,
         (false, false) => {}
     }
-    let (head, body) = parts_of(a);
-    let (other, others) = parts_of(b);
-    match octets_cmp(&head, &other) {
-        Ordering::Equal => octets_cmp(body, others),
-        order => order,
+    let code = code_of(a);
+    let other = code_of(b);
+    if code != other {
+        return code.cmp(&other);
     }
+    compare_whole(a, b)
 }
 
 /// Orders the options at two offsets by their canonical octets.

@@ -1,10 +1,11 @@
 //! The options of EDNS, one after the other (RFC 6891, 6.1.2).
 
-ghost use Rattle.std.specs.Prelude.{◌≡◌, ◌+◌, ◌<◌, ◌≤◌, IfSome, IfNone, OnOk, IfErr};
+ghost use Rattle.std.specs.Prelude.{◌≡◌, ◌+◌, ◌<◌, ◌≤◌, true, length, Ok, IfSome, IfNone, OnOk, IfErr};
 ghost use Rattle.dns_fields.specs.declared.Kind.TheVariants.{Options};
 ghost use Rattle.dns_view.specs.Parts.{Skips};
-ghost use Rattle.dns_view.specs.Options.{HasOption, IsFamily, IsSubnetError, ReadsTlv, family_octets};
+ghost use Rattle.dns_view.specs.Options.{HasOption, HasOptions, IsFamily, IsSubnetError, ReadsTlv, family_octets};
 
+use crate::tlv::end_of;
 use crate::walk::Walk;
 use dns_rows::Rule;
 use dns_types::DecodeError;
@@ -29,12 +30,14 @@ fn octets_of_family(family: u16) -> Option<usize>
 ///
 /// # Errors
 ///
-/// The first of these.
+/// They are looked for in this order.
 ///
+/// - [`InsufficientBytes`](DecodeError::InsufficientBytes): there are fewer than two octets.
 /// - [`UnknownAddressFamily`](DecodeError::UnknownAddressFamily): the family is neither 1 nor 2.
-/// - [`IncorrectRDataLengthRead`](DecodeError::IncorrectRDataLengthRead), with 4 or 16 and the octets that the source
-///   prefix needs: these are more.
-/// - [`InsufficientBytes`](DecodeError::InsufficientBytes): the octets end first.
+/// - [`InsufficientBytes`](DecodeError::InsufficientBytes): there are fewer than four octets.
+/// - [`IncorrectRDataLengthRead`](DecodeError::IncorrectRDataLengthRead): the source prefix is longer than an address. `read`
+///   is the length of an address, 4 or 16, and `len` how many octets the prefix needs.
+/// - [`InsufficientBytes`](DecodeError::InsufficientBytes): the address ends before its source prefix.
 pub fn check_subnet(octets: &[u8]) -> Result<(), DecodeError>
     ensures found { OnOk result (HasOption 8 octets.now) }
     ensures refused { IfErr result (λ e. IsSubnetError octets.now e) }
@@ -63,7 +66,8 @@ pub fn check_subnet(octets: &[u8]) -> Result<(), DecodeError>
     Ok(())
 }
 
-// Takes code and octets of the next option. `None` if the RDATA ends inside it; then all of it is taken.
+// Takes code and octets of the next option. `None` if the RDATA ends right after the code, or inside the octets of an option
+// whose length is at most RDLENGTH; then all of the RDATA is taken.
 #[tactic(auto, using(dns_names_wire::proofs::FieldReads::took_number))]
 fn next_option<'a>(
     walk: &mut Walk<'a>,
@@ -120,7 +124,7 @@ fn next_option<'a>(
     }
 }
 
-/// Takes the options up to the end of `len` octets of RDATA from `start`. An option that the RDATA ends inside is taken too.
+/// Takes the options up to the end of `len` octets of RDATA from `start`. The last one may be cut off ([`next_option`]).
 pub(crate) fn skip_options(
     walk: &mut Walk<'_>,
     rule: Rule,
@@ -153,4 +157,45 @@ pub(crate) fn skip_options(
         }
     }
     Ok(())
+}
+
+// Returns whether whole options fill the octets. `false` says nothing about them.
+fn are_options(octets: &[u8]) -> bool
+    ensures { result ≡ true → HasOptions octets.now }
+{
+    let mut offset = 0;
+    'tlvs: while offset < octets.len() {
+        let end = match end_of(octets, offset) {
+            Some(end) => end,
+            None => return false,
+        };
+        let code = u16::from_be_bytes([octets[offset], octets[offset + 1]]);
+        if code == SUBNET {
+            match check_subnet(&octets[offset + 4..end]) {
+                Ok(()) => {}
+                Err(_) => return false,
+            }
+        }
+        offset = end;
+    }
+    true
+}
+
+/// Returns the end of the RDATA if whole options fill it from an offset on. `None` says nothing about them. Nothing is
+/// returned in memory.
+pub(crate) fn options_end(message: &[u8], at: usize, start: usize, len: usize) -> Option<usize>
+    requires within { at ≤ length message.now }
+    requires short { len < 65536 }
+    requires before { start ≤ at }
+    ensures { IfSome result (λ end. (rule : _) → Skips rule Options start len (Ok tt) (record { message = message.now; index = at })
+        (record { message = message.now; index = end })) }
+{
+    let end = start + len;
+    if end < at || message.len() < end {
+        return None;
+    }
+    if !are_options(&message[at..end]) {
+        return None;
+    }
+    Some(end)
 }

@@ -11,7 +11,7 @@ ghost use Rattle.dns_view.specs.{NameEnds.NameEnds, Pointers.NamePointers, Point
 
 use crate::blocks::check_blocks;
 use crate::names::near_name;
-use crate::options::skip_options;
+use crate::options::{options_end, skip_options};
 use crate::parameters::skip_parameters;
 use crate::walk::Walk;
 use dns_fields::Kind;
@@ -20,7 +20,7 @@ use dns_types::DecodeError;
 
 /// Takes a field exactly if one is there that is as its rule asks, of `len` octets of RDATA from `start`.
 ///
-/// On error the decoder may be anywhere after the offset where the call began.
+/// On error the decoder may be at any offset from the one where the call began.
 #[inline(never)]
 #[tactic(auto, using(crate::proofs::Skips::skips_as))]
 pub fn skip_field(
@@ -41,7 +41,7 @@ pub fn skip_field(
             _ => skip_number(walk, width, rule, start, len),
         },
         Kind::Octets(count) => skip_octets(walk, count, rule, start, len),
-        Kind::Name => skip_one_name(walk, rule, start, len),
+        Kind::Name => pass_one_name(walk, rule, start, len, &mut 0),
         Kind::CharacterString => match rule {
             Rule::Letters => skip_letters(walk, start, len),
             Rule::Tag => skip_tag(walk, start, len),
@@ -123,6 +123,11 @@ fn other_end(message: &[u8], at: usize, part: &Part, start: usize, len: usize) -
     if let Kind::CharacterString = part.kind {
         return letters_end(message, at, part.rule, start, len);
     }
+    if let Kind::Options = part.kind {
+        if let Some(end) = options_end(message, at, start, len) {
+            return Some(end);
+        }
+    }
     let mut walk = Walk::at(message, at);
     match skip_field(&mut walk, part.kind, part.rule, start, len) {
         Ok(()) => Some(walk.index()),
@@ -163,8 +168,8 @@ fn field_end(walk: &Walk<'_>, part: &Part, start: usize, len: usize) -> Option<u
     }
 }
 
-// The same for a field that may be a name. It takes off `left` how many compression pointers the name has, down to 0,
-// but only if it is there.
+// The same for a field that may be a name. If the name is there, it subtracts from `left` how many compression pointers it has;
+// `left` stops at 0.
 #[inline]
 fn near_end(
     walk: &Walk<'_>,
@@ -186,8 +191,8 @@ fn near_end(
     }
 }
 
-// Takes a field as `skip_field` does, and takes off `left` how many compression pointers are followed, down to 0: those
-// of a name, whether it is there or not.
+// Takes a field as `skip_field` does, and subtracts from `left` how many compression pointers are followed, which are those of
+// a name, whether it is there or not; `left` stops at 0.
 #[inline]
 fn pass_field(
     walk: &mut Walk<'_>,
@@ -269,22 +274,6 @@ fn skip_octets(
 {
     match walk.read_in_steps(count as usize, step_of(rule)) {
         Ok(_) => Ok(()),
-        Err(e) => Err(e),
-    }
-}
-
-#[inline]
-#[tactic(auto, using(crate::proofs::Skips::name_skips, crate::proofs::Skips::name_refused))]
-fn skip_one_name(
-    walk: &mut Walk<'_>,
-    rule: Rule,
-    start: usize,
-    len: usize,
-) -> Result<(), DecodeError>
-    ensures { Skips rule Name start len result walk.old walk.new }
-{
-    match walk.skip_name() {
-        Ok(()) => Ok(()),
         Err(e) => Err(e),
     }
 }
@@ -477,10 +466,10 @@ fn asked_length(row: &[Part]) -> usize
     }
 }
 
-/// Returns whether fields of the row fill the `len` octets of RDATA from an offset, each as its rule asks, and then takes
-/// off `left` how many compression pointers their names follow, down to 0. `false` says nothing about them: [`skip_row`]
-/// tells. It is the quick way for RDATA that is not damaged. `front` are the numbers at the front of the row, which are
-/// taken at once.
+/// Returns whether fields of the row fill the `len` octets of RDATA from an offset, each as its rule asks, and then
+/// subtracts from `left` how many compression pointers their names follow; it stops at 0. `false` says nothing about them:
+/// [`skip_row`] tells. It is the quick way for RDATA that is not damaged. `front` are the numbers at the front of the row,
+/// which are taken at once.
 #[inline]
 pub fn is_near(
     message: &[u8],
@@ -553,10 +542,10 @@ fn is_other_near(message: &[u8], at: usize, part: &Part, start: usize, len: usiz
     }
 }
 
-// Returns whether a name is encoded at an offset and ends at another one, and then takes off `left` how many compression
-// pointers it follows.
+/// Returns whether a name is encoded at an offset and ends at another one, and then subtracts from `left` how many compression
+/// pointers it follows; it stops at 0.
 #[inline]
-fn is_name_near(message: &[u8], at: usize, end: usize, left: &mut usize) -> bool
+pub fn is_name_near(message: &[u8], at: usize, end: usize, left: &mut usize) -> bool
     requires within { at ≤ length message.now }
     ensures name { result ≡ true → NameEnds message.now at end }
     ensures pointers { result ≡ true → Leaves (NamePointers message.now at) left.old left.new }
@@ -617,8 +606,8 @@ fn are_near(
 
 /// Takes the fields of a row, of `len` octets of RDATA from the index of the decoder.
 ///
-/// On error the decoder may be anywhere after the offset where the call began. Takes off `left` how many compression
-/// pointers are followed, down to 0: those of the names up to and with a field that is rejected.
+/// On error the decoder may be at any offset from the one where the call began. Subtracts from `left` how many compression
+/// pointers are followed; it stops at 0. They are those of the names up to and including a field that is rejected.
 #[inline(never)]
 pub fn skip_row(
     walk: &mut Walk<'_>,

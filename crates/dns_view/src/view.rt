@@ -41,9 +41,9 @@ impl<'a> RowView<'a> {
     ghost use Rattle.std.specs.{Cmp.Lexicographic.slice_cmp, Ordering.nat_cmp};
     ghost use Rattle.dns_view.specs.{ViewOf.IsViewOf, Shown.ShowsAt, NameFields.names_in, NameFields.ShowsNameAt};
 
-    /// Checks that the next `length` octets are RDATA of the row of this type, and takes them. Takes off `left` how many
-    /// compression pointers are followed, down to 0: those of the names up to and with a field that is rejected.
-    /// Allocates nothing.
+    /// Checks that the next `length` octets are RDATA of the row of this type, and takes them. Subtracts from `left` how many
+    /// compression pointers are followed; it stops at 0. They are those of the names up to and including a field that is
+    /// rejected. Allocates nothing.
     ///
     /// # Errors
     ///
@@ -80,8 +80,8 @@ impl<'a> RowView<'a> {
     }
 
     /// The view of the `len` octets of RDATA at an offset of a message, if the quick way tells that fields of the row fill
-    /// them ([`is_near`]), and then takes off `left` how many compression pointers their names follow, down to 0. `None` says
-    /// nothing about them: [`read`](RowView::read) tells. Allocates nothing.
+    /// them ([`is_near`]). Then it subtracts from `left` how many compression pointers their names follow; it stops at 0.
+    /// `None` says nothing about them: [`read`](RowView::read) tells. Allocates nothing.
     #[inline]
     pub fn near(
         message: &'a [u8],
@@ -148,6 +148,9 @@ impl<'a> RowView<'a> {
     /// equality and order, not that of DNSSEC. All names are uncompressed and lowercased. Options are sorted.
     /// Allocates nothing.
     ///
+    /// They are the octets of the value: options of a truncated OPT record, and what follows the address of a client subnet
+    /// or a port of SVCB and HTTPS, are left out, and the bitmap of CSYNC is in its shortest form.
+    ///
     /// If they are more than the buffer has, as many as fit are written, and the number is still theirs.
     pub fn put_canonical(&self, out: &mut [u8]) -> usize
         ensures { (h : HasRow self.now.message.now self.now.offset self.now.row.now (self.now.offset + self.now.len)) →
@@ -162,6 +165,9 @@ impl<'a> RowView<'a> {
 
     /// Writes the octets with names uncompressed and their case preserved at the front of a buffer, and returns how many they
     /// are. Allocates nothing.
+    ///
+    /// They are the octets of the value: options of a truncated OPT record, and what follows the address of a client subnet
+    /// or a port of SVCB and HTTPS, are left out, and the bitmap of CSYNC is in its shortest form.
     ///
     /// If they are more than the buffer has, as many as fit are written, and the number is still theirs.
     pub fn put_uncompressed(&self, out: &mut [u8]) -> usize

@@ -5,7 +5,7 @@ ghost use Rattle.dns_fields.specs.{declared.Kind.TheVariants.Number, declared.Ki
 ghost use Rattle.dns_names_wire.specs.Terms.{TookField, LacksField, ReadsField, LacksOctets, LacksText};
 ghost use Rattle.dns_view.specs.{Parts.TookSome, Parts.moved, Pointers.NamePointers, Pointers.Leaves};
 
-use crate::names::{pass_name, skip_name};
+use crate::names::pass_name;
 use dns_types::DecodeError;
 use std::marker::Model;
 
@@ -29,7 +29,7 @@ impl<'a> Model for Walk<'a> {
 }
 
 impl<'a> Walk<'a> {
-    /// A decoder at an offset of a message.
+    /// A decoder at an offset of a message, which is at most the message's length.
     #[inline]
     pub fn at(message: &'a [u8], index: usize) -> Walk<'a>
         requires { index ≤ length message.now }
@@ -178,28 +178,12 @@ impl<'a> Walk<'a> {
         Ok(octets)
     }
 
-    /// Reads over a name (RFC 1035, 3.1 and 4.1.4).
+    /// Reads over a name (RFC 1035, 3.1 and 4.1.4), and subtracts from `left` how many compression pointers are followed,
+    /// whether a name is encoded there or not; it stops at 0.
     ///
     /// # Errors
     ///
     /// [`NameInvalid`](DecodeError::NameInvalid): no name is encoded there. Nothing is read then.
-    #[inline]
-    pub fn skip_name(&mut self) -> Result<(), DecodeError>
-        ensures taken { OnOk result (TookSome self.old Name self.new) }
-        ensures lacking { IfErr result (λ e. (e ≡ DecodeError.NameInvalid) × LacksField self.old Name) }
-        ensures unchanged { OnErr result (self.new ≡ self.old) }
-    {
-        match skip_name(self.message, self.index) {
-            Some(end) => {
-                self.index = end;
-                Ok(())
-            }
-            None => Err(DecodeError::NameInvalid),
-        }
-    }
-
-    /// The same, and takes off `left` how many compression pointers are followed, down to 0, whether a name is encoded
-    /// there or not.
     #[inline]
     pub fn pass_name(&mut self, left: &mut usize) -> Result<(), DecodeError>
         ensures taken { OnOk result (TookSome self.old Name self.new) }

@@ -36,8 +36,8 @@ pub fn main(rt: &(impl AllocGlobal + Print)) -> Result<()> {
     let mut options = OPT::read_data(&mut decoder, Restrict::new(23))?;
     print_options(rt, &options)?;
 
-    // What a resolver sends on: a longer subnet in place of the client's, and no cookie.
-    let subnet = ClientSubnet::new(IpAddr::V4(Ipv4Addr::new(198, 51, 100, 7)), 32, 0);
+    // What a resolver sends on: fewer bits of the client's subnet (RFC 7871, section 7.1.1), and no cookie.
+    let subnet = ClientSubnet::new(IpAddr::V4(Ipv4Addr::new(192, 0, 0, 0)), 20, 0);
     options.replace(EdnsOption::Subnet(subnet))?;
     options.remove(EdnsCode::Cookie);
     println!(rt; "cookie: {}", options.contains(EdnsCode::Cookie))?;

@@ -11,10 +11,9 @@ pub const RESPONSE: [u8; 87] = *b"\x04\xd2\x81\x80\x00\x01\x00\x03\x00\x00\x00\x
     \xc0\x0c\x00\x0f\x00\x01\x00\x00\x0e\x10\x00\x03\x00\x14\x05\
     \xc0\x0c\x00\x0f\x00\x01\x00\x00\x0e\x10\x00\x0a\x00\x1e\x05mail2\xc0\x0c";
 
-// Prints a record. It borrows from the message, which allocates nothing; `to_name` and `to_rdata` make copies, which may.
+// Prints a record. It borrows from the message, which allocates nothing; `to_rdata` makes a value, which may.
 fn print_record(rt: &(impl AllocGlobal + Print), record: &RecordRef<'_>) -> Result<()> {
-    let owner = record.owner.to_name(rt.alloc())?;
-    let (ttl, record_type) = (record.ttl, record.record_type);
+    let (owner, ttl, record_type) = (record.owner, record.ttl, record.record_type);
     match record.rdata {
         Some(view) => {
             let data = view.to_rdata(rt.alloc())?;

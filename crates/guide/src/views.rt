@@ -1,4 +1,4 @@
-//! Finds the mail server to try first in a response. Only its name is allocated.
+//! Finds the mail server to try first in a response. Nothing is allocated.
 
 use crate::response::RESPONSE;
 use anyhow::Result;
@@ -35,14 +35,14 @@ fn first_mx<'a>(message: &MessageRef<'a>) -> Result<Option<RDataRef<'a>>> {
 }
 
 /// The program.
-pub fn main(rt: &(impl AllocGlobal + Print)) -> Result<()> {
+pub fn main(rt: &impl Print) -> Result<()> {
     let message = MessageRef::read(&RESPONSE)?;
     let Some(view) = first_mx(&message)? else {
         println!(rt; "no mail server")?;
         return Ok(());
     };
     if let Some(host) = view.name(0) {
-        println!(rt; "{}", host.to_name(rt.alloc())?)?;
+        println!(rt; "{host}")?;
     }
     Ok(())
 }

@@ -23,14 +23,16 @@ fn first_eight(octets: &[u8]) -> u64 {
     number
 }
 
-// Whether the first name of a view, made whole, is the one that the value points to, if it points to one.
+// Whether the first name of a view prints as the one that the value points to, if it points to one, and also if it is made a
+// value before.
 fn has_target(alloc: Global, view: &RDataRef<'_>, held: &Held) -> Result<bool> {
     let (Some(name), Some(target)) = (view.name(0), held.0.target()) else {
         return Ok(true);
     };
-    let name = name.to_name(alloc)?;
+    let wanted = format!(in alloc; "{target}")?;
     let shown = format!(in alloc; "{name}")?;
-    Ok(shown.as_str() == format!(in alloc; "{target}")?.as_str())
+    let made = format!(in alloc; "{}", name.to_name(alloc)?)?;
+    Ok(shown.as_str() == wanted.as_str() && made.as_str() == wanted.as_str())
 }
 
 // The uncompressed octets of a value.

@@ -71,7 +71,9 @@ impl Ord for Name {
 
     ghost matches_eq = { Prim.search (comparing, rules) };
 
-    /// By the first difference of the canonical octets, and then the relative name first.
+    /// By the first octet in which the canonical octets differ: labels from the first one on, each after its length, in
+    /// lower case. Of two names that differ in nothing else the relative one comes first. This is not the order of names
+    /// in a zone (RFC 4034, section 6.1), which begins at the root.
     fn cmp(&self, other: &Name) -> Ordering {
         compare_lowered(self.octets.as_slice(), other.octets.as_slice()).then(
             self.is_fqdn.get().cmp(&other.is_fqdn.get()),

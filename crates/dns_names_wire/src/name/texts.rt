@@ -18,7 +18,7 @@ impl Name {
     /// A dot is the root, and no text the relative name without labels. Every other text is labels joined by dots, with
     /// a dot at the end if the name is fully qualified. An octet of a label is a graphic character of ASCII but `.` and
     /// `\`, or `\` and three digits up to 255, or `\` and a graphic character that is no digit. Allocates once if the
-    /// name has more than 32 octets.
+    /// name has more than 33 octets on the wire.
     ///
     /// # Errors
     ///

@@ -1,5 +1,5 @@
 use Rattle.std.proofs.Common.{◌≡◌, ap, arith, nat_eq, subst}
-use Rattle.std.proofs.{lemmas.Bool.OnTrue_at, lemmas.Bool.OnTrue_from, lemmas.Bool.eqb-true}
+use Rattle.std.proofs.{lemmas.Bool.OnTrue_from, lemmas.Bool.eqb-true}
 use Rattle.dns_types.specs.RecordTypes.{record_type_of}
 use Rattle.dns_types.specs.declared.record_type.RecordType.TheVariants as types
 use Rattle.dns_fields.specs.Octets.{AreOctets}
@@ -31,14 +31,14 @@ returns-in-28-clause-there c =
 pub returns-in-2-clause-there : goal.returns-in-2-clause-there
 returns-in-2-clause-there c =
     let octets = subst AreOctets (ap (λ (r : Reading). r.message) c.at.ensures) c.index-start.ensures.octets in
-    OnTrue_from c.is_name.result (PassesRData c.args.message.now c.args.fields.now c.args.left.now c.is_name.new.left) (λ h.
-    name_content c.in-2.is octets (omega arith) c.requires (omega arith) (OnTrue_at h c.is_name.ensures.ends)
-    (OnTrue_at h c.is_name.ensures.pointers))
+    OnTrue_from c.is_name_near.result (PassesRData c.args.message.now c.args.fields.now c.args.left.now c.is_name_near.new.left) (λ h.
+    name_content c.in-2.is octets (omega arith) c.requires (omega arith) (c.is_name_near.ensures.name h)
+    (c.is_name_near.ensures.pointers h))
 
 pub returns-in-15-clause-there : goal.returns-in-15-clause-there
 returns-in-15-clause-there c =
     let octets = subst AreOctets (ap (λ (r : Reading). r.message) c.at.ensures) c.index-start.ensures.octets in
-    OnTrue_from c.is_name-in-15.result (PassesRData c.args.message.now c.args.fields.now c.args.left.now c.is_name-in-15.new.left) (λ h.
+    OnTrue_from c.is_name_near-in-15.result (PassesRData c.args.message.now c.args.fields.now c.args.left.now c.is_name_near-in-15.new.left) (λ h.
     content_there types.MX (ap record_type_of c.in-15.is) (λ never. never) (omega arith)
-    (pair_there octets (omega arith) (omega arith) c.requires (OnTrue_at h c.is_name-in-15.ensures.ends)
-    (OnTrue_at h c.is_name-in-15.ensures.pointers)))
+    (pair_there octets (omega arith) (omega arith) c.requires (c.is_name_near-in-15.ensures.name h)
+    (c.is_name_near-in-15.ensures.pointers h)))

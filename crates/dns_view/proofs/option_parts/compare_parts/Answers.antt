@@ -1,5 +1,5 @@
-use Rattle.std.proofs.Common.{arith, sym, ◌∙◌}
-use Rattle.dns_view.proofs.OptionOwn.{both_short, first_short, second_short, by_heads, by_bodies}
+use Rattle.std.proofs.Common.{arith}
+use Rattle.dns_view.proofs.OptionOwn.{both_short, first_short, second_short, by_codes}
 use Rattle.dns_view.proofs.option_parts.compare_parts.Goals as goal
 
 pub returns-in-true-true : goal.returns-in-true-true
@@ -11,10 +11,6 @@ returns-in-true-false c = first_short c.args.a.now c.args.b.now (omega (arith, c
 pub returns-in-false-true : goal.returns-in-false-true
 returns-in-false-true c = second_short c.args.a.now c.args.b.now (omega (arith, c.in-false-true.is-0)) (omega (arith, c.in-false-true.is-1))
 
-pub returns-in-Equal : goal.returns-in-Equal
-returns-in-Equal c = by_bodies _ _ _ _ _ _ c.parts_of.ensures.octets c.parts_of-2.ensures.octets (c.parts_of.ensures.head ∙ sym c.parts_of-2.ensures.head) c.in-Equal.ensures
-    c.octets_cmp-in-Equal.ensures
-
-pub returns-in_default : goal.returns-in_default
-returns-in_default c = by_heads _ _ _ _ _ _ c.parts_of.ensures.octets c.parts_of-2.ensures.octets (c.parts_of.ensures.head ∙ sym c.parts_of-2.ensures.head)
-    c.octets_cmp.ensures c.in_default.not-Equal
+pub returns-then-code-other : goal.returns-then-code-other
+returns-then-code-other c = by_codes c.args.a.now c.args.b.now (omega (arith, c.in-false-false.is-0)) (omega (arith, c.in-false-false.is-1)) c.code_of-code.ensures c.code_of-other.ensures
+    (omega arith) (omega arith) c.if-code-other.true c.cmp.ensures
