@@ -18,32 +18,35 @@ PAGE = TOP / "docs/API.md"
 USERS = ["dns_rdata", "dns_message", "dns_rdata_zone", "dns_rdata_laws"]
 ITEM = re.compile(r"^( *)pub (?:const |unsafe |extern \"C\" )*(struct|enum|trait|fn|const|static|type|macro) (\w+)")
 IMPL = re.compile(r"^impl(?:<[^{]*?>)? (?:(?P<trait>[\w:]+)(?P<of><.*?>)? for )?(?P<lent>&?)(?:'\w+ )?(?P<type>\w+)")
-TRAIT = re.compile(r"^(?:pub(?:\([a-z]+\))? )?trait ")
+HIDDEN_TRAIT = re.compile(r"^(?:pub\([a-z]+\) )?trait ")
 FIELD = re.compile(r"^    pub (\w+): (.+),$")
-VARIANT = re.compile(r"^    (\w+)(?:[,({]| \{)")
+ONE_FIELD = re.compile(r"^pub struct \w+(?:<.*?>)?\(pub (.+)\);")
+VARIANT = re.compile(r"^    [A-Z]\w*(?:[,(]| \{)")
 # The traits that a user asks for.
 ASKED = (
-    "Clone Copy Debug Display Error Eq PartialEq Ord PartialOrd Hash Default Iterator IntoIterator From FromStr AsRef AsMut Deref "
-    "BinDecodable BinEncodable RecordDataDecodable RecordData"
+    "Clone Copy Debug Display Error Eq PartialEq Ord PartialOrd Hash Default Iterator IntoIterator From Into TryFrom FromStr AsRef "
+    "AsMut Deref DerefSlice BinDecodable BinEncodable RecordDataDecodable RecordData FromTokens TakesOctet"
 ).split()
 
 IMPLIED = {
     "Error": ["Display"],
-    "DecodesFields": ["BinDecodable", "RecordDataDecodable"],
+    "DecodesFields": ["RecordDataDecodable"],
     "EncodesFields": ["BinEncodable"],
     "Variant": ["RecordData"],
 }
 
 
 class Item:
-    def __init__(self, kind, name, doc, text, crate):
-        self.kind, self.name, self.doc, self.text, self.crate = kind, name, doc, text, crate
+    def __init__(self, kind, name, doc, text="", file=None):
+        # The first paragraph says it.
+        self.doc = doc[: doc.index("")] if "" in doc else doc
+        self.kind, self.name, self.text, self.file = kind, name, text, file
         self.calls, self.derived, self.fields, self.variants = [], [], [], []
 
     def sentence(self):
         text = re.sub(r"\[([^\]]*)\]\([^)]*\)", r"\1", " ".join(self.doc).strip())
         text = re.sub(r"\[(`[^\]]*`)\]", r"\1", text)
-        found = re.match(r"(.*?[.:])(?: [A-Z`]|$)", text)
+        found = re.match(r"(.*?\.)(?: [A-Z`]|$)", text)
         return (found.group(1) if found else text).replace("|", "\\|")
 
     def allocates(self):
@@ -61,28 +64,42 @@ class Item:
 
 
 def parts_of(lines, i):
-    """The public fields of the struct, or the variants of the enum, that begins in a line, each with its first sentence."""
+    """The public fields of the struct that begins in a line, each with its type and first sentence, or the variants of the enum."""
+    one = ONE_FIELD.match(lines[i])
+    if one:
+        return [("0", one.group(1), "The only field.")], []
     fields, variants, doc = [], [], []
     if lines[i].rstrip().endswith("{"):
         for line in lines[i + 1 :]:
             if line.startswith("}"):
                 break
-            said = re.match(r"^    /// ?(.*)$", line)
-            field, variant = FIELD.match(line), VARIANT.match(line)
+            said, field = re.match(r"^    /// ?(.*)$", line), FIELD.match(line)
+            inner = re.match(r"^        (\w+: .+),$", line)
             if said:
                 doc.append(said.group(1))
             elif field:
-                it = Item("field", field.group(1), doc[: doc.index("")] if "" in doc else doc, "", "")
-                fields.append((it.name, field.group(2), it.sentence()))
-            elif variant and variant.group(1)[0].isupper():
-                variants.append(variant.group(1))
+                fields.append((field.group(1), field.group(2), Item("field", field.group(1), doc).sentence()))
+            elif VARIANT.match(line):
+                variants.append(line.strip().rstrip(",{ ") + (" { .. }" if line.endswith("{") else ""))
+            elif inner and variants:
+                name, _, rest = variants[-1].partition(" { ")
+                variants[-1] = f"{name} {{ {'' if rest == '.. }' else rest[:-2] + ', '}{inner.group(1)} }}"
             if not said and not line.strip().startswith("#["):
                 doc = []
     return fields, variants
 
 
+def add_impl(types, file, impl):
+    """Notes a trait that a type implements, by the line of its `impl`."""
+    trait, owner = impl.group("trait").split("::")[-1] + (impl.group("of") or ""), impl.group("type")
+    types.setdefault(f"{owner}.impls", []).append((file, trait + (" for &" if impl.group("lent") else "")))
+    source = re.fullmatch(r"From<(\w+)>", trait)
+    if source:
+        types.setdefault(f"{source.group(1)}.impls", []).append((file, f"Into<{owner}>"))
+
+
 def items_of(crate):
-    """The public items of a crate, by file (its module), and the calls of each type."""
+    """The public items of a crate, by file (its module), and the calls and traits of each type."""
     modules, types = {}, {}
     for file in sorted((TOP / f"crates/{crate}/src").glob("**/*.rt")):
         module = "::".join(file.relative_to(TOP / f"crates/{crate}/src").with_suffix("").parts)
@@ -99,38 +116,30 @@ def items_of(crate):
             impl = IMPL.match(line)
             if impl:
                 owner, trait = impl.group("type"), impl.group("trait")
-                if trait and not impl.group("lent"):
-                    types.setdefault(f"{owner}.impls", set()).add(trait.split("::")[-1] + (impl.group("of") or ""))
-            if TRAIT.match(line) and not line.startswith("pub trait"):
-                # A trait that is not public: its calls are no one's.
+                if trait:
+                    add_impl(types, file, impl)
+            if HIDDEN_TRAIT.match(line):
                 owner, trait = "", ""
             if line.startswith("}"):
                 owner = trait = None
             item = ITEM.match(line)
+            call = re.match(r"^    fn (\w+)", line)
             if item and not line.strip().startswith("pub(crate)"):
                 text = "\n".join(lines[i : i + 40]).split("\n" + item.group(1) + "{")[0]
-                # The first paragraph says it.
-                paragraph = doc[: doc.index("")] if "" in doc else doc
-                it = Item(item.group(2), item.group(3), paragraph, text, crate)
-                it.doc_all = doc
+                it = Item(item.group(2), item.group(3), doc, text, file)
                 if item.group(1) == "":
-                    it.derived, derived = derived, []
+                    it.derived = derived
                     if it.kind in ("struct", "enum"):
                         it.fields, it.variants = parts_of(lines, i)
-                        if it.kind == "struct":
-                            it.variants = []
                     found.append(it)
                     types.setdefault(it.name, it)
                 elif owner and trait is None and len(item.group(1)) == 4:
-                    types.setdefault(f"{owner}.calls", []).append(it)
-            elif re.match(r"^    fn (\w+)", line) and trait is None and owner is None:
-                name = re.match(r"^    fn (\w+)", line).group(1)
-                if found and found[-1].kind == "trait":
-                    text = "\n".join(lines[i : i + 40]).split(";\n")[0]
-                    paragraph = doc[: doc.index("")] if "" in doc else doc
-                    found[-1].calls.append(Item("fn", name, paragraph, text, crate))
+                    types.setdefault(f"{owner}.calls", []).append((file, it))
+            elif call and trait is None and owner is None and found and found[-1].kind == "trait":
+                text = "\n".join(lines[i : i + 40]).split(";\n")[0]
+                found[-1].calls.append(Item("fn", call.group(1), doc, text))
             if line.strip() and not line.strip().startswith(("#[", "//")):
-                doc = []
+                doc, derived = [], []
         modules[module] = found
     return modules, types
 
@@ -188,35 +197,41 @@ def page():
         "",
     ]
 
-    def calls_of(name):
-        found = []
-        for _, types in crates.values():
-            found += types.get(f"{name}.calls", [])
-        return found
+    declared = {}
+    for modules, _ in crates.values():
+        for items in modules.values():
+            for it in items:
+                declared.setdefault(it.name, []).append(it)
+
+    def owned(it, what):
+        # Of two types with one name each has what its own file says.
+        every = [pair for _, types in crates.values() for pair in types.get(f"{it.name}.{what}", [])]
+        return [found for file, found in every if len(declared[it.name]) == 1 or file == it.file]
 
     def traits_of(it):
-        found = set(it.derived)
-        for _, types in crates.values():
-            found |= types.get(f"{it.name}.impls", set())
+        found = {*it.derived, *owned(it, "impls")}
         # By the `impl`s for all types with another trait.
         for trait, others in IMPLIED.items():
             if trait in found:
                 found |= set(others)
-        return [name for asked in ASKED for name in sorted(found) if name == asked or name.startswith(asked + "<")]
+        if {"DecodesFields", "EncodesFields"} <= found:
+            found.add("BinDecodable")
+        return [name for asked in ASKED for name in sorted(found) if re.match(rf"{asked}\b", name)]
 
     def show(it, path, level):
         out.append(f"{'#' * level} `{it.name}`\n")
         out.append(f"`use {path}::{it.name};` {it.sentence()}\n")
         traits = traits_of(it)
         if traits:
-            out.append(f"Implements: {', '.join(f'`{name}`' for name in traits)}.\n")
+            named = ", ".join(f"`{name}`" for name in traits).replace("`From<T>`", "`From<T>` of each record `T`")
+            out.append(f"Implements: {named}.\n")
         if it.variants:
             out.append(f"Variants: {', '.join(f'`{name}`' for name in it.variants)}.\n")
         if it.fields:
             out.append("| Field | Type | What it is |\n|---|---|---|")
             out.extend(f"| `{name}` | `{kind}` | {said} |" for name, kind, said in it.fields)
             out.append("")
-        calls = it.calls if it.kind == "trait" else calls_of(it.name)
+        calls = it.calls if it.kind == "trait" else owned(it, "calls")
         if calls:
             out.append("| Call | What it does | Allocates |\n|---|---|---|")
             out.extend(row(call) for call in calls)

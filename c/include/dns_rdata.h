@@ -354,9 +354,9 @@ struct dns_rdata_record {
  * message is shorter than a header, with DNS_RDATA_QUESTION if one of its questions is damaged, and with DNS_RDATA_POINTERS if its
  * questions follow too many compression pointers; the cursor then has no records. Does not allocate.
  *
- * The names in one hostile message can follow the same thousands of compression pointers thousands of times. A walk follows
- * 65,536 of them at most, and ends with DNS_RDATA_POINTERS after that; real messages need a few for each name. For another limit, set
- * records.left to one more than it after this call.
+ * The names in one hostile message can follow the same thousands of compression pointers thousands of times. A walk counts them, each
+ * as often as another name follows it, and ends with DNS_RDATA_POINTERS when the count passes 65,536; real messages need a few for
+ * each name. For another limit, set records.left to one more than it after this call.
  */
 DNS_RDATA_NONNULL dns_rdata_status dns_rdata_records_begin(const uint8_t *message, size_t message_length,
                                                            struct dns_rdata_records *records);

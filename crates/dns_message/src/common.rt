@@ -22,8 +22,8 @@ const MX: u16 = 15;
 
 const AAAA: u16 = 28;
 
-// Returns whether the type of a record is a common one and its RDATA is as the type asks, and then subtracts from `left` how
-// many compression pointers the RDATA has; it stops at 0. `false` says nothing about the record.
+// Returns `true` if the type of a record is a common one and its RDATA is as the type asks, and subtracts from `left` how many
+// compression pointers the RDATA has; it stops at 0. `false` leaves `left` unchanged, and says nothing about the record.
 #[inline]
 pub(crate) fn has_common_rdata(message: &[u8], fields: &FixedFields, left: &mut usize) -> bool
     requires { fields.now.rdata + fields.now.rdlength ≤ length message.now }

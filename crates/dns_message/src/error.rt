@@ -43,8 +43,8 @@ pub enum Fault {
     /// fault if the message ends there or inside the name, as a truncated one often does.
     #[error("invalid domain name")]
     Name,
-    /// The message ends in the fields after the name: four octets of a question, ten of a record. If it ends before them, the
-    /// fault is [`Name`](Fault::Name).
+    /// The message ends after the name and before the end of the fields that follow it: four octets in a question, ten in a
+    /// record. If it ends inside the name or before it, the fault is [`Name`](Fault::Name).
     #[error("unexpected end of the message")]
     Truncated,
     /// RDLENGTH passes the end of the message.

@@ -65,10 +65,10 @@ impl<'a> MessageRef<'a> {
     /// The same message with another limit: how many compression pointers (RFC 1035, section 4.1.4) one walk over its
     /// questions or records may follow. The limit of a message that was read is 65,536.
     ///
-    /// The names in a hostile message of 64 KiB can follow the same 8,000 pointers some 4,000 times. A walk counts each pointer
-    /// once, and ends with [`Pointers`](crate::Fault::Pointers) at the record with which the count passes the limit. Names in
-    /// RDATA that is rejected are gone over up to three times ([`step`](MessageRef::step)), so a walk follows at most three
-    /// times as many pointers as the limit, and those of one record.
+    /// The names in a hostile message of 64 KiB can follow the same 8,000 pointers some 4,000 times. A walk counts a pointer each
+    /// time that another name follows it, and ends with [`Pointers`](crate::Fault::Pointers) at the record with which the count
+    /// passes the limit. Names in RDATA that is rejected are gone over up to three times ([`step`](MessageRef::step)) and counted
+    /// once. So a walk follows at most three times the limit, and three times the pointers of one record.
     #[inline]
     pub fn with_limit(&self, limit: u32) -> MessageRef<'a>
         ensures { result ≡ record { octets = self.now.octets; limit = limit } }
@@ -79,7 +79,7 @@ impl<'a> MessageRef<'a> {
         }
     }
 
-    /// How many compression pointers one walk may follow: see [`with_limit`](MessageRef::with_limit).
+    /// How many compression pointers one walk may count: see [`with_limit`](MessageRef::with_limit).
     #[inline]
     pub fn limit(&self) -> u32
         ensures { result ≡ self.now.limit }

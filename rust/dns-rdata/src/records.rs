@@ -11,8 +11,9 @@ use crate::{Error, Name, Rdata, RecordType, Status};
 /// A record whose RDATA is rejected is an error that has the record, and the walk goes on after it. If a record is damaged, or if
 /// the walk would follow too many compression pointers, the error has no record, and no item follows it.
 ///
-/// The names in one hostile message can follow the same thousands of compression pointers thousands of times. So a walk follows
-/// 65,536 of them at most; real messages need a few for each name. [`Records::set_limit`] sets another limit.
+/// The names in one hostile message can follow the same thousands of compression pointers thousands of times. So a walk counts them,
+/// each as often as another name follows it, and ends when the count passes 65,536; real messages need a few for each name.
+/// [`Records::set_limit`] sets another limit.
 ///
 /// # Examples
 ///
