@@ -197,16 +197,18 @@ def page():
         "",
     ]
 
+    # How many types have a name.
     declared = {}
     for modules, _ in crates.values():
         for items in modules.values():
             for it in items:
-                declared.setdefault(it.name, []).append(it)
+                if it.kind in ("struct", "enum"):
+                    declared[it.name] = declared.get(it.name, 0) + 1
 
     def owned(it, what):
         # Of two types with one name each has what its own file says.
         every = [pair for _, types in crates.values() for pair in types.get(f"{it.name}.{what}", [])]
-        return [found for file, found in every if len(declared[it.name]) == 1 or file == it.file]
+        return [found for file, found in every if declared.get(it.name, 1) == 1 or file == it.file]
 
     def traits_of(it):
         found = {*it.derived, *owned(it, "impls")}
