@@ -6,8 +6,8 @@ use Rattle.dns_view.proofs.names.follow_name.Goals as goal
 pub returns-in-None-clause-none : goal.returns-in-None-clause-none
 returns-in-None-clause-none c = no_first c.in-None.ensures.none
 
-pub returns-in-None-clause-pointers : goal.returns-in-None-clause-pointers
-returns-in-None-clause-pointers c = chased_none c.in-None.ensures.none
+pub returns-in-None-clause-steps : goal.returns-in-None-clause-steps
+returns-in-None-clause-steps c = chased_none c.in-None.ensures.none
 
 pub runs-init : goal.runs-init
 runs-init c = (
@@ -16,14 +16,14 @@ runs-init c = (
   chased_first c.in-Some.ensures.some,
 )
 
-pub returns-then-target-offset-clause-pointers : goal.returns-then-target-offset-clause-pointers
-returns-then-target-offset-clause-pointers c = chased_forward (rw c.in-Some-next.is at c.runs.invariant.2) (omega arith)
+pub returns-then-target-offset-clause-steps : goal.returns-then-target-offset-clause-steps
+returns-then-target-offset-clause-steps c = chased_forward (rw c.in-Some-next.is at c.runs.invariant.2) (omega arith)
 
 pub returns-in-None-skip_run-clause-none : goal.returns-in-None-skip_run-clause-none
 returns-in-None-skip_run-clause-none c = no_next (rw c.in-Some-next.is at c.runs.invariant.0) c.in-None-skip_run.ensures.none
 
-pub returns-in-None-skip_run-clause-pointers : goal.returns-in-None-skip_run-clause-pointers
-returns-in-None-skip_run-clause-pointers c =
+pub returns-in-None-skip_run-clause-steps : goal.returns-in-None-skip_run-clause-steps
+returns-in-None-skip_run-clause-steps c =
     chased_lost (rw c.in-Some-next.is at c.runs.invariant.2) (omega arith) c.in-None-skip_run.ensures.none
 
 pub runs-preserved : goal.runs-preserved
@@ -36,5 +36,5 @@ runs-preserved c = (
 pub returns-clause-some : goal.returns-clause-some
 returns-clause-some c = ends (rw c.in_default.is at c.runs.invariant.0)
 
-pub returns-clause-pointers : goal.returns-clause-pointers
-returns-clause-pointers c = chased_end (rw c.in_default.is at c.runs.invariant.2)
+pub returns-clause-steps : goal.returns-clause-steps
+returns-clause-steps c = chased_end (rw c.in_default.is at c.runs.invariant.2)

@@ -1,6 +1,6 @@
 use Rattle.std.proofs.Common.{◌≡◌, ◌<◌, ◌+◌, ◌-◌, length, get_or}
 use Rattle.dns_view.proofs.NameSteps.{Skipped}
-use Rattle.dns_view.proofs.names.skip_run.Given as goal
+use Rattle.dns_view.proofs.names.pass_run.Given as goal
 
 abbrev pub invariant-labels : goal.invariant-labels
 invariant-labels l = Skipped l.message l.offset l.at l.before (l.before + (l.at - l.offset)) × (l.first ≡ get_or l.message l.at 0) × (l.at < l.most)
