@@ -70,6 +70,11 @@ fn main(rt: HostRuntime) -> ExitCode {
         run(rt.alloc(), words.as_slice(), &mut out)
     };
     let standard_error = rt.stderr();
-    tell(rt.alloc(), words.as_slice(), status, &mut io::writer(&standard_error));
+    tell(
+        rt.alloc(),
+        words.as_slice(),
+        status,
+        &mut io::writer(&standard_error),
+    );
     ExitCode::from(status)
 }

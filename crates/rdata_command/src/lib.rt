@@ -14,9 +14,9 @@ mod terminal;
 
 pub use reason::{explain, is_longer};
 pub use report::say;
-pub use terminal::visible;
 use std::alloc::Global;
 use std::io;
+pub use terminal::visible;
 
 /// Does what the words ask for, writes the whole result to `out`, and returns the status.
 ///

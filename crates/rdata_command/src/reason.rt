@@ -69,7 +69,10 @@ pub fn explain<W: io::Write>(alloc: Global, words: &[String], out: &mut W)
 
 // Whether the texts are of values that are equal.
 fn gives_the_same(alloc: Global, record_type: RecordType, text: &str, other: &str) -> bool {
-    match (parsed(alloc, record_type, text), parsed(alloc, record_type, other)) {
+    match (
+        parsed(alloc, record_type, text),
+        parsed(alloc, record_type, other),
+    ) {
         (Ok(value), Ok(less)) => value.0 == less.0,
         _ => false,
     }

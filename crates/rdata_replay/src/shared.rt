@@ -12,7 +12,6 @@ use replay::octets;
 use std::alloc::{AllocError, Global};
 use std::fmt::Debug;
 use std::hash::{DefaultHasher, Hash, Hasher};
-use std::io;
 
 /// A result as `Debug` prints it.
 pub fn shown<T: Debug + Drop>(alloc: Global, answer: T) -> Result<String> {
