@@ -162,10 +162,10 @@ module _ {message : List ℕ} {start : ℕ} {region : List ℕ} {offset target l
       let t = c.so (suc k) (c.labels + suc n) (j, c.labels, n, c.passes, there, refl) in
       (t.0, as_many message start t.0 (c.earlier + (c.labels + suc n)) (count + suc n) (omega (arith, c.sum)) t.1)
 
-  pub chased_next : {stop : Option ℕ} {end after labels : ℕ} → target < offset → SkipsRun (take offset region) target stop end len after
+  pub chased_next : {stop : Option ℕ} {end after : ℕ} (labels : ℕ) → target < offset → SkipsRun (take offset region) target stop end len after
       → PassesLabels labels (take offset region) target len → len + labels ≤ after
       → Chased message start (take offset region) target stop after (count + (1 + labels))
-  chased_next {end = end} {labels = labels} back r passes more = record {
+  chased_next {end = end} labels back r passes more = record {
     before = len;
     front = r.front;
     end = end;
@@ -187,10 +187,10 @@ module _ {message : List ℕ} {start : ℕ} {region : List ℕ} {offset target l
       taken message start t.0 (c.earlier + c.labels) count (omega (arith, c.sum)) t.1
 
   -- it is the last one
-  pub chased_lost : {labels : ℕ} → target < offset → ((front : List (List ℕ)) (stop : Option ℕ) (e : ℕ) → IsRun (take offset region) target front stop e
+  pub chased_lost : (labels : ℕ) → target < offset → ((front : List (List ℕ)) (stop : Option ℕ) (e : ℕ) → IsRun (take offset region) target front stop e
       → len + length (wire front) ≤ 254 → ⊥) → PassesLabels labels (take offset region) target len
       → NamePointers message start (count + (1 + labels))
-  chased_lost {labels = labels} back none passes =
+  chased_lost labels back none passes =
       let t = on back zero labels ((λ j. none j.front (Some j.target) j.end j.run j.room), passes) in
       taken message start t.0 (count + suc labels) (count + (1 + labels)) (omega arith) t.1
 
