@@ -210,7 +210,7 @@ def wire(message: Octets, offset: int, length: int, type_number: int) -> bytes:
 
 
 def text(message: Octets, offset: int, length: int, type_number: int) -> str:
-    """The text in a zone file, as every name server reads it (RFC 1035, section 5.1; RFC 9460, section 2.1; RFC 3597, section 5)."""
+    """The text in a zone file (RFC 1035, section 5.1; RFC 9460, section 2.1; RFC 3597, section 5)."""
     return _filled(_library.dns_rdata_text, _byref(data(message, offset, length, type_number))).decode()
 
 
