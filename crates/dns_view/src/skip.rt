@@ -100,7 +100,7 @@ fn letters_end(message: &[u8], at: usize, rule: Rule, start: usize, len: usize) 
 #[inline]
 fn is_asked(text: &[u8], rule: Rule, end: usize, data_end: usize) -> bool
     ensures asked { result ≡ true → Asks rule CharacterString text.now }
-    ensures ends { result ≡ true → Ends CharacterString rule data_end end }
+    ensures ends { result ≡ true → Ends CharacterString rule data_end text.now end }
 {
     match rule {
         Rule::Letters => are_letters(text),

@@ -195,7 +195,8 @@ impl<'a> RowView<'a> {
     /// The field of this index in the row, or `None` if the row has fewer fields. Allocates nothing.
     pub fn field(&self, number: usize) -> Option<FieldRef<'a>>
         ensures { (h : HasRow self.now.message.now self.now.offset self.now.row.now (self.now.offset + self.now.len)) →
-            MatchOption result (length self.now.row.now ≤ number) (λ f. ShowsAt number (kinds_of self.now.row.now) h.values f) }
+            MatchOption result (length self.now.row.now ≤ number) (λ f. ShowsAt self.now.message.now self.now.offset number
+            (kinds_of self.now.row.now) h.values (self.now.offset + self.now.len) f) }
     {
         field_of(
             self.message,
