@@ -95,7 +95,7 @@ ends_near {row} {at} {start} {n} {before} {after} {m} {now} so counted checked l
     record {
       took = subst (λ (x : Reading). TookRow row n old x) here took;
       inside = inside;
-      pointers = counted_last counted last refl (omega (arith, checked.least, row_fewest m start row (start + n) (took.here end)));
+      steps = counted_last counted last refl (omega (arith, checked.least, row_fewest m start row (start + n) (took.here end)));
     }
 
 abbrev at_octet : List ℕ → ℕ → Reading
