@@ -1,5 +1,5 @@
 -- Character strings, read, written and given one after the other.
-use Rattle.std.proofs.lemmas.List.{append-nil, length-append, drop_more, take-append-drop, Concat.flat_map-cons}
+use Rattle.std.proofs.lemmas.List.{append-nil, length-append, same_from_push, drop_more, take-append-drop, Concat.flat_map-cons}
 use Rattle.std.proofs.{Common.subst, Common.nat_le, Common.false, lemmas.Grind.flat_map-append, Math.Bool.and-false}
 use Rattle.std.proofs.Common.{◌≡◌, ℕ, suc, ◌+◌, ◌≤◌, ◌<◌, ◌⊎◌, inl, inr, List, [], ◌∷◌, ◌++◌, length, take, drop, get_or, drop-cons, refl, sym, ap, ◌∙◌, arith}
 use Rattle.std.specs.List.{flat_map, AllByRecursion, list_all}
@@ -7,7 +7,7 @@ use Rattle.dns_types.specs.declared.error.{DecodeError.DecodeError, ProtoError.P
 use Rattle.dns_fields.specs.{declared.Kind.TheVariants.CharacterString, declared.Kind.TheVariants.CharacterStrings, Fields.Field, Fields.field_octets}
 use Rattle.dns_fields.specs.{Tlvs.string, Octets.At}
 use Rattle.dns_fields.proofs.FieldLaws.{field_inside, field_end}
-use Rattle.dns_names_wire.specs.Terms.{TookField, LacksField, RefusedField, RefusedRegion, AppendedField, StoppedField, NoRoomField, UnfitField}
+use Rattle.dns_names_wire.specs.Terms.{TookField, LacksField, StringsReach, RefusedField, RefusedRegion, AppendedField, StoppedField, NoRoomField, UnfitField}
 use Rattle.dns_names_wire.specs.State.{Reading, Writing}
 use Rattle.dns_names_wire.proofs.{Strings.at_front, Strings.at_rest, Strings.at_then, FieldWrites.extends_then, FieldWrites.because_map, FieldReads.unless_map}
 use Rattle.dns_rdata_base.specs.{Steps.texts_left, TXT.txt_shape}
@@ -22,6 +22,7 @@ pub record ReadsOn (old : Reading) (end : ℕ) (strings : List (List ℕ)) (d : 
   pub message : d.message ≡ old.message
   pub behind : old.index ≤ d.index
   pub took : Field old.message old.index CharacterStrings strings d.index
+  pub last : (front : List (List ℕ)) (s : List ℕ) → strings ≡ front ++ s ∷ [] → d.index < end + length (string s)
   pub rest : (ws : List (List ℕ)) → Field old.message old.index CharacterStrings ws end
       → (vs : List (List ℕ)) × Field old.message d.index CharacterStrings vs end
 
@@ -60,6 +61,7 @@ reads_more {old} {d} {b} {end} {xs} {s} lt r f =
       message = f.message ∙ r.message;
       behind = omega (arith, r.behind, (field_inside g).0);
       took = texts_push r.took g;
+      last = λ front t e. omega (arith, lt, g.is.1.ends, ap length (same_from_push xs front s t e).1);
       rest = λ ws h.
           let vs = r.rest ws h in
           let x = next_text old.message d.index end vs.0 lt vs.1 in
@@ -67,7 +69,25 @@ reads_more {old} {d} {b} {end} {xs} {s} lt r f =
           (x.1, subst (λ (q : ℕ). Field old.message q CharacterStrings x.1 end) there x.3);
     }
 
+-- no string is read
+pub reads_begun : {old : Reading} (end : ℕ) → old.index ≤ length old.message → ReadsOn old end [] old
+reads_begun end within = record {
+  message = refl;
+  behind = omega arith;
+  took = record { is = (tt, record { ends = omega arith; within = within; same = refl }) };
+  last = λ front s e. absurd (omega (arith, ap length e, length-append front (s ∷ [])));
+  rest = λ ws h. (ws, h);
+}
+
 -- ---- how a loop ends
+
+-- the end is reached, or passed
+pub reads_reach : {old d : Reading} {end : ℕ} {xs : List (List ℕ)} (n : ℕ) → end ≡ old.index + n → ReadsOn old end xs d → end ≤ d.index
+    → TookField old CharacterStrings xs d × StringsReach (old.index + n) xs d.index
+reads_reach {old} {d} {end} {xs} n is r past = (
+  record { message = r.message; field = r.took },
+  subst (λ (q : ℕ). StringsReach q xs d.index) is (record { reach = past; last = r.last }),
+)
 
 -- a string is refused on the way
 pub reads_none : {e : DecodeError} {old d b : Reading} {end : ℕ} {xs : List (List ℕ)} (n : ℕ) → end ≡ old.index + n → d.index < end → ReadsOn old end xs d

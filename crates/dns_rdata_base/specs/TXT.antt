@@ -1,5 +1,5 @@
 -- TXT: character strings (RFC 1035, 3.3.14).
-use Rattle.std.specs.Prelude.{◌≡◌, ◌⊎◌, ◌+◌, ◌<◌, ◌≤◌, ℕ, List, [], ◌∷◌}
+use Rattle.std.specs.Prelude.{◌≡◌, ◌⊎◌, ◌+◌, ◌<◌, ℕ, List}
 use Rattle.std.specs.{List.flat_map, Ordering.on}
 use Rattle.dns_fields.specs.{declared.Kind.Kind, declared.Kind.TheVariants.CharacterStrings, Fields.Values}
 use Rattle.dns_fields.specs.{Order.values_cmp}
@@ -7,7 +7,7 @@ use Rattle.dns_rows.specs.Table.{kinds_of}
 use Rattle.dns_rows.specs.declared.row.TheConstants as rows
 use Rattle.dns_types.specs.declared.error.DecodeError.{DecodeError}
 use Rattle.dns_types.specs.declared.error.DecodeError.TheVariants as decode
-use Rattle.dns_names_wire.specs.{State.Reading, Terms.TookField, Terms.LacksText, Facts.Facts}
+use Rattle.dns_names_wire.specs.{State.Reading, Terms.TookField, Terms.LacksText, Terms.StringsReach, Facts.Facts}
 use Rattle.dns_tokens.specs.Forms.{TokenRow, every_text}
 use Rattle.dns_rdata_base.specs.{Lossy.lossy, declared.txt.TXT.TXT}
 
@@ -37,13 +37,13 @@ pub record LacksString (n : ℕ) (old new : Reading) : Type 0 where
 abbrev pub IsTxtError : ℕ → Reading → DecodeError → Reading → Type 0
 IsTxtError n old e new = (e ≡ decode.Memory) ⊎ ((e ≡ decode.InsufficientBytes) × LacksString n old new)
 
--- the strings that were taken reach the length, or pass it
+-- the strings that were taken reach the length, or pass it, and the last of them begins before it
 abbrev pub txt_facts : Facts TXT
 txt_facts = record {
   kinds = txt_shape;
   condition = λ _. Unit {0};
   fields = txt_fields;
   rejects = IsTxtError;
-  after_read = λ n x old new. TookField old CharacterStrings x.txt_data new × (old.index + n ≤ new.index);
+  after_read = λ n x old new. TookField old CharacterStrings x.txt_data new × StringsReach (old.index + n) x.txt_data new.index;
   order = on txt_fields (values_cmp txt_shape);
 }
