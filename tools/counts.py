@@ -23,6 +23,7 @@ PLACES = [
     ("README.md", "every definition that the promise above rests on: {headline} lines"),
     ("docs/dev/GATE.md", "other results than the reference model's for {messages} truncated and changed messages"),
     ("docs/dev/GATE.md", "with a line `only: FUNCTION`, {wrong-bodies-tried} of {wrong-bodies}."),
+    ("docs/ZONE_TEXT.md", "It has {type-names} names for {type-numbers} numbers"),
 ]
 
 
@@ -33,8 +34,23 @@ def golden():
     return lines["rows"] + lines["real"], lines["calls"] + lines["wire"]
 
 
+def type_names():
+    """The names of types and their numbers, which zone text knows."""
+    lines = (TOP / "tests/type_names.tsv").read_text(encoding="utf-8").splitlines()
+    return [tuple(line.split("\t")) for line in lines if not line.startswith("#")]
+
+
+def is_listed():
+    """Whether docs/ZONE_TEXT.md lists exactly these names."""
+    page = (TOP / "docs/ZONE_TEXT.md").read_text(encoding="utf-8")
+    rows = re.findall(r"(?m)^\| (\d+) to (\d+) \| (.*) \|$", page)
+    listed = [(name.strip("`"), number) for _, _, names in rows for name, number in re.findall(r"(\S+) (\d+)", names)]
+    within = all(int(first) <= int(number) <= int(last) for first, last, names in rows for number in re.findall(r" (\d+)", f" {names}"))
+    return within and sorted(listed) == sorted(type_names())
+
+
 def counts():
-    found = {}
+    found = {"type-names": len(type_names()), "type-numbers": len({number for _, number in type_names()})}
     found["golden-runs"], found["golden-calls"] = golden()
     edits = sorted((TOP / "tests/wrong_bodies").glob("*/*.edit"))
     found["wrong-bodies"] = len(edits)
@@ -70,6 +86,9 @@ def main():
         else:
             print(f"{page} says '{there[0][0]}', and counted is '{made}'")
             bad += 1
+    good, bad = good + is_listed(), bad + (not is_listed())
+    if not is_listed():
+        print("docs/ZONE_TEXT.md does not list the names of tests/type_names.tsv")
     for name in sorted(skipped):
         print(f"skipped: the count '{name}', since its test has not run here with all its cases")
     print(f"{good} as wanted, {bad} not")
