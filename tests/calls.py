@@ -23,6 +23,7 @@ import subprocess
 import sys
 import tempfile
 
+import counted
 from damaged import ROWS, TOP, escaped, plain
 
 MODES, STARTS = ("standard", "canonical", "other"), ("fresh", "behind")
@@ -414,6 +415,7 @@ def main(program, counter):
     with_requests_refused(machine, calls, answers, debug, counts)
     within_space(machine, samples, counts)
     counts.show()
+    counted.note("calls", sum(counts.good.values()) + len(counts.bad))
 
 
 if __name__ == "__main__":

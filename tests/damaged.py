@@ -16,6 +16,7 @@ import subprocess
 import sys
 import tempfile
 
+import counted
 import plain_table
 import plain_words
 
@@ -357,6 +358,8 @@ def main(program):
     kinds = collections.Counter(run.kind for run in runs)
     answers += [""] * (len(runs) - len(answers))
     wrong = [(run, answer) for run, answer in zip(runs, answers) if not is_wanted(run, answer)]
+    if program:
+        counted.note("damaged", len(runs))
     for run, answer in wrong[:20]:
         print(f"not as wanted: {' '.join(run.words)[:300]}: {answer[:300]}")
     print("; ".join(f"{kind}: {count}" for kind, count in kinds.items()))

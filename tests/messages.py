@@ -19,6 +19,7 @@ import subprocess
 import sys
 
 import plain_table
+import counted
 import zone_texts
 
 TOP = pathlib.Path(__file__).resolve().parent.parent
@@ -251,6 +252,8 @@ def main():
     cases += [(message.hex().encode(), wanted_lines(message)) for message in pointed()]
     bad, texts = compare(cases, len(cases) if built else 1500)
     print(f"messages: {len(whole)} stored, {len(others)} changed")
+    if built:
+        counted.note("messages", len(others))
     good = len(cases) - len(bad)
     if built:
         wrong = words(built)

@@ -70,7 +70,7 @@ def write_answers(all_cases, libraries, found):
     with open(PEERS / "answers.tsv", "w", encoding="utf-8") as file:
         file.write("# What libraries return for the octets of octets.tsv (run.py): the row, the case, the type, the RDATA, the library, its\n")
         file.write("# version, what it does, and the reason of a rejection or, where they differ from the RDATA, the octets that it gives\n")
-        file.write("# back. `-` stands for none. An octet that is repeated more than 40 times is left out, and `..` is there.\n")
+        file.write("# back. `-` stands for none. More than 40 octets of one kind in a row are written as the octet and `..`.\n")
         for case in all_cases:
             octets = case.rdata.hex() or "-"
             for library in libraries:
