@@ -34,7 +34,7 @@
  * Stricter and looser than other libraries:
  *
  *  - Rejected here, and accepted by other libraries: a client subnet (RFC 7871) of family 0; an ALPN id that is not UTF-8 (RFC
- *    8701 reserves some); a CAA tag of more than 15 letters and digits (RFC 6844, section 3; RFC 8659 has no limit); CSYNC flags in
+ *    8701 reserves some); a CAA tag of more than 15 letters and digits (RFC 6844, section 5.1; RFC 8659 has no limit); CSYNC flags in
  *    the bits 2 to 7, counted from the lowest (RFC 7477 defines the bits 0 and 1).
  *  - Accepted here: an SSHFP fingerprint of type SHA-256 that does not have 32 octets; SSHFP, TLSA, SMIMEA and OPENPGPKEY without
  *    data; TXT without strings; CSYNC windows in any order, repeated, or with zeros at their ends; of SVCB and HTTPS an empty ALPN
@@ -93,7 +93,7 @@ enum {
     DNS_RDATA_NO_TYPE = 19,              /* the text is of no type (dns_rdata_type_number alone) */
     DNS_RDATA_NAME = 20,                 /* a damaged domain name: RFC 1035, 3.1 and 4.1.4 */
     DNS_RDATA_BITMAP = 21,               /* a damaged bitmap of types: RFC 4034, 4.1.2 */
-    DNS_RDATA_CAA_TAG = 22,              /* a tag that is not one to 15 letters and digits: RFC 6844, section 3 */
+    DNS_RDATA_CAA_TAG = 22,              /* a tag that is not one to 15 letters and digits: RFC 6844, section 5.1 */
     DNS_RDATA_NAPTR_FLAGS = 23,          /* a flag that is no letter and no digit: RFC 3403, 4.1 */
     DNS_RDATA_CSYNC_FLAGS = 24,          /* flags that are not known: RFC 7477, 2.1.1.2 */
     DNS_RDATA_ADDRESS_FAMILY = 25,       /* a family other than those of IPv4 and IPv6: RFC 7871, 6 */

@@ -35,7 +35,7 @@ pub const NO_TYPE: u32 = 19;
 pub const NAME: u32 = 20;
 /// A damaged bitmap of types (RFC 4034, 4.1.2).
 pub const BITMAP: u32 = 21;
-/// A tag that is not 1 to 15 letters and digits (RFC 6844, section 3).
+/// A tag that is not 1 to 15 letters and digits (RFC 6844, section 5.1).
 pub const CAA_TAG: u32 = 22;
 /// A flag that is no letter and no digit (RFC 3403, 4.1).
 pub const NAPTR_FLAGS: u32 = 23;

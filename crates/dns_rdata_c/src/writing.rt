@@ -104,7 +104,7 @@ pub extern "C" fn dns_rdata_canonical(
 }
 
 /// Puts the zone file text of the RDATA into a buffer, followed by a zero octet, and sets `count` to its length without
-/// that octet: the presentation format that every name server reads (RFC 1035, section 5.1; RFC 9460, section 2.1), or
+/// that octet: the presentation format of zone files (RFC 1035, section 5.1; RFC 9460, section 2.1), or
 /// that of unknown RDATA (RFC 3597, section 5). RDATA of more than 65535 octets once names are uncompressed is rejected
 /// with `TOO_LONG`, since no reader accepts its text.
 #[unsafe(no_mangle)]

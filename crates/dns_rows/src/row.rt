@@ -20,7 +20,7 @@ pub enum Rule {
     AtLeast(u8),
     /// A character string of letters and digits (NAPTR's flags: RFC 3403, 4.1).
     Letters,
-    /// A character string of 1 to 15 letters and digits (CAA's tag: RFC 6844, 3, which names the limit; RFC 8659, 4.1).
+    /// A character string of 1 to 15 letters and digits (CAA's tag: RFC 6844, 5.1, which names the limit).
     Tag,
     /// A number of two octets that has none of the bits 2 to 7 (CSYNC's flags: RFC 7477, 2.1.1.2).
     KnownFlags,

@@ -36,7 +36,7 @@ pub enum DecodeError {
     /// A bitmap of types is damaged (RFC 4034, 4.1.2).
     #[error("invalid type bitmap")]
     BitmapInvalid,
-    /// A tag of CAA is not one to 15 ASCII letters and digits (RFC 8659, 4.1).
+    /// A tag of CAA is not one to 15 ASCII letters and digits (RFC 6844, 5.1).
     #[error("invalid CAA tag")]
     CaaTagInvalid,
     /// A flag of NAPTR is no ASCII letter and no digit (RFC 3403, 4.1).

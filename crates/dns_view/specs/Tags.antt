@@ -1,4 +1,4 @@
--- Why the tag of a CAA record is rejected (RFC 8659, 4.1).
+-- Why the tag of a CAA record is rejected (RFC 6844, 5.1).
 use Rattle.std.specs.Prelude.{◌≡◌, ℕ, ◌+◌, ◌-◌, ◌<◌, ◌≤◌, ◌⊎◌, false, List, [], ◌∷◌, ◌++◌, length, drop}
 use Rattle.std.specs.Char.{is_ascii_alphanumeric}
 use Rattle.dns_types.specs.declared.error.DecodeError.{DecodeError}

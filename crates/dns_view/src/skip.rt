@@ -78,7 +78,7 @@ fn string_end(walk: &Walk<'_>) -> Option<usize>
 }
 
 // The offset after the character string at an offset, if the message has all of it and it is letters and digits: NAPTR's
-// flags, or the 1 to 15 of a tag (RFC 8659, 4.1), which must end within the RDATA. `None` for other rules.
+// flags, or the 1 to 15 of a tag (RFC 6844, 5.1), which must end within the RDATA. `None` for other rules.
 #[inline]
 fn letters_end(message: &[u8], at: usize, rule: Rule, start: usize, len: usize) -> Option<usize>
     requires within { at ≤ length message.now }
@@ -349,7 +349,7 @@ fn count_letters(octets: &[u8]) -> usize
     count
 }
 
-// CAA's tag (RFC 8659, 4.1): its length is tested first, and then octet by octet.
+// CAA's tag (RFC 8659, 4.1; RFC 6844, 5.1, has the limit of 15): its length is tested first, and then octet by octet.
 fn skip_tag(walk: &mut Walk<'_>, start: usize, len: usize) -> Result<(), DecodeError>
     requires short { len < 65536 }
     requires before { start ≤ walk.old.index }
