@@ -52,7 +52,7 @@ pub const DNS_RDATA_NO_TYPE: dns_rdata_status = 19;
 pub const DNS_RDATA_NAME: dns_rdata_status = 20;
 /// A damaged bitmap of types (RFC 4034, section 4.1.2).
 pub const DNS_RDATA_BITMAP: dns_rdata_status = 21;
-/// A CAA tag that is not one to 15 letters and digits (RFC 6844, section 3).
+/// A CAA tag that is not one to 15 letters and digits (RFC 6844, section 5.1).
 pub const DNS_RDATA_CAA_TAG: dns_rdata_status = 22;
 /// A NAPTR flag that is neither a letter nor a digit (RFC 3403, section 4.1).
 pub const DNS_RDATA_NAPTR_FLAGS: dns_rdata_status = 23;

@@ -70,7 +70,7 @@ statuses! {
     Bitmap DNS_RDATA_BITMAP "damaged type bitmap"
         /// A damaged bitmap of types (RFC 4034, section 4.1.2).
     CaaTag DNS_RDATA_CAA_TAG "invalid CAA tag"
-        /// A CAA tag that is not one to 15 letters and digits (RFC 6844, section 3).
+        /// A CAA tag that is not one to 15 letters and digits (RFC 6844, section 5.1).
     NaptrFlags DNS_RDATA_NAPTR_FLAGS "invalid NAPTR flags"
         /// A NAPTR flag that is neither a letter nor a digit (RFC 3403, section 4.1).
     CsyncFlags DNS_RDATA_CSYNC_FLAGS "unknown CSYNC flags"
