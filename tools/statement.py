@@ -31,6 +31,9 @@ CALLS = [
     ("dns_rdata/src/order.rt", "    fn cmp(", "`RData::cmp`", ["canonical"]),
 ]
 
+# The same of octets that are looked at where they are, without an exception for memory.
+LOOKED_AT = ("dns_rdata/src/view.rt", "    pub fn read(", "`RDataRef::read`", ["found", "refused", "allocates_nothing"])
+
 # What code declares of the grammar: the crate, the module of the definitions, and the file.
 DECLARED = [("dns_fields", "declared", "lib.rt"), ("dns_rows", "declared.row", "row.rt")]
 
@@ -210,19 +213,30 @@ def part(specs, title, keys):
     return [f"{title}\n", told, *(table(specs, keys) if keys else [])]
 
 
+def clauses_of(specs, seen, call, told):
+    """The definitions that the clauses of a call name, and their part of the page: the clauses of the headline, or the others."""
+    file, start, name, names = call
+    found, imports = clauses(file, start)
+    lines = [line for clause, text in found if (clause in names) == told for line in text]
+    shown = ", ".join(f"`{clause}`" for clause, _ in found if clause and (clause in names) == told)
+    keys = specs.reached(specs.named_in(lines, imports), seen)
+    return keys, part(specs, f"### {name}: {shown}", keys)
+
+
 def page():
-    specs, seen, headline, rest = Specs(), set(), [], []
+    specs, seen, headline, looked, rest = Specs(), set(), [], [], []
     fills = specs.reached([("dns_rdata", "Data", "Fills")], seen)
     out = part(specs, "## `Fills`: which octets are the RDATA of which value", fills)
     for told in (True, False):
         out.append("## The clauses of the headline\n" if told else "## The other clauses of these calls\n")
-        for file, start, name, names in CALLS:
-            found, imports = clauses(file, start)
-            lines = [line for clause, text in found if (clause in names) == told for line in text]
-            shown = ", ".join(f"`{clause}`" for clause, _ in found if clause and (clause in names) == told)
-            keys = specs.reached(specs.named_in(lines, imports), seen)
+        for call in CALLS:
+            keys, shown = clauses_of(specs, seen, call, told)
             (headline if told else rest).extend(keys)
-            out.extend(part(specs, f"### {name}: {shown}", keys))
+            out.extend(shown)
+        if told:
+            out.append("## The same without an exception for memory\n")
+            looked, shown = clauses_of(specs, seen, LOOKED_AT, True)
+            out.extend(shown)
     head = f"""# What one must read to believe the headline
 
 Made by `tools/statement.py`; the gate compares.
@@ -232,11 +246,16 @@ reader who wants to believe the promise of README reads some clauses of four cal
 `order.rt`) and every definition that they name, directly or through other definitions. These are all of them, each in front
 of what it names. [DEFINITIONS](dev/DEFINITIONS.md) reads them aloud.
 
+The promise has one exception: a call that may allocate may return `Memory`, at any time as far as the contract goes. `RDataRef::read`
+(`view.rt`), which looks at the same octets and allocates nothing, has no exception: it returns a view exactly where they are the RDATA
+of a value (`found`, `refused`), and never `Memory` (`allocates_nothing`). Its clauses are among these, too.
+
 | | Lines |
 |---|---|
 | `Fills`, which says what octets are the RDATA of a value, and what it names | {size(specs, fills)} |
 | the clauses of the headline, `Fills` included | {size(specs, fills) + size(specs, headline)} |
-| all clauses of these four calls: which error comes when, and what state is left | {size(specs, fills) + size(specs, headline) + size(specs, rest)} |
+| the same, and the three clauses of `RDataRef::read` | {size(specs, fills) + size(specs, headline) + size(specs, looked)} |
+| all clauses of these four calls: which error comes when, and what state is left | {size(specs, fills) + size(specs, headline) + size(specs, looked) + size(specs, rest)} |
 
 Blank lines, comments and imports are not counted. The kinds of fields and the rows of the types, which code declares, are.
 Other types that code declares and the words of the kit's standard library are not.
