@@ -4,6 +4,8 @@
 #![tactic(auto)]
 
 mod notation;
+#[cfg(test)]
+mod tests;
 
 use anyhow::{Context, Result};
 pub use notation::{octets, parts};
@@ -49,13 +51,12 @@ pub fn fields_of(alloc: Global, line: &str) -> std::result::Result<Vec<String>, 
     Ok(fields)
 }
 
-/// Prints each line of the file that does not hold, with what came, and then how many do.
-pub fn replay<I: Interpreter>(
-    rt: &(impl Files + AllocGlobal + Print),
-    file: &str,
+/// Prints each line of a text that does not hold, with what came, and returns how many do.
+pub fn replay_text<I: Interpreter>(
+    rt: &(impl AllocGlobal + Print),
+    text: &str,
     interpreter: &I,
-) -> Result<()> {
-    let text = fs::read_to_string(rt, file).context("reading the lines")?;
+) -> Result<u64> {
     let mut passed = 0u64;
     for line in text.lines() {
         if line.is_empty() || line.starts_with('#') {
@@ -68,6 +69,17 @@ pub fn replay<I: Interpreter>(
             Err(error) => println!(rt; "not known: {line}\n{error}")?,
         }
     }
+    Ok(passed)
+}
+
+/// Prints each line of the file that does not hold, with what came, and then how many do.
+pub fn replay<I: Interpreter>(
+    rt: &(impl Files + AllocGlobal + Print),
+    file: &str,
+    interpreter: &I,
+) -> Result<()> {
+    let text = fs::read_to_string(rt, file).context("reading the lines")?;
+    let passed = replay_text(rt, text.as_str(), interpreter)?;
     println!(rt; "{file}: {passed} as wanted")?;
     Ok(())
 }
