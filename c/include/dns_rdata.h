@@ -269,7 +269,7 @@ DNS_RDATA_NONNULL int32_t dns_rdata_compare_canonical(const uint8_t *octets, siz
                                                       size_t other_length);
 
 /*
- * Writes the zone file text of the RDATA, followed by a zero octet, in the presentation format that every name server reads (RFC
+ * Writes the zone file text of the RDATA, followed by a zero octet, in the presentation format of zone files (RFC
  * 1035, section 5.1; RFC 9460, section 2.1): one line of printable ASCII, names fully qualified and with their case preserved,
  * strings in quotes. Types without a form of their own, OPT, NULL, ANAME, 0, and RDATA that has no such text (as TXT without strings, or a
  * service with an empty ALPN id) are written as unknown RDATA, \# and hexadecimal digits (RFC 3597, section 5). 1,048,576 octets hold any
