@@ -148,7 +148,7 @@ static void records_of_message(void) {
     struct dns_rdata_record record;
     uint8_t copy[sizeof message];
     dns_rdata_status status = dns_rdata_records_begin(message, sizeof message, &records);
-    want(status == DNS_RDATA_OK && records.next == 29 && records.passed == 0 && records.until == 2 && records.left == 65537, "a walk");
+    want(status == DNS_RDATA_OK && records.next == 29 && records.passed == 0 && records.until == 2 && records.left == 262143, "a walk");
     while ((status = dns_rdata_records_next(message, sizeof message, &records, &record)) == DNS_RDATA_OK)
         printf("record %zu of section %u: owner at %zu, type %u, class %u, TTL %u, %u octets at %zu, data %u\n", record.index,
                (unsigned)record.section, record.owner, record.type, record.rrclass, (unsigned)record.ttl, record.length, record.rdata,
@@ -172,13 +172,13 @@ static void records_of_message(void) {
     copy[40] = 200; /* RDLENGTH passes the end of the message */
     want(dns_rdata_records_begin(copy, sizeof copy, &records) == DNS_RDATA_OK, "a walk over a damaged record");
     want(dns_rdata_records_next(copy, sizeof copy, &records, &record) == DNS_RDATA_RECORD, "a damaged record");
-    want(records.next == 29 && records.passed == 0 && records.until == 0 && records.left == 65537, "where the walk has ended");
+    want(records.next == 29 && records.passed == 0 && records.until == 0 && records.left == 262143, "where the walk has ended");
     want(dns_rdata_records_next(copy, sizeof copy, &records, &record) == DNS_RDATA_ABSENT, "the walk has ended");
 
     want(dns_rdata_records_begin(message, sizeof message, &records) == DNS_RDATA_OK, "a walk with a limit");
-    records.left = 2; /* one pointer, and the first record has two */
-    want(dns_rdata_records_next(message, sizeof message, &records, &record) == DNS_RDATA_POINTERS, "too many pointers");
-    want(records.next == 29 && records.passed == 0 && records.until == 0 && records.left == 2, "where the walk has ended");
+    records.left = 3; /* two steps, and the owner of the first record has three: a pointer and two labels */
+    want(dns_rdata_records_next(message, sizeof message, &records, &record) == DNS_RDATA_LIMIT, "too many labels and pointers");
+    want(records.next == 29 && records.passed == 0 && records.until == 0 && records.left == 3, "where the walk has ended");
     want(dns_rdata_records_next(message, sizeof message, &records, &record) == DNS_RDATA_ABSENT, "the walk has ended there");
 
     /* an UPDATE that deletes all addresses of a name: class ANY, no data (RFC 2136, section 2.5.2) */

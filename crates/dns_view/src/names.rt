@@ -4,7 +4,7 @@ ghost use Rattle.std.specs.Prelude.{◌≡◌, ℕ, ◌+◌, ◌≤◌, List, le
 ghost use Rattle.dns_fields.specs.{Labels.DomainName, Labels.wire, Names.IsNameIn};
 ghost use Rattle.dns_labels.specs.Reading.{IsRun};
 ghost use Rattle.dns_view.specs.NameEnds.{NameEnds, SkipsRun};
-ghost use Rattle.dns_view.specs.Pointers.{NamePointers, Leaves, OneCount, PassesLabels, PointerExamples};
+ghost use Rattle.dns_view.specs.Steps.{NameSteps, Leaves, OneCount, PassesLabels, StepExamples};
 
 // The most octets that a name has before the 0 at its end (RFC 1035, 3.1).
 const MAX_OCTETS: usize = 254;
@@ -113,7 +113,7 @@ fn follow_name(message: &[u8], start: usize) -> Followed
     ensures some { IfSome result.end (λ end. NameEnds message.now start end) }
     ensures end { IfSome result.end (λ end. end ≤ length message.now) }
     ensures none { IfNone result.end ((name : DomainName) (end : ℕ) → IsNameIn message.now start name end → ⊥) }
-    ensures steps { NamePointers message.now start result.steps }
+    ensures steps { NameSteps message.now start result.steps }
 {
     let passed = pass_run(message, start, 0);
     let mut steps = passed.labels;
@@ -165,7 +165,7 @@ pub fn pass_name(message: &[u8], start: usize, left: &mut usize) -> Option<usize
     ensures some { IfSome result (λ end. NameEnds message.now start end) }
     ensures end { IfSome result (λ end. end ≤ length message.now) }
     ensures none { IfNone result ((name : DomainName) (end : ℕ) → IsNameIn message.now start name end → ⊥) }
-    ensures pointers { Leaves (NamePointers message.now start) left.old left.new }
+    ensures steps { Leaves (NameSteps message.now start) left.old left.new }
 {
     let followed = follow_name(message, start);
     *left = left.saturating_sub(followed.steps);
@@ -178,7 +178,7 @@ pub fn pass_name(message: &[u8], start: usize, left: &mut usize) -> Option<usize
 pub(crate) fn near_name(message: &[u8], start: usize, left: &mut usize) -> Option<usize>
     requires { start ≤ length message.now }
     ensures some { IfSome result (λ end. NameEnds message.now start end) }
-    ensures pointers { IfSome result (λ end. Leaves (NamePointers message.now start) left.old left.new) }
+    ensures steps { IfSome result (λ end. Leaves (NameSteps message.now start) left.old left.new) }
     ensures none { IfNone result (left.new ≡ left.old) }
 {
     let followed = follow_name(message, start);
@@ -188,7 +188,7 @@ pub(crate) fn near_name(message: &[u8], start: usize, left: &mut usize) -> Optio
 }
 
 /// The steps of a name are one number; and examples: no compression pointer, one and two, one to damage, and one to itself.
-pub fn pointers_hold()
+pub fn name_steps_hold()
     ensures one { OneCount }
-    ensures examples { PointerExamples }
+    ensures examples { StepExamples }
 {}

@@ -3,7 +3,7 @@ use Rattle.std.proofs.Common.{◌≡◌, ℕ, ◌+◌, ◌<◌, ◌≤◌, Bool,
 use Rattle.std.proofs.Common.{append_assoc, ◌⊎◌, inl, inr, Option, Some, None, Result, Ok, Err}
 use Rattle.std.specs.Prelude.{IfOk, IfErr, OnOk}
 use Rattle.std.proofs.{lemmas.Bool.Decides.nat_tests, lemmas.List.length-append}
-use Rattle.dns_fields.specs.Labels.{DomainName, AreLabels, IsName, lowname, wire}
+use Rattle.dns_fields.specs.Labels.{DomainName, AreLabels, FitsName, IsName, lowname, wire}
 use Rattle.dns_fields.proofs.{NameLaws.lowname_length, Runs.wire-append, Runs.AreLabels-append}
 use Rattle.dns_types.specs.declared.error.ParseError.{ParseError}
 use Rattle.dns_types.specs.declared.error.ParseError.TheVariants as parse
@@ -121,6 +121,7 @@ pub record IsCompleted (origin : Option DomainName) (own : DomainName) (token : 
   pub named : named origin token.octets ≡ Some (joined_name (labelled token.octets) own)
   pub all : completed (labelled token.octets) origin ≡ joined_name (labelled token.octets) own
   pub labels : AreLabels (labelled token.octets).labels
+  pub fits : FitsName (labelled token.octets).labels
   pub wired : octets ≡ wire (labelled token.octets).labels
 
 pub is_completed : (origin : Option DomainName) (own : DomainName) (token : Token) (octets : List ℕ) (mark : Bool)
@@ -136,6 +137,7 @@ is_completed origin own token octets mark same relative bare h k read =
       named = labels_named origin token.octets h k ∙ ap (λ (y : DomainName). Some y) all;
       all = all;
       labels = labels_read read;
+      fits = omega (arith, read.fits, ap length read.same, ap length (octets_same token.octets mark octets read));
       wired = octets_same token.octets mark octets read;
     }
 
@@ -174,10 +176,17 @@ pub completed_why : {T : Type 0} (origin : Option DomainName) (own : DomainName)
     → IfErr r (λ e. (e ≡ parse.Memory) ⊎ NameFault field origin token e)
 completed_why origin own token field (Ok t) octets has why = tt
 completed_why origin own token field (Err e) octets has (inl memory) = inl memory
-completed_why origin own token field (Err e) octets has (inr past) = inr (inr (inr (inr (
-  past.0,
-  subst (λ (y : DomainName). 255 < length (wire y.labels) + 1) (sym has.all) (omega (arith, joined_room (labelled token.octets) own octets has.wired, past.1)),
-))))
+completed_why origin own token field (Err e) octets has (inr past) = inr (inr (
+  has.bare,
+  inr (inr (
+    past.0,
+    record {
+      escapes = has.escapes;
+      own = record { labels = has.labels; fits = has.fits };
+      long = subst (λ (y : DomainName). 255 < length (wire y.labels) + 1) (sym has.all) (omega (arith, joined_room (labelled token.octets) own octets has.wired, past.1));
+    },
+  )),
+))
 
 -- ---- a name that is put after other octets
 

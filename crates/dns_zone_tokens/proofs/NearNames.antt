@@ -11,7 +11,7 @@ use Rattle.dns_types.specs.declared.error.ParseError.TheVariants as parse
 use Rattle.dns_zone_tokens.specs.{Letters.escapes_stand, NameSteps.ReadSoFar, NameSteps.LabelsPut, Tokens.Token, ZoneReads.PutAs}
 use Rattle.dns_zone_tokens.specs.NameTokens.{labelled, is_alone, name, named, name_octets}
 use Rattle.dns_zone_tokens.proofs.NamePuts.{alone_is, dot_ended, whole_put, is_completed, completed_put, completed_full, completed_none, full_by}
-use Rattle.dns_zone_tokens.proofs.NameLabels.{PlainTo, front_read, at_end, end_dot, end_label, label_read}
+use Rattle.dns_zone_tokens.proofs.NameLabels.{PlainTo, none_read, front_read, at_end, end_dot, end_label, label_read}
 
 -- The text was appended to octets and one more. Its labels up to the rest of it have their lengths before them, and before the
 -- rest there is one octet.
@@ -27,7 +27,7 @@ pub set_first : (text before octets : List ℕ) (start : ℕ) → start ≡ leng
     → SetSoFar text text before octets start
 set_first text before octets start at put = record {
   wired = [];
-  so = record { labels = []; are = tt; fits = omega arith; same = refl; escapes = refl; parts = refl };
+  so = none_read text;
   gap = 0;
   same = put ∙ ap (λ (s : List ℕ). s ++ 0 ∷ text) (sym (append-nil before));
   at = at ∙ ap length (sym (append-nil before));

@@ -7,7 +7,7 @@ use Rattle.dns_types.specs.declared.error.ParseError.TheVariants as parse
 use Rattle.dns_tokens.specs.{Reads.UnlessParseMemory, declared.field.Field.Field}
 use Rattle.dns_zone_tokens.specs.{FieldTexts.field_texts, FieldTexts.number_called, Forms.number, ZoneReads.FirstHas, ZoneReads.NoFirst, ZoneReads.WhyNoField}
 use Rattle.dns_zone_tokens.specs.{Errors.Says, Errors.undivided_text, Remaining.UnknownFault, declared.tokens_error.TokensError.TokensError}
-use Rattle.dns_zone_tokens.specs.Remaining.{AllBare, AmongFault, joined, AreJoined, AreUnknown, NoneOfAll, with_tokens}
+use Rattle.dns_zone_tokens.specs.Remaining.{AllBare, AmongFault, NoneHas, QuotesFault, joined, AreJoined, AreUnknown, NoneOfAll, with_tokens}
 use Rattle.dns_zone_tokens.specs.Tokens.{Token, Cursor, tokens_at, with_token}
 use Rattle.dns_tokens.proofs.Steps.{unless_map}
 
@@ -93,12 +93,13 @@ module _ {is : List Token → Type 0} {old now : Cursor} (so : TakenSoFar is old
   }
 
   pub fault_among : {fault : Token → ParseError → Type 0} (token : Token) (new : Cursor) {e : ParseError} → tokens_at now ≡ with_token token (tokens_at new)
-      → fault token e → AmongFault fault old e
-  fault_among token new first has = inr (record {
+      → ((tokens : List Token) → is tokens → NoneHas fault tokens) → fault token e → AmongFault fault old e
+  fault_among token new first before has = inr (record {
     front = so.tokens;
     token = token;
     behind = tokens_at new;
     divided = so.behind ∙ ap (with_tokens so.tokens) first;
+    before = before so.tokens so.are;
     has = has;
   })
 
@@ -117,6 +118,14 @@ one_joined token bare e tokens h = record {
   bare = bare_more tokens token h.bare bare;
   same = e ∙ ap (λ (x : List ℕ). x ++ token.octets) h.same ∙ sym (joined_more tokens token);
 }
+
+-- so none has the fault of quotes
+pub none_quoted : (wrong : ParseError) (tokens : List Token) → AllBare tokens → NoneHas (QuotesFault wrong) tokens
+none_quoted wrong [] bare = tt
+none_quoted wrong (token ∷ tokens) bare = (
+  λ e quotes. let both : true ≡ false = sym quotes.1 ∙ bare.0 in absurd (cc),
+  none_quoted wrong tokens bare.1,
+)
 
 -- a token in quotes is not among them
 pub not_joined : (token : Token) → token.quoted ≡ true → (front rest : List Token) (v : List ℕ) → AreJoined v (front ++ token ∷ rest) → ⊥

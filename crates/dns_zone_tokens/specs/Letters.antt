@@ -1,5 +1,5 @@
 -- The letters of a text of a zone file (RFC 1035, 5.1).
-use Rattle.std.specs.Prelude.{ℕ, ◌+◌, ◌-◌, ◌*◌, ◌==◌, ◌&&◌, nat_le, Bool, true, false, if◌then◌else◌, List, [], ◌∷◌}
+use Rattle.std.specs.Prelude.{◌≡◌, ℕ, ◌+◌, ◌-◌, ◌*◌, ◌<◌, ◌==◌, ◌&&◌, nat_le, Bool, true, false, if◌then◌else◌, List, [], ◌∷◌, take}
 
 -- An octet of a text without an escape, which may have a meaning of its own; or one from `\X` or `\DDD`, which has no
 -- meaning of its own.
@@ -52,3 +52,7 @@ escapes_from (two_digits n) (c ∷ text) =
 
 abbrev pub escapes_stand : List ℕ → Bool
 escapes_stand text = escapes_from between text
+
+-- The text begins with a `\` without a meaning: no octets at its front are whole letters.
+pub record BeginsWithNone (text : List ℕ) : Type 0 where
+  pub none : (n : ℕ) → 0 < n → escapes_stand (take n text) ≡ false

@@ -11,6 +11,10 @@ pub record ReadSoFar (text rest octets front : List ℕ) : Type 0 where
   pub are : AreLabels labels
   pub fits : length (wire labels) ≤ 254
   pub same : octets ≡ wire labels
+  pub seen : List ℕ
+  pub split : text ≡ seen ++ rest
+  pub whole : escapes_stand seen ≡ true
+  pub divided : parts_from [] (letters seen) ≡ labels ++ front ∷ []
   pub escapes : escapes_stand text ≡ escapes_stand rest
   pub parts : parts_from [] (letters text) ≡ labels ++ parts_from front (letters rest)
 
@@ -32,7 +36,7 @@ abbrev pub NotClosed : NameField → List ℕ → List ℕ → ParseError → Ty
 NotClosed field octets label e =
     ((e ≡ parse.Message field.empty_label) × (length label ≡ 0))
     ⊎ ((e ≡ parse.Message field.long_label) × (63 < length label))
-    ⊎ ((e ≡ parse.Message field.long_name) × (1 ≤ length label) × (253 < length octets + length label))
+    ⊎ ((e ≡ parse.Message field.long_name) × (1 ≤ length label) × (length label ≤ 63) × (253 < length octets + length label))
 
 -- labels were appended, and a 0 if a dot ends them
 pub record LabelsPut (text : List ℕ) (mark : Bool) (before after : List ℕ) : Type 0 where

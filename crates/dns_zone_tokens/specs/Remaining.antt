@@ -83,15 +83,21 @@ abbrev pub PutsAll : {T : Type 0} → (List ℕ → List Token → Type 0) → R
 PutsAll gives (Ok x) before after cursor = PutAll gives before after cursor
 PutsAll gives (Err e) before after cursor = UnlessParseMemory e (NoneOfAll gives cursor)
 
--- one of the tokens has a fault, and the error says which
+-- none of the tokens has a fault
+abbrev pub NoneHas : (Token → ParseError → Type 0) → List Token → Type 0
+NoneHas fault [] = Unit {0}
+NoneHas fault (token ∷ tokens) = ((e : ParseError) → fault token e → ⊥) × NoneHas fault tokens
+
+-- one of the tokens is the first that has a fault, and the error says which fault
 pub record OneFault (fault : Token → ParseError → Type 0) (cursor : Cursor) (e : ParseError) : Type 0 where
   pub front : List Token
   pub token : Token
   pub behind : Result (List Token) TokensError
   pub divided : tokens_at cursor ≡ with_tokens front (with_token token behind)
+  pub before : NoneHas fault front
   pub has : fault token e
 
--- the text cannot be divided into tokens, or one of them has a fault
+-- the text cannot be divided into tokens, or the first of them with a fault has this one
 abbrev pub AmongFault : (Token → ParseError → Type 0) → Cursor → ParseError → Type 0
 AmongFault fault cursor e = IsUndividedError cursor e ⊎ OneFault fault cursor e
 

@@ -1,7 +1,7 @@
 //! Letters: the octets of a text with their escapes resolved (RFC 1035, section 5.1).
 
 ghost use Rattle.std.specs.Prelude.{◌≡◌, ◌<◌, ◌≤◌, false, [], length, drop, IfSome, IfNone, IfOk, IfErr, OnErr};
-ghost use Rattle.dns_zone_tokens.specs.{Letters.escapes_stand, Letters.octet_of, Letters.stands_for, Views.letter_value, Views.BeginsWith};
+ghost use Rattle.dns_zone_tokens.specs.{Letters.escapes_stand, Letters.octet_of, Letters.stands_for, Letters.BeginsWithNone, Views.letter_value, Views.BeginsWith};
 
 use dns_types::ParseError;
 use std::marker::Model;
@@ -75,6 +75,7 @@ impl<'a> Letters<'a> {
         ensures stays { IfOk result (λ o. IfNone o (self.new ≡ self.old)) }
         ensures refused { IfErr result (λ _. escapes_stand self.old ≡ false) }
         ensures why { IfErr result (λ e. e ≡ ParseError.Message wrong.entry) }
+        ensures nothing { OnErr result (BeginsWithNone self.old) }
         ensures unchanged { OnErr result (self.new ≡ self.old) }
     {
         if self.rest.len() == 0 {
@@ -96,6 +97,7 @@ pub(crate) fn first_letter(text: &[u8]) -> Option<(Letter, usize)>
     ensures some { IfSome result (λ r. BeginsWith (letter_value r.0) text.now (drop r.1 text.now)) }
     ensures taken { IfSome result (λ r. (1 ≤ r.1) × (r.1 ≤ length text.now)) }
     ensures none { IfNone result (escapes_stand text.now ≡ false) }
+    ensures nothing { IfNone result (BeginsWithNone text.now) }
 {
     let first = text[0];
     if first != b'\\' {

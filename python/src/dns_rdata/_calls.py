@@ -67,7 +67,7 @@ class TextFault(ctypes.Structure):
 
 class Records(ctypes.Structure):
     """Where a walk over the records of a message is: the offset of the next record, how many precede it, how many there are, and one
-    more than the compression pointers that may still be followed."""
+    more than the labels and compression pointers that may still be gone over."""
 
     _fields_ = [("next", ctypes.c_size_t), ("passed", ctypes.c_size_t), ("until", ctypes.c_size_t), ("left", ctypes.c_size_t)]
 
@@ -312,8 +312,8 @@ def name_from_text(text: Union[str, Octets], origin: Octets = b"") -> bytes:
 
 
 def records_begin(message: bytes, limit: int) -> Records:
-    """A cursor before the first record of a message, after its questions, from which the walk may follow `limit` compression pointers.
-    Raises MessageError if the message has no header, or a damaged question."""
+    """A cursor before the first record of a message, after its questions, from which the walk may go over `limit` labels
+    and compression pointers. Raises MessageError if the message has no header, or a damaged question."""
     most = _size(limit, "a limit")
     cursor = Records()
     _want_ok(_library.dns_rdata_records_begin(message, len(message), _byref(cursor)))
@@ -323,7 +323,7 @@ def records_begin(message: bytes, limit: int) -> Records:
 
 def records_next(message: bytes, cursor: Records) -> Optional[Tuple[Status, Record]]:
     """The record at the cursor, which is moved, with OK or the status with which its RDATA is rejected. None if no record is left.
-    Raises MessageError if the record is damaged or has too many compression pointers: the walk has ended."""
+    Raises MessageError if the record is damaged or has too many labels and compression pointers: the walk has ended."""
     found, offset = Record(), cursor.next
     status = Status(_library.dns_rdata_records_next(message, len(message), _byref(cursor), _byref(found)))
     if status == Status.ABSENT:

@@ -1,6 +1,6 @@
 use Rattle.std.proofs.Common.{arith}
 use Rattle.dns_view.proofs.NameSteps.{no_first, no_next, ends, going_first, going_next}
-use Rattle.dns_view.proofs.PointerSteps.{chased_first, chased_next, chased_forward, chased_lost, chased_end}
+use Rattle.dns_view.proofs.StepCounts.{chased_first, chased_next, chased_forward, chased_lost, chased_end}
 use Rattle.dns_view.proofs.names.follow_name.Goals as goal
 
 pub returns-in-None-clause-none : goal.returns-in-None-clause-none

@@ -1,5 +1,5 @@
 use Rattle.std.proofs.Common.{length, ◌≤◌}
-use Rattle.dns_view.proofs.{NameSteps.Going, PointerSteps.Chased}
+use Rattle.dns_view.proofs.{NameSteps.Going, StepCounts.Chased}
 use Rattle.dns_view.proofs.names.follow_name.Given as goal
 
 abbrev pub invariant-runs : goal.invariant-runs

@@ -1,5 +1,5 @@
 use Rattle.std.proofs.Common.{◌≡◌, ◌<◌, ◌+◌, ◌-◌, length, get_or}
-use Rattle.dns_view.proofs.{NameSteps.Skipped, PointerSteps.Counted}
+use Rattle.dns_view.proofs.{NameSteps.Skipped, StepCounts.Counted}
 use Rattle.dns_view.proofs.names.pass_run.Given as goal
 
 abbrev pub invariant-labels : goal.invariant-labels

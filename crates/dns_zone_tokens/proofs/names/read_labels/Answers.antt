@@ -1,6 +1,6 @@
 use Rattle.dns_zone_tokens.specs.NameTokens.{LabelsFault}
 use Rattle.dns_zone_tokens.proofs.{FirstSteps.exit_fault, NamePuts.if_ok, NamePuts.if_err}
-use Rattle.dns_zone_tokens.proofs.NameLabels.{front_read, stops_at, at_end, label_read, no_label}
+use Rattle.dns_zone_tokens.proofs.NameLabels.{none_read, front_read, stops_at, at_end, label_read, no_label}
 use Rattle.dns_zone_tokens.proofs.names.read_labels.Goals as goal
 
 pub returns-then-behind-eq0-clause-ok : goal.returns-then-behind-eq0-clause-ok
@@ -24,6 +24,9 @@ returns-in_err-close_label-clause-refused c = exit_fault (LabelsFault c.args.fie
     c.if-behind-eq0.false
     (stops_at c.labels.rest.now c.plain_len-len.result c.plain_len-len.ensures.within c.plain_len-len.ensures.stops c.if-behind-eq0.false c.if-behind-eq92.false)
     c.in_err-close_label.ensures.refused)
+
+pub labels-init : goal.labels-init
+labels-init c = rw c.requires (none_read c.args.text.now)
 
 pub labels-preserved : goal.labels-preserved
 labels-preserved c = label_read c.args.text.now _ c.labels.wire.items _ c.close_label.new.wire.items

@@ -2,7 +2,7 @@ use Rattle.std.proofs.Common.{inr, refl}
 use Rattle.dns_zone_tokens.specs.{Errors.Says, Errors.undivided_text, Remaining.AreJoined, Remaining.ReadsAll, Views.token_value}
 use Rattle.dns_tokens.proofs.Steps.{unless_all}
 use Rattle.dns_zone_tokens.proofs.FirstSteps.{exit_as, exit_why}
-use Rattle.dns_zone_tokens.proofs.RemainingSteps.{none_taken, one_taken, all_taken, undivided_none, undivided_why, none_among, one_joined, not_joined}
+use Rattle.dns_zone_tokens.proofs.RemainingSteps.{none_taken, one_taken, all_taken, undivided_none, undivided_why, none_among, fault_among, one_joined, none_quoted, not_joined}
 use Rattle.dns_zone_tokens.proofs.remaining.all_joined.Goals as goal
 
 pub tokens-init : goal.tokens-init
@@ -16,6 +16,10 @@ returns-in_err-token-clause-reads c =
 pub returns-then-token-clause-reads : goal.returns-then-token-clause-reads
 returns-then-token-clause-reads c = none_among c.tokens.invariant (token_value c.in-Some.token) c.next_token.new.self
     (rw c.in-Some.is at c.in_ok-token.ensures.token) (not_joined (token_value c.in-Some.token) c.if-token.true)
+
+pub returns-then-token-clause-why : goal.returns-then-token-clause-why
+returns-then-token-clause-why c = inr (fault_among c.tokens.invariant (token_value c.in-Some.token) c.next_token.new.self
+    (rw c.in-Some.is at c.in_ok-token.ensures.token) (λ tokens are. none_quoted _ tokens are.bare) (refl, c.if-token.true))
 
 pub tokens-preserved : goal.tokens-preserved
 tokens-preserved c = one_taken c.tokens.invariant (token_value c.in-Some.token) c.next_token.new.self (rw c.in-Some.is at c.in_ok-token.ensures.token)

@@ -40,7 +40,7 @@ Follows (suc pointers) steps region offset before = (j : Jump region offset befo
 
 -- Going over the name at the offset takes so many steps: a step for each label and for each compression pointer, all of
 -- them or those up to the damage if no name is encoded there.
-pub record NamePointers (message : List ℕ) (offset count : ℕ) : Type 0 where
+pub record NameSteps (message : List ℕ) (offset count : ℕ) : Type 0 where
   pub pointers : ℕ
   pub is : Follows pointers count message offset 0
 
@@ -50,7 +50,7 @@ Leaves Claim before after = (count : ℕ) × Claim count × (after ≡ before - 
 
 -- a name has one number of steps
 abbrev pub OneCount : Type 0
-OneCount = (m : List ℕ) (p k l : ℕ) → NamePointers m p k → NamePointers m p l → k ≡ l
+OneCount = (m : List ℕ) (p k l : ℕ) → NameSteps m p k → NameSteps m p l → k ≡ l
 
 -- `a.` at 0; a pointer to it at 3; `b` and a pointer to that pointer at 5; an octet that begins no label at 9; a pointer
 -- to it at 10; and a pointer to itself at 12
@@ -58,11 +58,11 @@ abbrev pub pointed_names : List ℕ
 pointed_names =
     0x01 ∷ 0x61 ∷ 0x00 ∷ 0xc0 ∷ 0x00 ∷ 0x01 ∷ 0x62 ∷ 0xc0 ∷ 0x03 ∷ 0x40 ∷ 0xc0 ∷ 0x09 ∷ 0xc0 ∷ 0x0c ∷ []
 
-pub record PointerExamples : Type 0 where
+pub record StepExamples : Type 0 where
   -- a label; a pointer and a label; two pointers and two labels
-  pub none : NamePointers pointed_names 0 1
-  pub one : NamePointers pointed_names 3 2
-  pub two : NamePointers pointed_names 5 4
+  pub none : NameSteps pointed_names 0 1
+  pub one : NameSteps pointed_names 3 2
+  pub two : NameSteps pointed_names 5 4
   -- damaged names
-  pub to_damage : NamePointers pointed_names 10 1
-  pub to_itself : NamePointers pointed_names 12 0
+  pub to_damage : NameSteps pointed_names 10 1
+  pub to_itself : NameSteps pointed_names 12 0

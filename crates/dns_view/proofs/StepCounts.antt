@@ -6,7 +6,7 @@ use Rattle.dns_fields.proofs.{Unique.zero_stop, Unique.pointer_stop, Unique.apar
 use Rattle.dns_labels.specs.Reading.{IsRun}
 use Rattle.dns_labels.proofs.ReadingSteps.{SoFar, so_far_none, onward}
 use Rattle.dns_view.specs.NameEnds.{SkipsRun}
-use Rattle.dns_view.specs.Pointers.{Jump, PassesLabel, PassesLabels, Follows, NamePointers, OneCount, PointerExamples, pointed_names}
+use Rattle.dns_view.specs.Steps.{Jump, PassesLabel, PassesLabels, Follows, NameSteps, OneCount, StepExamples, pointed_names}
 
 -- ---- one run is encoded at an offset
 
@@ -132,7 +132,7 @@ pub record Chased (message : List ℕ) (start : ℕ) (region : List ℕ) (offset
 as_many : (m : List ℕ) (p k a b : ℕ) → a ≡ b → Follows k a m p 0 → Follows k b m p 0
 as_many m p k a b e f = subst (λ (n : ℕ). Follows k n m p 0) e f
 
-taken : (m : List ℕ) (p k a b : ℕ) → a ≡ b → Follows k a m p 0 → NamePointers m p b
+taken : (m : List ℕ) (p k a b : ℕ) → a ≡ b → Follows k a m p 0 → NameSteps m p b
 taken m p k a b e f = record { pointers = k; is = as_many m p k a b e f }
 
 pub chased_first : {message : List ℕ} {start end labels : ℕ} {stop : Option ℕ} {len : ℕ} → SkipsRun message start stop end 0 len
@@ -181,7 +181,7 @@ module _ {message : List ℕ} {start : ℕ} {region : List ℕ} {offset target l
   }
 
   -- it is not followed
-  pub chased_forward : offset ≤ target → NamePointers message start count
+  pub chased_forward : offset ≤ target → NameSteps message start count
   chased_forward h =
       let t = c.so zero c.labels ((λ j. no_jump_on c.run h j), c.passes) in
       taken message start t.0 (c.earlier + c.labels) count (omega (arith, c.sum)) t.1
@@ -189,19 +189,19 @@ module _ {message : List ℕ} {start : ℕ} {region : List ℕ} {offset target l
   -- it is the last one
   pub chased_lost : (labels : ℕ) → target < offset → ((front : List (List ℕ)) (stop : Option ℕ) (e : ℕ) → IsRun (take offset region) target front stop e
       → len + length (wire front) ≤ 254 → ⊥) → PassesLabels labels (take offset region) target len
-      → NamePointers message start (count + (1 + labels))
+      → NameSteps message start (count + (1 + labels))
   chased_lost labels back none passes =
       let t = on back zero labels ((λ j. none j.front (Some j.target) j.end j.run j.room), passes) in
       taken message start t.0 (count + suc labels) (count + (1 + labels)) (omega arith) t.1
 
 pub chased_end : {message : List ℕ} {start : ℕ} {region : List ℕ} {offset len count : ℕ} → Chased message start region offset None len count
-    → NamePointers message start count
+    → NameSteps message start count
 chased_end {message = message} {start = start} {count = count} c =
     let t = c.so zero c.labels ((λ j. no_jump c.run j), c.passes) in
     taken message start t.0 (c.earlier + c.labels) count (omega (arith, c.sum)) t.1
 
 pub chased_none : {message : List ℕ} {start labels : ℕ} → ((front : List (List ℕ)) (stop : Option ℕ) (end : ℕ) → IsRun message start front stop end
-    → 0 + length (wire front) ≤ 254 → ⊥) → PassesLabels labels message start 0 → NamePointers message start labels
+    → 0 + length (wire front) ≤ 254 → ⊥) → PassesLabels labels message start 0 → NameSteps message start labels
 chased_none none passes = record { pointers = 0; is = ((λ j. none j.front (Some j.target) j.end j.run j.room), passes) }
 
 -- ---- the examples
@@ -248,8 +248,8 @@ last_label : (behind : List ℕ) (before : ℕ) → before + 2 ≤ 254 → Follo
 last_label behind before room =
     (no_pointer behind before, one_label (0x01 ∷ 0x61 ∷ 0x00 ∷ behind) 0 before refl (omega arith) room (λ some most. omega (arith, some)))
 
-pub pointer_examples : PointerExamples
-pointer_examples = record {
+pub step_examples : StepExamples
+step_examples = record {
   none = record { pointers = 0; is = last_label (drop 3 pointed_names) 0 (omega arith) };
   one = record {
     pointers = 1;
