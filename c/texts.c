@@ -27,7 +27,7 @@ const char *dns_rdata_strerror(dns_rdata_status status) {
     case DNS_RDATA_HEADER: return "the message is shorter than a header";
     case DNS_RDATA_QUESTION: return "a damaged question";
     case DNS_RDATA_RECORD: return "a damaged record";
-    case DNS_RDATA_POINTERS: return "too many compression pointers";
+    case DNS_RDATA_LIMIT: return "too many labels and compression pointers";
     case DNS_RDATA_MISSING_WORD: return "a token is missing";
     case DNS_RDATA_WRONG_WORD: return "a wrong token";
     case DNS_RDATA_UNSUPPORTED_TYPE: return "no text of this type is read";

@@ -81,7 +81,7 @@ quick_answer() { # CRATE WORD ..
   local crate=$1 log status ended
   shift
   log=$(mktemp)
-  (cd "$top/crates/$crate" && rt try -- "$@") 2>"$log"
+  (cd "$top/crates/$crate" && rt try --seconds 1200 -- "$@") 2>"$log"
   status=$?
   # The last line tells how the program ended, and what comes before the checker's lines is the program's standard error.
   ended=$(sed -nE 's/^run=ended status=([0-9]+) .*/\1/p' "$log" | tail -n 1)

@@ -36,6 +36,13 @@ ORDERED = [
     *("soa:www.example.com xxx.example.com", 'parse:TXT:abcdef ghi "" j'),
 ]
 
+# The calls that change a record, which stands as it was if they fail, and the record's type. The first word is its octets.
+CHANGED = {
+    **dict.fromkeys(("set_issuer_value", "set_iodef_value"), "CAA"),
+    **dict.fromkeys(("insert", "get_all", "OPT::replace"), "OPT"),
+    **dict.fromkeys(("SVCB::insert", "SVCB::insert_as"), "SVCB"),
+}
+
 # A call: what memory it takes, its words, and the answer that is wanted with ample memory, where one is known.
 Call = collections.namedtuple("Call", "memory name words wanted")
 
@@ -100,6 +107,8 @@ def wanted_of(call, value):
     return {
         "canonical_octets": f"Ok(()) {canonical}",
         "octet_at": f"Ok(()) {canonical[:600]}",
+        "copy_to": f"Ok(()) {canonical}",
+        "is_emittable": "true",
         "print": 'false ""' if kind == "41" else f"true {debug_text(text)}" if is_known else None,
         "to_string": "Err(Memory) of" if kind == "41" else f"Ok({debug_text(text)}) of" if is_known else None,
     }.get(call)
@@ -170,7 +179,7 @@ def calls_on(memory, name, where, types, samples):
             output = samples.values[value][1]
             for mode, start in itertools.product(MODES[1:2] if memory == "none" else MODES, starts_of(output)):
                 yield emit_call(memory, mode, start, value, output)
-        elif name in ("record_type", "ip_addr", "iter", "get", "getters", "try_borrow"):
+        elif name in ("record_type", "ip_addr", "iter", "get", "getters", "try_borrow", "target", "is_emittable"):
             yield Call(memory, name, (value, value), wanted)
         else:
             yield Call(memory, name, (value,), wanted)
@@ -268,7 +277,7 @@ def is_want_of_memory(call, text, full, debug):
         _, place, _, message = call.words[0].split(" ")
         index, rest, why = text.split(" ", 2)
         return why == "Memory" and int(place) <= int(index) and 2 * int(index) <= len(message) and rest == message[2 * int(index) :]
-    if call.name == "clone":
+    if call.name in ("clone", "to_rdata"):
         return text == "AllocError of" + full.split(" of", 1)[1]
     if call.name in ("to_string", "cert_base64"):
         return text == "Err(Memory) of" + full.split(" of", 1)[1]
@@ -276,10 +285,10 @@ def is_want_of_memory(call, text, full, debug):
         return text.startswith('false "') and full[len('true "') :].startswith(text[len('false "') : -1])
     if call.name == "emit":
         return is_stopped(text, full, "Memory")
-    if call.name in ("from_tokens", "try_from_str"):
+    if call.name in ("from_tokens", "try_from_str", "try_from_str_with_origin"):
         return text == "Memory"
-    if call.name in ("set_issuer_value", "set_iodef_value", "insert", "get_all"):
-        before = debug["CAA" if call.name.startswith("set") else "OPT", call.words[0]]
+    if call.name in CHANGED:
+        before = debug[CHANGED[call.name], call.words[0]]
         return text in (f"Err(Memory) {before}", f"Err(AllocError) {before}")
     return text in ("Err(Memory)", "Err(AllocError)")
 
@@ -288,8 +297,9 @@ def debug_texts(machine):
     """What `Debug` prints of the values of all octets that the table names."""
     text = (TOP / "tests/calls.txt").read_text()
     asked = {tuple(found) for found in re.findall(r"\{([A-Z]+) ([0-9a-f]+)\}", text)}
-    for name, digits in re.findall(r"^\w+\t(set_\w+|insert|get_all)\t[^\t]*\t([0-9a-f]+)", text, re.MULTILINE):
-        asked.add(("CAA" if name.startswith("set") else "OPT", digits))
+    for name, digits in re.findall(r"^\w+\t([\w:]+)\t[^\t]*\t([0-9a-f]+)", text, re.MULTILINE):
+        if name in CHANGED:
+            asked.add((CHANGED[name], digits))
     asked = sorted(asked)
     calls = [Call("perhaps", "read", (f"{kind} 0 {len(digits) // 2} {digits}",), None) for kind, digits in asked]
     answers = machine.answers([("from 0", call) for call in calls])
@@ -311,7 +321,7 @@ def is_wanted(call, text, samples, debug):
         return is_behind and bool(re.match(r"[A-Z0-9]+\(|Unknown \{|ZERO$", value))
     if call.name in ("from_tokens", "try_from_str"):
         return text != "Memory"
-    if call.name == "clone":
+    if call.name in ("clone", "to_rdata"):
         made, of = text.split(" of ", 1)
         return made == of
     if call.name == "emit":

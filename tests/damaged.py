@@ -261,7 +261,7 @@ def line_of(run):
 def by_program(program, runs):
     """The answers of a built program."""
     given = "".join(map(line_of, runs)).encode()
-    done = subprocess.run([program, "answers"], input=given, stdout=subprocess.PIPE, timeout=300)
+    done = subprocess.run([program, "answers"], input=given, stdout=subprocess.PIPE, timeout=3600)
     return done.stdout.decode().split("\n")[:-1]
 
 
@@ -288,7 +288,7 @@ def by_quick_build(runs):
     with tempfile.TemporaryDirectory() as folder:
         for number, part in enumerate(parts(runs)):
             pathlib.Path(folder, f"{number:04}").write_text("".join(map(line_of, part)))
-        done = subprocess.run(["rt", "try", "--cases", folder, "--", "answers"], cwd=ROWS, stdout=subprocess.PIPE)
+        done = subprocess.run(["rt", "try", "--seconds", "1200", "--cases", folder, "--", "answers"], cwd=ROWS, stdout=subprocess.PIPE)
     printed = dict(re.findall(r"^== (\d+)\n((?:\d\t.*\n)*)", done.stdout.decode(), re.MULTILINE))
     answers = []
     for number, part in enumerate(parts(runs)):

@@ -4,7 +4,7 @@
 - Every link leads to a file that is there, and to a heading that it has.
 - Every code span that looks like a name of the repository (a path, or an identifier with `::`, `_` or a capital inside) is
   found in its sources.
-- No page uses a word that docs/GLOSSARY.md has a better one for. Code, quotes, quoted output and docs/API.md, which is made of
+- No page uses a word that docs/GLOSSARY.md has a better one for. Code, quotes, quoted output, docs/API.md and docs/api, which are made of
   the sources' comments, are left out.
 - Every block of `console` shows what its command prints (after `$ `), if the programs are built or ready-made.
 
@@ -109,7 +109,7 @@ def bad_names(text, words, paths, known):
 
 def bad_words(page, text, allowed):
     name = str(page.relative_to(TOP))
-    if name == "docs/API.md":
+    if name == "docs/API.md" or name.startswith("docs/api/"):
         return
     for line in prose(text).splitlines():
         for pattern, better in WORDS:

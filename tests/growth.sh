@@ -5,9 +5,13 @@
 # of them, and all of them copied. A line with more than 10 ms says so. Then large RDATA that is looked at in the message: nanoseconds
 # an octet of reading a view, its canonical octets, and the order of it and a next one. At last texts of 4,000 to 65,000 octets: the nanoseconds
 # an octet of the text of reading them by `try_from_str` (where the type is read so) and by `from_zone_text`. It runs the built
-# benchmark (crates/rdata_bench, after `rt run` there).
+# benchmark (crates/rdata_bench, after `rt run` there). At the end: the microseconds of a walk in C over the worst messages that are
+# known (c/bench/worst.c), over the archive that `make -C c` has left, or another one.
+#   tests/growth.sh [BENCHMARK [ARCHIVE]]
 set -u
-bench="${1:-$(cd "$(dirname "$0")/.." && pwd)/crates/rdata_bench/out/rdata_bench}"
+top=$(cd "$(dirname "$0")/.." && pwd)
+bench="${1:-$top/crates/rdata_bench/out/rdata_bench}"
+archive="${2:-$top/c/out/libdns_rdata.a}"
 sample() { # TYPE COUNT: codes or keys from 100 on
   awk -v kind="$1" -v count="$2" 'BEGIN {
     octets = kind == "SVCB" ? "000100" : ""
@@ -69,3 +73,10 @@ for kind in TXT OPENPGPKEY TLSA CSYNC SVCB TYPE65280; do
       awk -v kind="$kind" -v octets="$octets" -F '\t' 'NR == 2 { printf "%s\t%d\ttry_from_str %s\tfrom_zone_text %.2f\n", kind, octets, $2 == "" ? "-" : sprintf("%.2f", $2 / octets), $3 / octets }'
   done
 done
+if [ -f "$archive" ]; then
+  dir=$(mktemp -d)
+  trap 'rm -rf "$dir"' EXIT
+  "${CC:-cc}" -O2 -I"$top/c/include" -o "$dir/worst" "$top/c/bench/worst.c" "$archive" && "$dir/worst"
+else
+  echo "skipped: the worst messages in C: there is no $archive (make -C c makes it)"
+fi

@@ -6,7 +6,7 @@
   tests/plain_table.py walks the message: where questions and records are, and what is rejected. Lines are compared
   as a whole, but for two: of RDATA that is rejected the reason is not, and the text of RDATA is read
   again by `zone_text read`, which must give the uncompressed octets that the model has.
-- Messages whose names follow as many compression pointers as a walk may, and one more.
+- Messages whose names have as many labels and compression pointers as a walk may go over, and more.
 - Lines that are no message in hexadecimal digits.
 
 The built program is asked if it is up to date, else a quick build (`rt try`), in which nothing is proved. Then the lines go
@@ -159,17 +159,30 @@ def asked(count):
     return b"\0\0\1\0" + count.to_bytes(2, "big") + b"\0" * 6 + b"\0\0\1\0\1" + questions
 
 
+def labelled(kind, rdata, count):
+    """A message with a question of 127 labels, and so many records of this type, whose owners are pointers to it."""
+    name = b"\1a" * 127 + b"\0"
+    record = b"\xc0\x0c" + kind.to_bytes(2, "big") + b"\0\1\0\0\0\0" + len(rdata).to_bytes(2, "big") + rdata
+    return b"\0\0\x81\x80\0\1" + count.to_bytes(2, "big") + b"\0" * 4 + name + b"\0\1\0\1" + record * count
+
+
 def pointed():
-    """Messages whose names follow about as many compression pointers as a walk may."""
-    most = plain_table.LIMIT - 8 * 8000
+    """Messages whose names have about as many labels and compression pointers as a walk may go over."""
+    most = plain_table.LIMIT - 32 * 8000
     for last in (most, most + 1):
-        yield chained([(8000, 0, False)] * 8 + [(last, 0, False)])
-        yield chained([(0, 8000, False)] * 8 + [(0, last, False), (0, 0, False)])
-        yield chained([(1, 7999, i % 2 == 0) for i in range(8)] + [(1, last - 1, True), (0, 0, False)])
+        yield chained([(8000, 0, False)] * 32 + [(last, 0, False)])
+        yield chained([(0, 8000, False)] * 32 + [(0, last, False), (0, 0, False)])
+        yield chained([(1, 7999, i % 2 == 0) for i in range(32)] + [(1, last - 1, True), (0, 0, False)])
     yield chained([(8000, 0, False)] * 4090)
-    # The names of 362 questions follow 65,341 pointers, and those of 363 follow 65,703.
-    for count in (362, 363, 1000):
+    # The names of 724 questions follow 261,726 pointers, and those of 725 follow 262,450.
+    for count in (724, 725, 1000):
         yield asked(count)
+    # The question has 127 labels, and a name server 256 labels and pointers in two names: 1,023 of them have 262,015 in all.
+    for count in (1023, 1024, 2000):
+        yield labelled(2, b"\xc0\x0c", count)
+    # A name and an octet more; and a start of authority without numbers.
+    yield labelled(2, b"\xc0\x0c\0", 1200)
+    yield labelled(6, b"\xc0\x0c\xc0\x0c", 1000)
 
 
 def changed(message):

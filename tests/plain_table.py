@@ -506,12 +506,16 @@ NAMED = {
 }
 
 
-def pointers_of(message, place):
-    """How many compression pointers the name at a place follows: all, or those up to the damage (RFC 1035, 4.1.4)."""
+def steps_of(message, place):
+    """How many labels and compression pointers the name at a place has: all, or those up to the damage (RFC 1035, 4.1.4).
+
+    A label counts if it fits the name, and an octet follows it.
+    """
     count, octets, began, at, end = 0, 0, place, place, len(message)
     while at < end:
         first = message[at]
-        if 0 < first < 64 and octets + first + 1 <= 254:
+        if 0 < first < 64 and octets + first + 1 <= 254 and at + first + 1 < end:
+            count += 1
             octets += first + 1
             at += first + 1
             continue
@@ -524,15 +528,15 @@ def pointers_of(message, place):
     return count
 
 
-def data_pointers(kind, message, place):
-    """How many compression pointers the names of RDATA follow, up to and with a field that is rejected.
+def data_steps(kind, message, place):
+    """How many labels and compression pointers the names of RDATA have, up to and with a field that is rejected.
 
     Fields are read as far as the message goes; that they pass RDLENGTH shows only at the end.
     """
     count = 0
     for field in NAMED.get(NAMES.get(kind), []):
         if field == "name":
-            count += pointers_of(message, place)
+            count += steps_of(message, place)
             try:
                 _, place = name_at(message, place)
             except NoData:
@@ -546,10 +550,10 @@ def data_pointers(kind, message, place):
     return count
 
 
-# Messages (RFC 1035, 4.1). How many compression pointers a walk follows at most. A class of a record without data (RFC 2136,
+# Messages (RFC 1035, 4.1). How many labels and compression pointers a walk goes over at most. A class of a record without data (RFC 2136,
 # 2.4 and 2.5).
-LIMIT = 65536
-TOO_MANY = "more compression pointers than the limit"
+LIMIT = 262144
+TOO_MANY = "more labels and compression pointers than the limit"
 SECTIONS = "question answer authority additional".split()
 NO_DATA_CLASSES = (254, 255)
 
@@ -564,12 +568,12 @@ Entry = collections.namedtuple(
 
 
 def entry_at(message, section, index, offset, left):
-    """The question or record at an offset, where it ends, and how many compression pointers are left of so many.
+    """The question or record at an offset, where it ends, and how many steps are left of so many.
 
     The end is None where the walk cannot go on.
     """
     head = (section, index, offset)
-    left -= pointers_of(message, offset)
+    left -= steps_of(message, offset)
     if left < 0:
         return Entry(*head, TOO_MANY), None, 0
     try:
@@ -587,7 +591,7 @@ def entry_at(message, section, index, offset, left):
     if after < length:
         return Entry(*head, f"RDLENGTH is {length}, and {after} octets are left"), None, left
     has_data = length > 0 or kind == NUMBERS["OPT"] or of not in NO_DATA_CLASSES
-    left -= data_pointers(kind, message, place) if has_data else 0
+    left -= data_steps(kind, message, place) if has_data else 0
     if left < 0:
         return Entry(*head, TOO_MANY), None, 0
     fault = "RDATA" if has_data and fields(kind, message, place, length) is None else None

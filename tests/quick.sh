@@ -7,6 +7,8 @@ top=$(cd "$(dirname "$0")/.." && pwd)
 need_rt quick
 dir=$(mktemp -d)
 trap 'kill $(jobs -p) 2>/dev/null; rm -rf "$dir"' EXIT
+# What a run of a program or of a crate's tests may take, so that a busy machine fails nothing: most take less than ten seconds.
+limit=1200
 
 # Keeps the counts of a part, and prints them as it ends.
 count() { # FILE GOOD BAD TEXT
@@ -23,7 +25,7 @@ program() { # CRATE
   for file in data/*; do
     if [ -f "$file" ]; then files+=(--data "${file#data/}=$file"); fi
   done
-  rt try "${files[@]}" -- "${words[@]}" <"$(if [ -f stdin ]; then echo stdin; else echo /dev/null; fi)" >"$dir/$1.out" 2>"$dir/$1.log"
+  rt try --seconds "$limit" "${files[@]}" -- "${words[@]}" <"$(if [ -f stdin ]; then echo stdin; else echo /dev/null; fi)" >"$dir/$1.out" 2>"$dir/$1.log"
   if [ $? = "$status" ] && cmp -s "$dir/$1.out" stdout && grep -q '^run=ended' "$dir/$1.log"; then
     count "$1.program" 1 0 "$1 prints what is wanted"
   else
@@ -35,7 +37,7 @@ program() { # CRATE
 tests() { # CRATE
   local counts
   cd "$top/crates/$1" || return
-  rt try --test >"$dir/$1.tests.log" 2>&1
+  rt try --test --seconds "$limit" >"$dir/$1.tests.log" 2>&1
   counts=$(sed -nE 's/^test result: .* ([0-9]+) passed; ([0-9]+) failed;.*/\1 \2/p' "$dir/$1.tests.log")
   if [ -n "$counts" ]; then
     count "$1.tests" "${counts% *}" "${counts#* }" "$1: tests"

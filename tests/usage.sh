@@ -11,6 +11,7 @@ run: $1
   ./run parse TYPE TEXT                  RDATA from its text: ./run parse MX '10 mail.example.com.'
   ./run cmp TYPE OCTETS OCTETS           the order of two RDATA: ./run cmp A 01020304 01020305
 TYPE is a type's name in capitals, its number, or TYPE and its number. OCTETS are hexadecimal digits, or - for none.
+On a terminal, control characters in the result are shown as \\xNN.
 TEXT
   return 1
 }

@@ -31,18 +31,42 @@ other() {
   [ $? = 2 ]
 }
 
+# An upgrade: a line of the copy that was changed is as it is here again, a crate of the earlier copy that is not used any more is
+# gone, and a line of the user's own stays.
+upgrade() {
+  mkdir -p "$to/crates/dns_gone" && echo 'crate dns_gone 0' >>"$to/crates/dns_rdata/VENDORED" || return 1
+  sed -i 's/^dns_rows:.*/dns_rows: other/' "$to/crates.txt"
+  printf 'dns_gone: dns_rows\nmine: dns_rdata\n' >>"$to/crates.txt"
+  "$top/tools/vendor.sh" "$to" zone || return 1
+  [ ! -d "$to/crates/dns_gone" ] && ! grep -q '^dns_gone:' "$to/crates.txt" && grep -q '^mine: dns_rdata$' "$to/crates.txt" &&
+    [ "$(grep '^dns_rows:' "$to/crates.txt")" = "$(grep '^dns_rows:' "$top/crates.txt")" ]
+}
+
+# A copy is as it was; then a file of it is changed, and then a line of crates.txt.
+as_it_was() { "$top/tools/vendor.sh" --check "$to" | grep -qE 'as it was: version [0-9.]+, commit '; }
+
+changed() {
+  echo >>"$to/crates/dns_rows/src/row.rt"
+  sed -i 's/^dns_fields:/dns_fields: thiserror/' "$to/crates.txt"
+  "$top/tools/vendor.sh" --check "$to" >"$dir/changed"
+  [ $? = 1 ] && [ "$(grep -c 'is not as it was copied' "$dir/changed")" = 2 ] && "$top/tools/vendor.sh" "$to" zone && as_it_was
+}
+
 # Whether the program prints what the first module of `guide` prints.
 runs() {
   mkdir -p "$to/crates/app/src" && echo 'app: dns_rdata dns_message dns_rdata_zone anyhow' >>"$to/crates.txt" && cd "$to/crates/app" || return 1
   block docs/GUIDE.md text 'main.rt' >src/main.rt
   block README.md rust 'prints every record of a response' >src/response.rt
-  rt try >"$dir/out"
+  rt try --seconds 1200 >"$dir/out"
   head -n 3 "$top/crates/guide/stdout" | diff - "$dir/out"
 }
 
 want 'tools/vendor.sh FOLDER' few
 want 'tools/vendor.sh FOLDER zone' all
 want 'tools/vendor.sh FOLDER with another word' other
+want 'tools/vendor.sh over an earlier copy' upgrade
+want 'tools/vendor.sh --check of a copy as it was' as_it_was
+want 'tools/vendor.sh --check of a changed copy' changed
 want "README's program in another repository" runs
 echo "$good as wanted, $bad not"
 [ "$bad" = 0 ]

@@ -36,6 +36,7 @@ OWN_FIELDS = {1, 2, 5, 6, 12, 13, 15, 16, 28, 33, 35, 37, 41, 44, 52, 53, 62, 64
 LINES = [
     (b"A 192.0.2.1", "c0000201"),
     (b"NOSUCHTYPE 1", "refused: no record type"),
+    (b"ns1 IN A 192.0.2.1", "refused: no record type; a line is a type and its data"),
     (b"", "refused: no record type"),
     (b" \t", "refused: no record type"),
     (b"MX", "refused: MX preference missing"),
@@ -72,7 +73,7 @@ def built_program():
 def answers(lines, words):
     """What the program prints for the lines, called with these words, and its exit status."""
     built = built_program()
-    command = [built, *words] if built else ["rt", "try", "--", *words]
+    command = [built, *words] if built else ["rt", "try", "--seconds", "1200", "--", *words]
     source = b"".join(line + b"\n" for line in lines)
     asked = subprocess.run(command, cwd=CRATE, input=source, stdout=subprocess.PIPE, stderr=subprocess.PIPE)
     return asked.stdout.decode().split("\n")[:-1], asked.returncode

@@ -20,17 +20,43 @@ sha256_of() { # FILE
   sha256sum <"$1" | cut -d ' ' -f 1
 }
 
+# Whether `find_ready` has found the file before, and neither a source nor anything in its folder was changed since: no time of a
+# change (ctime) is later than that of the mark that it left in out/ready.
+is_unchanged() { # FILE FOLDER CRATE
+  local mark="$top/out/ready/$1" folders=() name
+  [ -f "$mark" ] || return 1
+  for name in $(in_order "$3"); do folders+=("$top/crates/$name"); done
+  [ -z "$(find -H "$top/crates.txt" "$top/$2" "${folders[@]}" -path '*/out' -prune -o -cnewer "$mark" -print -quit)" ]
+}
+
 # Looks for a ready-made file that was made from the sources that are here. Sets `ready` to its path, from the top of the
-# repository, or to nothing, and then `why` to the reason. The file is read whole, and must be the one that MANIFEST names.
+# repository, or to nothing, and then `why` to the reason. The file is read whole, and must be the one that MANIFEST names. If
+# nothing was changed since it was found the last time, sources and file are not read again.
 find_ready() { # FILE MACHINE
-  local folder="dist/$2" crate sources sum
+  local folder="dist/$2" crate sources sum mark=''
   ready='' why=''
   [ -f "$top/$folder/MANIFEST" ] || { why="there are no ready-made files for $2"; return 1; }
   read -r crate sources sum < <(awk -v file="$1" '$1 == file { print $2, $3, $4 }' "$top/$folder/MANIFEST")
   [ -n "${sum:-}" ] && [ -f "$top/$folder/$1" ] || { why="$folder has no $1"; return 1; }
-  [ "$("$top/tools/source_hash.sh" "$crate")" = "$sources" ] || { why="$folder/$1 is made from other sources than these"; return 1; }
-  [ "$(sha256_of "$top/$folder/$1")" = "$sum" ] || { why="$folder/$1 is damaged: MANIFEST has another SHA-256"; return 1; }
-  ready="$folder/$1"
+  if is_unchanged "$1" "$folder" "$crate"; then
+    ready="$folder/$1"
+    return
+  fi
+  # The time of the mark is before anything is read.
+  if mkdir -p "$top/out/ready" 2>/dev/null; then mark=$(mktemp "$top/out/ready/XXXXXX" 2>/dev/null); fi
+  if [ "$("$top/tools/source_hash.sh" "$crate")" != "$sources" ]; then
+    why="$folder/$1 is made from other sources than these"
+  elif [ "$(sha256_of "$top/$folder/$1")" != "$sum" ]; then
+    why="$folder/$1 is damaged: MANIFEST has another SHA-256"
+  else
+    ready="$folder/$1"
+  fi
+  if [ -n "$mark" ] && [ -n "$ready" ]; then
+    mv -f "$mark" "$top/out/ready/$1"
+  elif [ -n "$mark" ]; then
+    rm -f "$mark"
+  fi
+  [ -n "$ready" ]
 }
 
 # The files that the gate builds: the file, its crate, and where it is built.

@@ -18,7 +18,7 @@
  *  - Calls return a status, DNS_RDATA_OK or why not. From DNS_RDATA_REFUSED on, the octets are not RDATA of the type; from
  *    DNS_RDATA_DAMAGED on, the message is damaged; from DNS_RDATA_NO_DATA_TEXT on, the text gives no RDATA, or is no name. None of
  *    these is returned for octets, messages or texts that are right, with these exceptions: what is listed below as rejected here;
- *    DNS_RDATA_UNSUPPORTED_TYPE, since the text of some types is read in the form of unknown data alone; DNS_RDATA_POINTERS; and
+ *    DNS_RDATA_UNSUPPORTED_TYPE, since the text of some types is read in the form of unknown data alone; DNS_RDATA_LIMIT; and
  *    DNS_RDATA_NO_TYPE, which is about a text. A later version may have more statuses in these ranges and below them: treat a
  *    status that you do not know by its range.
  *  - If octets or a text do not fit into the buffer, the call returns DNS_RDATA_BUFFER, and *count tells how many octets they
@@ -105,7 +105,7 @@ enum {
     DNS_RDATA_HEADER = 32,               /* the message has not the twelve octets of a header */
     DNS_RDATA_QUESTION = 33,             /* a question is damaged */
     DNS_RDATA_RECORD = 34,               /* the owner, the fixed fields or RDLENGTH of a record are damaged */
-    DNS_RDATA_POINTERS = 35,             /* more compression pointers than the walk may follow */
+    DNS_RDATA_LIMIT = 35,                /* the names have more labels and compression pointers than the walk may go over */
 
     DNS_RDATA_NO_DATA_TEXT = 48,         /* the first refusal of a text */
     DNS_RDATA_MISSING_WORD = 48,         /* a word is missing */
@@ -269,7 +269,7 @@ DNS_RDATA_NONNULL int32_t dns_rdata_compare_canonical(const uint8_t *octets, siz
                                                       size_t other_length);
 
 /*
- * Writes the zone file text of the RDATA, followed by a zero octet, in the presentation format that every name server reads (RFC
+ * Writes the zone file text of the RDATA, followed by a zero octet, in the presentation format of zone files (RFC
  * 1035, section 5.1; RFC 9460, section 2.1): one line of printable ASCII, names fully qualified and with their case preserved,
  * strings in quotes. Types without a form of their own, OPT, NULL, ANAME, 0, and RDATA that has no such text (as TXT without strings, or a
  * service with an empty ALPN id) are written as unknown RDATA, \# and hexadecimal digits (RFC 3597, section 5). 1,048,576 octets hold any
@@ -322,7 +322,7 @@ struct dns_rdata_records {
     size_t next;   /* the offset of the next record in the message */
     size_t passed; /* how many records precede it */
     size_t until;  /* how many records there are by the header of the message */
-    size_t left;   /* one more than the compression pointers that may still be followed */
+    size_t left;   /* one more than the labels and compression pointers that may still be gone over */
 };
 
 /* A record (RFC 1035, section 4.1.3), but for its RDATA. */
@@ -351,11 +351,11 @@ struct dns_rdata_record {
  *     }
  *
  * after which the status is DNS_RDATA_ABSENT if the walk came to the end of the last record. Fails with DNS_RDATA_HEADER if the
- * message is shorter than a header, with DNS_RDATA_QUESTION if one of its questions is damaged, and with DNS_RDATA_POINTERS if its
- * questions follow too many compression pointers; the cursor then has no records. Does not allocate.
+ * message is shorter than a header, with DNS_RDATA_QUESTION if one of its questions is damaged, and with DNS_RDATA_LIMIT if the
+ * names of its questions have too many labels and compression pointers; the cursor then has no records. Does not allocate.
  *
- * The names in one hostile message can follow the same thousands of compression pointers thousands of times. A walk counts them, each
- * as often as another name follows it, and ends with DNS_RDATA_POINTERS when the count passes 65,536; real messages need a few for
+ * The names in one hostile message can go over the same labels and compression pointers thousands of times. A walk counts both, each
+ * as often as another name goes over it, and ends with DNS_RDATA_LIMIT when the count passes 262,144; real messages need a few for
  * each name. For another limit, set records.left to one more than it after this call.
  */
 DNS_RDATA_NONNULL dns_rdata_status dns_rdata_records_begin(const uint8_t *message, size_t message_length,
@@ -370,7 +370,7 @@ DNS_RDATA_NONNULL dns_rdata_status dns_rdata_records_begin(const uint8_t *messag
  *    dns_rdata_check returns too. The walk goes on, since RDLENGTH says where the record ends.
  *  - DNS_RDATA_RECORD: no record is encoded there, since its owner is no name, or the message ends in its fixed fields or before
  *    its RDATA does. The walk has ended.
- *  - DNS_RDATA_POINTERS: the walk has followed more compression pointers than it may, and has ended.
+ *  - DNS_RDATA_LIMIT: the walk has gone over more labels and compression pointers than it may, and has ended.
  *  - DNS_RDATA_ABSENT: no record is left.
  */
 DNS_RDATA_NONNULL dns_rdata_status dns_rdata_records_next(const uint8_t *message, size_t message_length,

@@ -87,30 +87,42 @@ static void rejected(void) {
     want(why.number == 255, "the number of ANY");
 }
 
-/* 16,000 options without octets, in time linear in their number: 50 milliseconds, or SLOWER times as many, for an emulator. */
-#ifndef SLOWER
-#define SLOWER 1
-#endif
-
-static void many_options(void) {
-    enum { MANY = 16000 };
-    static uint8_t octets[4 * MANY];
+/* All of so many options without octets, one after the other. Returns the processor time. */
+static clock_t all_options(size_t many) {
+    static uint8_t octets[4 * 16000];
     struct dns_rdata_parts parts;
     uint16_t code = 0;
     size_t begin = 0, count = 0, seen = 0;
     clock_t start = clock();
-    for (size_t i = 0; i < MANY; i++)
+    for (size_t i = 0; i < many; i++)
         octets[4 * i + 1] = 12;
-    dns_rdata_status status = dns_rdata_parts_begin(at(octets, sizeof octets, 0, sizeof octets, 41), &parts);
+    dns_rdata_status status = dns_rdata_parts_begin(at(octets, 4 * many, 0, (uint16_t)(4 * many), 41), &parts);
     while (status == DNS_RDATA_OK) {
-        status = dns_rdata_parts_next(at(octets, sizeof octets, 0, 0, 0), &parts, &code, &begin, &count);
+        status = dns_rdata_parts_next(at(octets, 4 * many, 0, 0, 0), &parts, &code, &begin, &count);
         if (status == DNS_RDATA_OK) {
             want(code == 12 && count == 0 && begin == 4 * seen + 4, "an option in its order");
             seen++;
         }
     }
-    want(status == DNS_RDATA_ABSENT && seen == MANY, "all options");
-    want((clock() - start) * 20 < CLOCKS_PER_SEC * SLOWER, "16,000 options in 50 milliseconds");
+    want(status == DNS_RDATA_ABSENT && seen == many, "all options");
+    return clock() - start;
+}
+
+/* The least time of several walks over so many options. */
+static clock_t least_time(size_t many) {
+    clock_t least = all_options(many);
+    for (int i = 0; i < 8; i++) {
+        clock_t time = all_options(many);
+        if (time < least)
+            least = time;
+    }
+    return least;
+}
+
+/* Eight times as many options take eight times as long, and not 64 times: the least of several walks, with room for a machine that
+   is slow or busy, and for a clock of 10 milliseconds. */
+static void many_options(void) {
+    want(least_time(16000) < 32 * (least_time(2000) + CLOCKS_PER_SEC / 1000), "16,000 options in linear time");
 }
 
 /* SVCB with a compressed target. Its RDATA has one octet more when it is uncompressed; past 65535 no text of it can be read. */
@@ -136,7 +148,7 @@ static void records_of_message(void) {
     struct dns_rdata_record record;
     uint8_t copy[sizeof message];
     dns_rdata_status status = dns_rdata_records_begin(message, sizeof message, &records);
-    want(status == DNS_RDATA_OK && records.next == 29 && records.passed == 0 && records.until == 2 && records.left == 65537, "a walk");
+    want(status == DNS_RDATA_OK && records.next == 29 && records.passed == 0 && records.until == 2 && records.left == 262143, "a walk");
     while ((status = dns_rdata_records_next(message, sizeof message, &records, &record)) == DNS_RDATA_OK)
         printf("record %zu of section %u: owner at %zu, type %u, class %u, TTL %u, %u octets at %zu, data %u\n", record.index,
                (unsigned)record.section, record.owner, record.type, record.rrclass, (unsigned)record.ttl, record.length, record.rdata,
@@ -160,13 +172,13 @@ static void records_of_message(void) {
     copy[40] = 200; /* RDLENGTH passes the end of the message */
     want(dns_rdata_records_begin(copy, sizeof copy, &records) == DNS_RDATA_OK, "a walk over a damaged record");
     want(dns_rdata_records_next(copy, sizeof copy, &records, &record) == DNS_RDATA_RECORD, "a damaged record");
-    want(records.next == 29 && records.passed == 0 && records.until == 0 && records.left == 65537, "where the walk has ended");
+    want(records.next == 29 && records.passed == 0 && records.until == 0 && records.left == 262143, "where the walk has ended");
     want(dns_rdata_records_next(copy, sizeof copy, &records, &record) == DNS_RDATA_ABSENT, "the walk has ended");
 
     want(dns_rdata_records_begin(message, sizeof message, &records) == DNS_RDATA_OK, "a walk with a limit");
-    records.left = 2; /* one pointer, and the first record has two */
-    want(dns_rdata_records_next(message, sizeof message, &records, &record) == DNS_RDATA_POINTERS, "too many pointers");
-    want(records.next == 29 && records.passed == 0 && records.until == 0 && records.left == 2, "where the walk has ended");
+    records.left = 3; /* two steps, and the owner of the first record has three: a pointer and two labels */
+    want(dns_rdata_records_next(message, sizeof message, &records, &record) == DNS_RDATA_LIMIT, "too many labels and pointers");
+    want(records.next == 29 && records.passed == 0 && records.until == 0 && records.left == 3, "where the walk has ended");
     want(dns_rdata_records_next(message, sizeof message, &records, &record) == DNS_RDATA_ABSENT, "the walk has ended there");
 
     /* an UPDATE that deletes all addresses of a name: class ANY, no data (RFC 2136, section 2.5.2) */

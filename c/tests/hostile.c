@@ -94,7 +94,7 @@ static void walk_records(const uint8_t *message, size_t size, struct dns_rdata_r
         struct dns_rdata_records before = records;
         struct dns_rdata_record record = {1, 2, 3, 4, 5, 6, 7, 8, 9};
         dns_rdata_status status = dns_rdata_records_next(message, size, &records, &record);
-        WANT(status == DNS_RDATA_OK || status == DNS_RDATA_ABSENT || (status >= DNS_RDATA_REFUSED && status <= DNS_RDATA_POINTERS));
+        WANT(status == DNS_RDATA_OK || status == DNS_RDATA_ABSENT || (status >= DNS_RDATA_REFUSED && status <= DNS_RDATA_LIMIT));
         if (status == DNS_RDATA_ABSENT || status >= DNS_RDATA_DAMAGED) {
             WANT(record.owner == 1 && record.rdata == 2 && record.has_data == 9);
             if (status == DNS_RDATA_ABSENT) WANT(memcmp(&before, &records, sizeof records) == 0);

@@ -24,7 +24,6 @@ build=(make -s -C "$top/c" "ARCHIVE=$library" "CC=$CC" "AR=$AR" PREFIX=/usr/loca
 installed="$dir/installed/usr/local"
 tests="$top/c/tests"
 # An emulator is slower than the processor.
-if [ "${#run[@]}" -gt 0 ]; then c11+=(-DSLOWER=20) cpp+=(-DSLOWER=20); fi
 
 # Whether a command prints what a file has.
 prints() { # FILE COMMAND ..
@@ -123,13 +122,13 @@ by_pkg_config() {
   read -ra found < <(PKG_CONFIG_PATH="$installed/lib/pkgconfig" pkg-config --define-variable=prefix="$installed" \
     --define-variable=libdir="$installed/lib" --define-variable=includedir="$installed/include" --cflags --libs dns_rdata)
   # Without the header's folder of this repository, so that the flags must name the installed one.
-  want 'a program by pkg-config compiles' "$CC" -std=c11 ${run[0]:+-DSLOWER=20} -o "$dir/calls_installed" "$tests/calls.c" "${found[@]}"
+  want 'a program by pkg-config compiles' "$CC" -std=c11 -o "$dir/calls_installed" "$tests/calls.c" "${found[@]}"
   want 'a program by pkg-config' prints "$tests/calls.out" env LD_LIBRARY_PATH="$installed/lib" "${run[@]}" "$dir/calls_installed"
 }
 
 by_cmake() {
   if ! command -v cmake >/dev/null; then skip 'the installed library by CMake: it is missing'; return; fi
-  want 'a program by CMake is found' cmake -S "$tests/consumer" -B "$dir/consumer" -DCMAKE_C_COMPILER="$CC" -DCMAKE_C_FLAGS="${run[*]:+-DSLOWER=20}" -DCMAKE_PREFIX_PATH="$installed"
+  want 'a program by CMake is found' cmake -S "$tests/consumer" -B "$dir/consumer" -DCMAKE_C_COMPILER="$CC" -DCMAKE_PREFIX_PATH="$installed"
   want 'a program by CMake compiles' cmake --build "$dir/consumer"
   want 'a program by CMake, shared' prints "$tests/calls.out" "${run[@]}" "$dir/consumer/shared"
   want 'a program by CMake, static' prints "$tests/calls.out" "${run[@]}" "$dir/consumer/static"

@@ -18,7 +18,7 @@ def message(answers, *octets, opcode=0):
 
 
 class Walks(unittest.TestCase):
-    def raises(self, status, octets, offset=None, limit=65536):
+    def raises(self, status, octets, offset=None, limit=262144):
         """How many records precede the error."""
         found = []
         with self.assertRaises(MessageError) as caught:
@@ -72,14 +72,16 @@ class Walks(unittest.TestCase):
         self.assertEqual(str(MessageError(Status.HEADER)), "HEADER: the message is shorter than a header")
         self.assertEqual(list(walk), [])
 
-    def test_pointers(self):
-        """MX whose owner and exchange are compression pointers."""
+    def test_limit(self):
+        """MX whose owner and exchange are compression pointers to a label."""
         mx = b"\xc0\x0c\0\x0f\0\1\0\0\0\x3c\0\4\0\x0a\xc0\x0c"
         octets = message(3, b"\1a" + A, mx, mx)
-        self.assertEqual(len(list(records(octets, 4))), 3)
+        # 1 label, and twice a pointer and a label in each of two names
+        self.assertEqual(len(list(records(octets, 9))), 3)
         self.assertEqual(len(list(records(octets, (1 << 64) - 1))), 3)
-        self.assertEqual(self.raises(Status.POINTERS, octets, 45, 3), 2)
-        self.assertEqual(self.raises(Status.POINTERS, octets, 29, 0), 1)
+        self.assertEqual(self.raises(Status.LIMIT, octets, 45, 8), 2)
+        self.assertEqual(self.raises(Status.LIMIT, octets, 29, 4), 1)
+        self.assertEqual(self.raises(Status.LIMIT, octets, 12, 0), 0)
         self.assertRaises(OverflowError, list, records(octets, -1))
         self.assertRaises(OverflowError, list, records(octets, 1 << 64))
 

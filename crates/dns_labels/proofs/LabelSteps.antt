@@ -1,8 +1,9 @@
 -- The steps of the reader of a label's text.
-use Rattle.std.proofs.lemmas.{List.append-nil, List.append_cancel_left, List.get_or-drop, List.drop_more, Grind.common_steps}
+use Rattle.std.proofs.lemmas.{List.append-nil, List.append_cancel_left, List.get_or-drop, List.drop_more, List.take-append-drop, Grind.common_steps}
 use Rattle.std.proofs.{Common.length-append, Common.length-drop, Math.Seq.take-add}
 use Rattle.std.proofs.Common.{◌≡◌, ◌≢◌, ℕ, ◌+◌, ◌<◌, ◌≤◌, List, [], ◌∷◌, ◌++◌, length, take, drop, get_or, refl, sym, ◌∙◌, ap, append_assoc, arith}
 use Rattle.dns_labels.specs.Text.{OctetText, LabelText, IsLabelEnd, AddsOctets, LabelText.no_octet, LabelText.octet}
+use Rattle.dns_labels.specs.TextFaults.{GoesOn}
 use Rattle.dns_labels.proofs.Octets.{cut_off}
 
 -- octets of a label that are still to be read
@@ -104,6 +105,23 @@ module _ {text : List ℕ} {at : ℕ} {old new : List ℕ} (s : LabelSoFar text 
               stands = append_cancel_left part more (x.back ++ rest) (d ∙ ap (λ (l : List ℕ). l ++ (x.back ++ rest)) (sym one.1));
             };
       }
+
+  -- the label goes on where no more octets are read
+  pub goes_on : {size : ℕ} → length old ≡ size + 1 → length new ≤ length old + 63 → length new ≤ 254 → GoesOn size text s.front (drop at text)
+  goes_on {size} begun short room =
+      let long : length new ≡ length old + length s.front = ap length s.octets ∙ length-append old s.front in
+      let r = s.sound [] [] no_octet in
+      record {
+        front = take at text;
+        split = sym (take-append-drop at text);
+        reads = rw (append-nil s.front, append-nil (take at text)) at r;
+        short = omega (arith, long);
+        room = omega (arith, long, begun);
+        on = not_ended (drop at text) refl;
+      }
+
+pub front_long : {text : List ℕ} {at : ℕ} {old new : List ℕ} (s : LabelSoFar text at old new) → length new ≡ length old + length s.front
+front_long {old} s = ap length s.octets ∙ length-append old s.front
 
 pub label_none : {text old : List ℕ} → LabelSoFar text 0 old old
 label_none {old} = record {

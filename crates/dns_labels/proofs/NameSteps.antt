@@ -2,11 +2,13 @@
 use Rattle.std.proofs.lemmas.List.{append-nil, append_cancel_left, drop-drop, drop_all, drop_more, take-append-drop}
 use Rattle.std.proofs.{Common.append_assoc, Common.arith, Common.length-append, Common.length-drop, Math.Seq.set-append_seam}
 use Rattle.std.proofs.Common.{◌≡◌, ◌≢◌, ℕ, ◌+◌, ◌-◌, ◌<◌, ◌≤◌, Bool, true, false, List, [], ◌∷◌, ◌++◌, length, take, drop, get_or, refl, sym, ◌∙◌, ap, subst}
-use Rattle.std.specs.{Prelude.slice_set, Prelude.Result, Prelude.Ok, Prelude.Err, Result.IfErr, Result.IsErr}
+use Rattle.std.specs.Prelude.{slice_set}
 use Rattle.dns_fields.specs.Labels.{DomainName, IsLabel, AreLabels, wire, FitsName}
 use Rattle.dns_fields.proofs.Runs.{wire-append, AreLabels-append}
 use Rattle.dns_labels.specs.Text.{LabelText, LabelsText, MarkedText, IsNameText, IsLabelEnd, AddsOctets, AddsLabel}
 use Rattle.dns_labels.specs.{Text.MarkedText.root, Text.MarkedText.nothing, Text.MarkedText.labelled, Labels.AreNameOctets, Labels.labels_of, Labels.name_of}
+use Rattle.dns_labels.specs.Text.LabelText.{no_octet, octet}
+use Rattle.dns_labels.specs.TextFaults.{ReadsUpTo, ReadsUpTo.begin}
 use Rattle.dns_labels.specs.Text.LabelsText.{last, dotted, joined}
 use Rattle.dns_labels.proofs.{Octets.cut_off, Octets.wire_length, Octets.second_is, Octets.labels_from, Octets.are_name_octets, NameTexts.BackText.at_dot}
 use Rattle.dns_labels.proofs.NameTexts.{one_label, first_text, BackText, back_ends, BackText.further}
@@ -40,6 +42,19 @@ label_empty old rest {text} {taken} {begun} b a s n none {label} {t} lt e end is
     let u = one_label (drop taken text) rest a.reads lt (take-append-drop taken text ∙ e) a.ends end in
     let u0 : a.label ≡ label = u.0 in
     omega (arith, ap length a.octets, length-append begun a.label, ap length b, length-append old (0 ∷ []), ap length u0, is.0)
+
+no_text : {label t : List ℕ} → LabelText label t → length label ≡ 0 → t ≡ []
+no_text no_octet h = refl
+no_text (octet f r ot lt w) h = absurd (omega arith)
+
+-- and its text ends at once
+pub empty_ends : {text : List ℕ} {taken : ℕ} {begun new : List ℕ} → AddsOctets text taken begun new → length new ≤ length begun → IsLabelEnd text
+empty_ends {text} {taken} {begun} a few =
+    let none : take taken text ≡ [] = no_text a.reads (omega (arith, ap length a.octets, length-append begun a.label)) in
+    subst IsLabelEnd (ap (λ (t : List ℕ). t ++ drop taken text) (sym none) ∙ take-append-drop taken text) a.ends
+
+pub reads_begun : {text octets : List ℕ} → octets ≡ [] → ReadsUpTo text 0 octets
+reads_begun {text} e = subst (λ (o : List ℕ). ReadsUpTo text 0 o) (sym e) begin
 
 -- labels of which the first were read
 pub record NameLeft (labels : List (List ℕ)) (mark : Bool) (front : List (List ℕ)) (text : List ℕ) : Type 0 where
@@ -164,8 +179,3 @@ name_refused s some no_dot none name n =
     let j : name.labels ≡ s.front ++ (f.label ∷ f.others) = k.joined ∙ ap (λ (x : List (List ℕ)). s.front ++ x) f.split in
     none f.label f.front f.back f.reads f.stands (back_ends f.behind) (second_is s.front f.label f.others (subst AreLabels j n.is_name.labels))
     (omega (arith, n.is_name.fits, ap length s.same, wire_length s.front (f.label ∷ f.others) j, length-append f.label (wire f.others)))
-
--- what holds of every refusal holds of the one that `?` hands on
-pub said_of_err : {T E : Type 0} {P : Type 0} (r : Result T E) → IsErr r → P → IfErr r (λ _. P)
-said_of_err (Ok x) is h = let e = is in cc e
-said_of_err (Err e) is h = h

@@ -4,3 +4,4 @@ pub mod Comparing
 pub mod Emission
 pub mod Messages
 pub mod Text
+pub mod TextFaults

@@ -5,6 +5,7 @@ ghost use Rattle.std.specs.{Fmt.DisplaysOnOk, Bool.OnTrue};
 ghost use Rattle.dns_fields.specs.{Labels.DomainName, Labels.IsLabel, Labels.IsName, Octets.AreOctets};
 ghost use Rattle.dns_labels.specs.{Text.printed, Text.label_text, Text.name_text, Labels.AreNameOctets, Labels.name_of};
 ghost use Rattle.dns_labels.specs.declared.error.NameTextError.TheVariants as text_error;
+ghost use Rattle.dns_labels.specs.TextFaults.{LabelFault, NameTextFault, IsTextFault};
 ghost use Rattle.dns_labels.specs.Text.{OctetText as IsOctetText, LabelText as IsLabelText, IsNameText, IsLabelEnd, AddsOctets, AddsLabel, HasOctets};
 
 use crate::NameOctets;
@@ -77,17 +78,17 @@ fn read_octets(text: &[u8], octets: &mut NameBuffer) -> Result<usize, &'static s
     ensures room { length octets.new ≤ 254 }
     ensures none { IfErr result (λ _. (label t rest : List ℕ) → IsLabelText label t → text.now ≡ t ++ rest →
         IsLabelEnd rest → length label ≤ 63 → length octets.old + length label ≤ 254 → ⊥) }
+    ensures why { IfErr result (λ why. (size : ℕ) → length octets.old ≡ size + 1 → LabelFault size text.now why.now) }
 {
-    let mut left = MAX_LABEL.min(MAX_OCTETS - octets.len());
-    let full = if left == MAX_LABEL {
-        LONG_LABEL
-    } else {
-        LONG_NAME
-    };
+    let most = MAX_LABEL.min(MAX_OCTETS - octets.len());
+    let mut left = most;
     let mut at = 0usize;
     'octets: while at < text.len() && text[at] != 46 {
         if left == 0 {
-            return Err(full);
+            if most < MAX_LABEL {
+                return Err(LONG_NAME);
+            }
+            return Err(LONG_LABEL);
         }
         let Some((octet, taken)) = read_octet(&text[at..]) else {
             return Err(CHARACTER);
@@ -107,13 +108,17 @@ fn read_label(text: &[u8], octets: &mut NameBuffer) -> Result<usize, &'static st
     ensures room { length octets.new ≤ 254 }
     ensures none { IfErr result (λ _. (label t rest : List ℕ) → IsLabelText label t → text.now ≡ t ++ rest →
         IsLabelEnd rest → IsLabel label → length octets.old + (1 + length label) ≤ 254 → ⊥) }
+    ensures why { IfErr result (λ why. LabelFault (length octets.old) text.now why.now) }
 {
     let start = octets.len();
     if start >= MAX_OCTETS {
         return Err(LONG_NAME);
     }
     octets.push(0);
-    let taken = read_octets(text, octets)?;
+    let taken = match read_octets(text, octets) {
+        Ok(taken) => taken,
+        Err(why) => return Err(why),
+    };
     let count = octets.len() - start - 1;
     if count == 0 {
         return Err(EMPTY_LABEL);
@@ -123,11 +128,12 @@ fn read_label(text: &[u8], octets: &mut NameBuffer) -> Result<usize, &'static st
 }
 
 // Reads the octets of a name label by label, and returns whether it is fully qualified, or why the text is not a name.
-#[tactic(auto, using(crate::proofs::NameSteps::name_none, crate::proofs::NameSteps::reads_nothing, crate::proofs::NameSteps::reads_root))]
+#[tactic(auto, using(crate::proofs::NameSteps::name_none, crate::proofs::NameSteps::reads_begun, crate::proofs::NameSteps::reads_nothing, crate::proofs::NameSteps::reads_root))]
 fn read_each_label(text: &[u8], octets: &mut NameBuffer) -> Result<bool, &'static str>
     requires { octets.old ≡ [] }
     ensures some { IfOk result (λ mark. AreNameOctets octets.new × IsNameText (name_of octets.new mark) text.now) }
     ensures none { IfErr result (λ _. (name : DomainName) → IsNameText name text.now → ⊥) }
+    ensures why { IfErr result (λ why. NameTextFault text.now why.now) }
 {
     if text.len() == 0 {
         return Ok(false);
@@ -137,7 +143,10 @@ fn read_each_label(text: &[u8], octets: &mut NameBuffer) -> Result<bool, &'stati
     }
     let mut at = 0usize;
     'labels: loop {
-        let taken = read_label(&text[at..], octets)?;
+        let taken = match read_label(&text[at..], octets) {
+            Ok(taken) => taken,
+            Err(why) => return Err(why),
+        };
         at += taken;
         if at == text.len() {
             return Ok(false);
@@ -199,6 +208,7 @@ fn read_name(text: &[u8], octets: &mut NameBuffer) -> Result<bool, &'static str>
     requires { octets.old ≡ [] }
     ensures some { IfOk result (λ mark. AreNameOctets octets.new × IsNameText (name_of octets.new mark) text.now) }
     ensures none { IfErr result (λ _. (name : DomainName) → IsNameText name text.now → ⊥) }
+    ensures why { IfErr result (λ why. NameTextFault text.now why.now) }
 {
     if let Some(is_fqdn) = read_plain_name(text, octets) {
         return Ok(is_fqdn);
@@ -220,6 +230,8 @@ pub fn parse_octets(alloc: Global, text: &[u8]) -> Result<(NameOctets, bool), Na
     ensures ok { IfOk result (λ r. IsNameText (name_of r.0 r.1) text.now) }
     ensures octets { IfOk result (λ r. AreNameOctets r.0) }
     ensures refused { IfErr result (λ e. (e ≡ text_error.Memory) ⊎ ((name : DomainName) → IsNameText name text.now → ⊥)) }
+    // the reason is that of the first label at fault
+    ensures why { IfErr result (IsTextFault text.now) }
     // a name's printed text reads back as that name
     ensures reads_back { (name : DomainName) → IsName name → HasOctets name → text.now ≡ name_text name →
         MatchResult result (λ r. name_of r.0 r.1 ≡ name) (λ e. e ≡ text_error.Memory) }

@@ -1,8 +1,8 @@
 -- What a walk over questions gives, from what each call of `next` gives.
 use Rattle.std.proofs.Common.{◌≡◌, ℕ, suc, ◌+◌, ◌-◌, ◌≤◌, ◌<◌, ◌⊎◌, inl, inr, List, [], ◌∷◌, length, None, Ok, Err, refl, sym, ap, subst, arith}
 use Rattle.std.specs.Iterator.{Drains, Yields}
-use Rattle.dns_view.specs.Pointers.{NamePointers}
-use Rattle.dns_message.specs.{State.Asking, Pointers.SumOf, Pointers.OfQuestion}
+use Rattle.dns_view.specs.Steps.{NameSteps}
+use Rattle.dns_message.specs.{State.Asking, Steps.SumOf, Steps.OfQuestion}
 use Rattle.dns_message.specs.Asks.{AskedItem, NextQuestion, PassesQuestion, StopsAtQuestion, ShowsAll, EndsAsking, AsksGive}
 
 -- after the last item there is none
@@ -13,7 +13,7 @@ no_more j (x ∷ xs) e done y = absurd (none y.1.is) where
   none (inl p) = let left = p.left in omega arith
   none (inr p) = let left = p.left in omega arith
 
--- the state after a question that ends at an offset and follows so many compression pointers
+-- the state after a question that ends at an offset and takes so many steps
 abbrev beyond : Asking → ℕ → ℕ → Asking
 beyond s end k = record { message = s.message; offset = end; passed = s.passed + 1; until = s.until; left = s.left - k }
 
@@ -26,10 +26,10 @@ ended_as s n k end left other rest e f w =
 
 asks_more : (s : Asking) (x : AskedItem) (j : Asking) (xs : List AskedItem) → PassesQuestion s x j → AsksGive j xs → AsksGive s (x ∷ xs)
 asks_more s x j xs p w =
-    let v : AsksGive (beyond s j.offset p.pointers) xs = subst (λ (t : Asking). AsksGive t xs) p.after w in
-    let here : SumOf (OfQuestion s.message) (p.is.question ∷ v.questions) (p.pointers + v.pointers) =
-    (p.pointers, v.pointers, subst (λ (q : ℕ). NamePointers s.message q p.pointers) (sym p.is.is.starts) p.followed, v.followed, refl) in
-    let less : s.left - p.pointers - v.pointers ≡ s.left - (p.pointers + v.pointers) = omega arith in
+    let v : AsksGive (beyond s j.offset p.steps) xs = subst (λ (t : Asking). AsksGive t xs) p.after w in
+    let here : SumOf (OfQuestion s.message) (p.is.question ∷ v.questions) (p.steps + v.steps) =
+    (p.steps, v.steps, subst (λ (q : ℕ). NameSteps s.message q p.steps) (sym p.is.is.starts) p.followed, v.followed, refl) in
+    let less : s.left - p.steps - v.steps ≡ s.left - (p.steps + v.steps) = omega arith in
     let one : s.passed + 1 ≡ suc s.passed = omega arith in
     let all : s.passed + 1 + length v.questions ≡ s.passed + length (p.is.question ∷ v.questions) = omega arith in
     let others : ShowsAll s.message (suc s.passed) v.questions v.shown = subst (λ (i : ℕ). ShowsAll s.message i v.questions v.shown) one v.shows in
@@ -39,7 +39,7 @@ asks_more s x j xs p w =
       questions = p.is.question ∷ v.questions;
       end = v.end;
       found = record { many = refl; follow = (j.offset, p.is.is, v.found.follow) };
-      pointers = p.pointers + v.pointers;
+      steps = p.steps + v.steps;
       followed = here;
       few = omega (arith, p.within, v.few);
       shown = Ok p.question ∷ v.shown;
@@ -47,7 +47,7 @@ asks_more s x j xs p w =
       rest = v.rest;
       split = cc;
       ends = ended_as s (s.passed + 1 + length v.questions) (s.passed + length (p.is.question ∷ v.questions)) v.end
-          (s.left - p.pointers - v.pointers) (s.left - (p.pointers + v.pointers)) v.rest all less v.ends;
+          (s.left - p.steps - v.steps) (s.left - (p.steps + v.steps)) v.rest all less v.ends;
     }
 
 asks_stop : (s : Asking) (x : AskedItem) (xs : List AskedItem) (t : Asking) → StopsAtQuestion s x t → xs ≡ [] → AsksGive s (x ∷ xs)
@@ -60,7 +60,7 @@ asks_stop s x xs t p none =
       questions = [];
       end = s.offset;
       found = record { many = refl; follow = refl };
-      pointers = 0;
+      steps = 0;
       followed = refl;
       few = omega arith;
       shown = [];
@@ -76,7 +76,7 @@ asks_done s done = record {
   questions = [];
   end = s.offset;
   found = record { many = refl; follow = refl };
-  pointers = 0;
+  steps = 0;
   followed = refl;
   few = omega arith;
   shown = [];
@@ -110,7 +110,7 @@ asks_give (x ∷ xs) s e u order y last =
 pub asks_drain : (s : Asking) → s.passed ≤ s.until → (xs : List AskedItem) → Drains NextQuestion s xs → AsksGive s xs
 asks_drain s order xs d = asks_give xs s d.1.0 d.0 order d.1.1 d.1.2
 
--- two states with as many compression pointers left
+-- two states with as many steps left
 pub left_as : {m : List ℕ} {p n u l k : ℕ} → l ≡ k
     → (let s : Asking = record { message = m; offset = p; passed = n; until = u; left = l } in s)
     ≡ record { message = m; offset = p; passed = n; until = u; left = k }

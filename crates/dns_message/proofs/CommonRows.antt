@@ -10,7 +10,7 @@ use Rattle.dns_names_wire.specs.{State.Reading, Terms.TookField}
 use Rattle.dns_rows.specs.declared.row.{Part.Part}
 use Rattle.dns_rows.specs.declared.row.Rule.TheVariants as rules
 use Rattle.dns_rows.specs.{Table.table, Written.asked, Written.free}
-use Rattle.dns_view.specs.{NameEnds.NameEnds, Pointers.NamePointers, Pointers.Leaves, Checks.FillsRow, RowPointers.RowPointers, Parts.TookSome}
+use Rattle.dns_view.specs.{NameEnds.NameEnds, Steps.NameSteps, Steps.Leaves, Checks.FillsRow, RowSteps.RowSteps, Parts.TookSome}
 use Rattle.dns_view.proofs.Skips.{number_taken, skipped_itself}
 use Rattle.dns_rdata.specs.Data.{parts_of, IsNeverRead}
 use Rattle.dns_rdata.proofs.Views.{row_value_is}
@@ -18,10 +18,10 @@ use Rattle.dns_message.specs.declared.reading.FixedFields.{FixedFields}
 use Rattle.dns_message.specs.{Records.HasNoData, Passing.PassesRData}
 use Rattle.dns_message.proofs.Fields.{name_field}
 
--- the n octets from p are the row's fields, and their compression pointers are taken off
+-- the n octets from p are the row's fields, and their steps are taken off
 pub record RowThere (m : List ℕ) (p n : ℕ) (row : List Part) (left after : ℕ) : Type 0 where
   pub fills : FillsRow m p n row
-  pub pointers : Leaves (RowPointers row n (record { message = m; index = p })) left after
+  pub steps : Leaves (RowSteps row n (record { message = m; index = p })) left after
 
 -- so many octets are taken
 taken : {m : List ℕ} {p n : ℕ} → p + n ≤ length m → TookField (record { message = m; index = p }) (Octets n) (take n (drop p m)) (record { message = m; index = p + n })
@@ -46,7 +46,7 @@ octets_there {m} {p} {n} step left octets short within =
         within = within;
         has = record { values = (take n (drop p m), tt); stands = (p + n, t.field, refl); meets = tt };
       };
-      pointers = (
+      steps = (
         0,
         inr (omega arith, (0, refl, inl (record { message = m; index = p + n }, 0, skipped_itself tt t tt tt, refl, refl))),
         omega arith,
@@ -58,7 +58,7 @@ name_taken : {m : List ℕ} {p e : ℕ} (n : NameEnds m p e) → TookField (reco
 name_taken n = record { message = refl; field = name_field n }
 
 pub name_there : {m : List ℕ} {p n left after : ℕ} → AreOctets m → n < 65536 → p + n ≤ length m → NameEnds m p (p + n)
-    → Leaves (NamePointers m p) left after → RowThere m p n (free Name ∷ []) left after
+    → Leaves (NameSteps m p) left after → RowThere m p n (free Name ∷ []) left after
 name_there {m} {p} {n} octets short within name l = record {
   fills = record {
     octets = octets;
@@ -66,7 +66,7 @@ name_there {m} {p} {n} octets short within name l = record {
     within = within;
     has = record { values = (name.name, tt); stands = (p + n, name_field name, refl); meets = tt };
   };
-  pointers = (
+  steps = (
     l.0,
     inr (
       omega arith,
@@ -78,7 +78,7 @@ name_there {m} {p} {n} octets short within name l = record {
 
 -- a number of two octets, and a name
 pub pair_there : {m : List ℕ} {p n left after : ℕ} → AreOctets m → 2 ≤ n → n < 65536 → p + n ≤ length m → NameEnds m (p + 2) (p + n)
-    → Leaves (NamePointers m (p + 2)) left after → RowThere m p n (free (Number 2) ∷ free Name ∷ []) left after
+    → Leaves (NameSteps m (p + 2)) left after → RowThere m p n (free (Number 2) ∷ free Name ∷ []) left after
 pair_there {m} {p} {n} octets some short within name l =
     let old : Reading = record { message = m; index = p } in
     let between : Reading = record { message = m; index = p + 2 } in
@@ -94,7 +94,7 @@ pair_there {m} {p} {n} octets some short within name l =
           meets = tt;
         };
       };
-      pointers = (
+      steps = (
         l.0,
         inr (
           omega arith,
@@ -122,7 +122,7 @@ content_there {m} {f} {left} {after} t is read some there =
     let has : HasNoData f.record_type f.class f.rdlength → ⊥ = λ none. omega (arith, none.empty, some) in
     record {
       told = (has, rw is (row_value_is m f.rdata f.rdlength t read there.fills));
-      pointers = (there.pointers.0, inr (has, rw is there.pointers.1), there.pointers.2);
+      steps = (there.steps.0, inr (has, rw is there.steps.1), there.steps.2);
     }
 
 -- a type that is a name alone
@@ -130,7 +130,7 @@ abbrev pub of_name : ℕ → Type 0
 of_name n = (n ≡ 2) ⊎ (n ≡ 5) ⊎ (n ≡ 12)
 
 pub name_content : {m : List ℕ} {f : FixedFields} {left after : ℕ} → of_name f.record_type → AreOctets m → f.rdlength < 65536
-    → f.rdata + f.rdlength ≤ length m → 0 < f.rdlength → NameEnds m f.rdata (f.rdata + f.rdlength) → Leaves (NamePointers m f.rdata) left after
+    → f.rdata + f.rdlength ≤ length m → 0 < f.rdlength → NameEnds m f.rdata (f.rdata + f.rdlength) → Leaves (NameSteps m f.rdata) left after
     → PassesRData m f left after
 name_content (inl is) octets short within some name l =
     content_there types.NS (ap record_type_of is) (λ never. never) some (name_there octets short within name l)

@@ -4,8 +4,8 @@ use Rattle.std.proofs.lemmas.List.{length_push}
 use Rattle.dns_message.specs.Entries.{Follow}
 use Rattle.dns_message.specs.{Questions.IsQuestion, Records.IsRecord}
 use Rattle.dns_message.specs.{Readings.question_of, Readings.IsAsked, Readings.record_of, Readings.IsFound}
-use Rattle.dns_view.specs.Pointers.{NamePointers}
-use Rattle.dns_message.specs.Pointers.{SumOf, OfQuestion, OfOwner, Takes}
+use Rattle.dns_view.specs.Steps.{NameSteps}
+use Rattle.dns_message.specs.Steps.{SumOf, OfQuestion, OfOwner, Takes}
 use Rattle.dns_message.specs.Starts.{AskedWithin, FoundWithin, BreaksAsked, BreaksFound, BreaksAfter}
 use Rattle.dns_message.specs.{Stops.IsQuestionStop, Stops.IsOwnerStop, Headers.IsPlace}
 use Rattle.dns_message.specs.declared.{reading.Asked.Asked, reading.FixedFields.FixedFields, header.Header.Header}
@@ -27,25 +27,25 @@ sum_push Claim (y ∷ ys) x k j s c = (s.0, s.1 + j, s.2, sum_push Claim ys x s.
 
 pub asked_none : (m : List ℕ) (left : ℕ) → 0 < left → AskedWithin m 0 left left 12
 asked_none m left some = record {
-  pointers = 0;
+  steps = 0;
   before = record { questions = []; from = record { many = refl; follow = refl }; followed = refl };
   within = some;
   after_is = omega arith;
 }
 
-pub asked_more : {m : List ℕ} {n p left middle after : ℕ} (a : Asked) → AskedWithin m n left middle p → IsAsked m p a → Takes (NamePointers m p) middle after
+pub asked_more : {m : List ℕ} {n p left middle after : ℕ} (a : Asked) → AskedWithin m n left middle p → IsAsked m p a → Takes (NameSteps m p) middle after
     → AskedWithin m (n + 1) left after a.end
 asked_more {m} {n} {p} {left} {middle} {after} a w is t =
     let b = w.before in
     record {
-      pointers = w.pointers + t.0;
+      steps = w.steps + t.0;
       before = record {
         questions = b.questions ++ question_of p is.name a ∷ [];
         from = record {
           many = length_push b.questions (question_of p is.name a) ∙ ap (λ (k : ℕ). k + 1) b.from.many;
           follow = follow_push (IsQuestion m) 12 b.questions p (question_of p is.name a) a.end b.from.follow is.is;
         };
-        followed = sum_push (OfQuestion m) b.questions (question_of p is.name a) w.pointers t.0 b.followed t.1;
+        followed = sum_push (OfQuestion m) b.questions (question_of p is.name a) w.steps t.0 b.followed t.1;
       };
       within = omega (arith, w.within, w.after_is, t.2);
       after_is = omega (arith, w.after_is, t.3);
@@ -59,7 +59,7 @@ pub asked_breaks : {m : List ℕ} {i p left middle : ℕ} (n : ℕ) (fault : Fau
     → BreaksAsked m n left (record { section = sections.Question; index = i; offset = p; fault = fault })
 asked_breaks {m} {i} {p} n fault few w stop = record {
   few = few;
-  pointers = w.pointers;
+  steps = w.steps;
   before = w.before;
   within = w.within;
   why = record { section = refl; index = refl; offset = refl; why = subst (λ (x : ℕ). IsQuestionStop m p x fault) w.after_is stop };
@@ -69,25 +69,25 @@ asked_breaks {m} {i} {p} n fault few w stop = record {
 
 pub found_none : (m : List ℕ) (p left : ℕ) → 0 < left → FoundWithin m p 0 left left p
 found_none m p left some = record {
-  pointers = 0;
+  steps = 0;
   between = record { records = []; from = record { many = refl; follow = refl }; followed = refl };
   within = some;
   after_is = omega arith;
 }
 
 pub found_more : {m : List ℕ} {first n p left middle after : ℕ} (f : FixedFields) → FoundWithin m first n left middle p → IsFound m p f
-    → Takes (NamePointers m p) middle after → FoundWithin m first (n + 1) left after f.end
+    → Takes (NameSteps m p) middle after → FoundWithin m first (n + 1) left after f.end
 found_more {m} {first} {n} {p} {left} {middle} {after} f w is t =
     let b = w.between in
     record {
-      pointers = w.pointers + t.0;
+      steps = w.steps + t.0;
       between = record {
         records = b.records ++ record_of p is.owner f ∷ [];
         from = record {
           many = length_push b.records (record_of p is.owner f) ∙ ap (λ (k : ℕ). k + 1) b.from.many;
           follow = follow_push (IsRecord m) first b.records p (record_of p is.owner f) f.end b.from.follow is.is;
         };
-        followed = sum_push (OfOwner m) b.records (record_of p is.owner f) w.pointers t.0 b.followed t.1;
+        followed = sum_push (OfOwner m) b.records (record_of p is.owner f) w.steps t.0 b.followed t.1;
       };
       within = omega (arith, w.within, w.after_is, t.2);
       after_is = omega (arith, w.after_is, t.3);
@@ -104,7 +104,7 @@ found_breaks {m} {h} {first} {passed} {p} n fault few place w stop = record {
   passed = passed;
   few = few;
   place = place;
-  pointers = w.pointers;
+  steps = w.steps;
   before = w.between;
   within = w.within;
   why = record { section = refl; index = refl; offset = refl; why = subst (λ (x : ℕ). IsOwnerStop m p x fault) w.after_is stop };
@@ -115,7 +115,7 @@ pub breaks_after : {m : List ℕ} {h : Header} {first n left middle : ℕ} {e : 
     → BreaksFound m h first n middle e → BreaksAfter m h n left e
 breaks_after {m} {h} {first} {n} {left} {middle} {e} a b = record {
   first = first;
-  pointers = a.pointers;
+  steps = a.steps;
   asked = a.before;
   within = a.within;
   breaks = subst (λ (x : ℕ). BreaksFound m h first n x e) a.after_is b;

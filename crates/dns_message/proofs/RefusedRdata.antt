@@ -5,8 +5,8 @@ use Rattle.dns_types.specs.{declared.record_type.RecordType.RecordType, declared
 use Rattle.dns_types.specs.declared.error.DecodeError.TheVariants as decode
 use Rattle.dns_names_wire.specs.State.{Reading}
 use Rattle.dns_rdata.specs.{Data.NoValue, ReadErrors.IsReadError, Views.IsViewOf, declared.view.RDataRef.RDataRef}
-use Rattle.dns_view.specs.Pointers.{Leaves}
-use Rattle.dns_rdata.specs.Pointers.{RDataPointers}
+use Rattle.dns_view.specs.Steps.{Leaves}
+use Rattle.dns_rdata.specs.Steps.{RDataSteps}
 use Rattle.dns_message.specs.Items.{IsRefusedAt}
 
 -- by a decoder that begins at q
@@ -24,8 +24,8 @@ refused_at m q n t (Err e) d new is none why memory = record {
   memory = memory;
 }
 
--- what is left after the compression pointers that are followed there
+-- what is left after the compression steps that are taken there
 pub leaves_at : (m : List ℕ) (q n k : ℕ) (t : RecordType) (d : Reading) (left after : ℕ) → d ≡ record { message = m; index = q } → n ≡ k
-    → Leaves (RDataPointers t n d) left after → Leaves (RDataPointers t k (record { message = m; index = q })) left after
-leaves_at m q n k t d left after is same h = subst (λ (x : Reading). Leaves (RDataPointers t k x) left after) is
-    (subst (λ (x : ℕ). Leaves (RDataPointers t x d) left after) same h)
+    → Leaves (RDataSteps t n d) left after → Leaves (RDataSteps t k (record { message = m; index = q })) left after
+leaves_at m q n k t d left after is same h = subst (λ (x : Reading). Leaves (RDataSteps t k x) left after) is
+    (subst (λ (x : ℕ). Leaves (RDataSteps t x d) left after) same h)

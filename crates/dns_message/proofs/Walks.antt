@@ -2,7 +2,7 @@
 use Rattle.std.proofs.Common.{◌≡◌, ℕ, suc, ◌+◌, ◌-◌, ◌≤◌, ◌<◌, ◌⊎◌, inl, inr, List, [], ◌∷◌, length, None, Err, refl, sym, ap, subst, arith}
 use Rattle.std.specs.Iterator.{Drains, Yields}
 use Rattle.dns_message.specs.declared.header.Header.{Header}
-use Rattle.dns_message.specs.{State.Walking, Items.Item, Pointers.SumOf, Pointers.OfRecord, Pointers.RecordPointers}
+use Rattle.dns_message.specs.{State.Walking, Items.Item, Steps.SumOf, Steps.OfRecord, Steps.RecordSteps}
 use Rattle.dns_message.specs.Walks.{NextRecord, PassesRecord, StopsAtRecord, AreItems, EndsWalk, WalkGives}
 
 -- after the last item there is none
@@ -13,7 +13,7 @@ no_more j (x ∷ xs) e done y = absurd (none y.1.is) where
   none (inl p) = let left = p.left in omega arith
   none (inr p) = let left = p.left in omega arith
 
--- the state after a record that ends at an offset and follows so many compression pointers
+-- the state after a record that ends at an offset and takes so many steps
 abbrev beyond : Walking → ℕ → ℕ → Walking
 beyond s end k =
     record { message = s.message; header = s.header; offset = end; passed = s.passed + 1; until = s.until; left = s.left - k }
@@ -27,10 +27,10 @@ ended_as s n k end left other rest e f w =
 
 walk_more : (s : Walking) (x : Item) (j : Walking) (xs : List Item) → PassesRecord s x j → WalkGives j xs → WalkGives s (x ∷ xs)
 walk_more s x j xs p w =
-    let v : WalkGives (beyond s j.offset p.pointers) xs = subst (λ (t : Walking). WalkGives t xs) p.after w in
-    let here : SumOf (OfRecord s.message) (p.is.entry ∷ v.records) (p.pointers + v.pointers) =
-    (p.pointers, v.pointers, subst (λ (q : ℕ). RecordPointers s.message q p.pointers) (sym p.is.is.fields.starts) p.followed, v.followed, refl) in
-    let less : s.left - p.pointers - v.pointers ≡ s.left - (p.pointers + v.pointers) = omega arith in
+    let v : WalkGives (beyond s j.offset p.steps) xs = subst (λ (t : Walking). WalkGives t xs) p.after w in
+    let here : SumOf (OfRecord s.message) (p.is.entry ∷ v.records) (p.steps + v.steps) =
+    (p.steps, v.steps, subst (λ (q : ℕ). RecordSteps s.message q p.steps) (sym p.is.is.fields.starts) p.followed, v.followed, refl) in
+    let less : s.left - p.steps - v.steps ≡ s.left - (p.steps + v.steps) = omega arith in
     let one : s.passed + 1 ≡ suc s.passed = omega arith in
     let all : s.passed + 1 + length v.records ≡ s.passed + length (p.is.entry ∷ v.records) = omega arith in
     let others : AreItems s.message s.header (suc s.passed) v.records v.given =
@@ -39,7 +39,7 @@ walk_more s x j xs p w =
       records = p.is.entry ∷ v.records;
       end = v.end;
       found = record { many = refl; follow = (j.offset, p.is.is, v.found.follow) };
-      pointers = p.pointers + v.pointers;
+      steps = p.steps + v.steps;
       followed = here;
       few = omega (arith, p.within, v.few);
       given = x ∷ v.given;
@@ -47,7 +47,7 @@ walk_more s x j xs p w =
       rest = v.rest;
       split = ap (λ (l : List Item). x ∷ l) v.split;
       ends = ended_as s (s.passed + 1 + length v.records) (s.passed + length (p.is.entry ∷ v.records)) v.end
-          (s.left - p.pointers - v.pointers) (s.left - (p.pointers + v.pointers)) v.rest all less v.ends;
+          (s.left - p.steps - v.steps) (s.left - (p.steps + v.steps)) v.rest all less v.ends;
     }
 
 walk_stops : (s : Walking) (x : Item) (xs : List Item) (t : Walking) → StopsAtRecord s x t → xs ≡ [] → WalkGives s (x ∷ xs)
@@ -61,7 +61,7 @@ walk_stops s x xs t p none =
       records = [];
       end = s.offset;
       found = record { many = refl; follow = refl };
-      pointers = 0;
+      steps = 0;
       followed = refl;
       few = omega arith;
       given = [];
@@ -77,7 +77,7 @@ walk_done s done = record {
   records = [];
   end = s.offset;
   found = record { many = refl; follow = refl };
-  pointers = 0;
+  steps = 0;
   followed = refl;
   few = omega arith;
   given = [];
@@ -111,7 +111,7 @@ walk_gives (x ∷ xs) s e u order y last =
 pub walk_drains : (s : Walking) → s.passed ≤ s.until → (xs : List Item) → Drains NextRecord s xs → WalkGives s xs
 walk_drains s order xs d = walk_gives xs s d.1.0 d.0 order d.1.1 d.1.2
 
--- two states with as many compression pointers left
+-- two states with as many steps left
 pub left_as : {m : List ℕ} {h : Header} {p n u l k : ℕ} → l ≡ k
     → (let s : Walking = record { message = m; header = h; offset = p; passed = n; until = u; left = l } in s)
     ≡ record { message = m; header = h; offset = p; passed = n; until = u; left = k }

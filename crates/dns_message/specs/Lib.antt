@@ -2,7 +2,7 @@ pub mod Entries
 pub mod Headers
 pub mod Questions
 pub mod Records
-pub mod Pointers
+pub mod Steps
 pub mod Stops
 pub mod Readings
 pub mod State

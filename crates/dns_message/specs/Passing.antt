@@ -5,8 +5,8 @@ use Rattle.dns_rdata.specs.Data.{HasValue}
 use Rattle.dns_message.specs.declared.{header.Header.Header, error.Fault.Fault, progress.Progress.Progress}
 use Rattle.dns_message.specs.declared.{reading.FixedFields.FixedFields, step.PassedRecord.PassedRecord}
 use Rattle.dns_message.specs.{Headers.IsHeader, Headers.IsPlace, Readings.IsFound, Records.HasNoData, Items.IsRejected}
-use Rattle.dns_view.specs.Pointers.{Leaves}
-use Rattle.dns_message.specs.{Pointers.DataPointers, Pointers.RecordPointers, Pointers.Takes, Stops.IsRecordStop, Starts.NoResume}
+use Rattle.dns_view.specs.Steps.{Leaves}
+use Rattle.dns_message.specs.{Steps.DataSteps, Steps.RecordSteps, Steps.Takes, Stops.IsRecordStop, Starts.NoResume}
 
 -- the record has no data; or it has RDATA of its type; or its RDATA is rejected, for this reason
 abbrev pub TellsContent : List ℕ → FixedFields → Result Bool DecodeError → Type 0
@@ -15,13 +15,13 @@ TellsContent m f (Ok true) =
     (HasNoData f.record_type f.class f.rdlength → ⊥) × HasValue m f.rdata f.rdlength (record_type_of f.record_type)
 TellsContent m f (Err reason) = IsRejected m f.record_type f.class f.rdlength f.rdata reason
 
--- the record has RDATA of its type, and the compression pointers of the RDATA are taken off
+-- the record has RDATA of its type, and the steps of the RDATA are taken off
 pub record PassesRData (m : List ℕ) (f : FixedFields) (left after : ℕ) : Type 0 where
   pub told : TellsContent m f (Ok true)
-  pub pointers : Leaves (DataPointers m f.record_type f.class f.rdlength f.rdata) left after
+  pub steps : Leaves (DataSteps m f.record_type f.class f.rdlength f.rdata) left after
 
 -- a record of this section and index is encoded where the walk was, these are its fields and what is told of its RDATA,
--- and the walk is after it, with its compression pointers taken off
+-- and the walk is after it, with its steps taken off
 pub record PassesTo (m : List ℕ) (old new : Progress) (x : PassedRecord) : Type 0 where
   pub header : Header
   pub is : IsHeader m header
@@ -29,7 +29,7 @@ pub record PassesTo (m : List ℕ) (old new : Progress) (x : PassedRecord) : Typ
   pub left : old.passed < old.until
   pub found : IsFound m old.offset x.fields
   pub told : TellsContent m x.fields x.content
-  pub pointers : Takes (RecordPointers m old.offset) old.left new.left
+  pub steps : Takes (RecordSteps m old.offset) old.left new.left
   pub after : new ≡ record { offset = x.fields.end; passed = old.passed + 1; until = old.until; left = new.left }
 
 -- the walk ends where it was, for this fault

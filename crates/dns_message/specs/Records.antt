@@ -51,7 +51,7 @@ IsRecordFault message offset faults.Name = NoName message offset
 IsRecordFault message offset faults.Truncated = EndsAfterName message offset 10
 IsRecordFault message offset (faults.Length n left) = LengthPasses message offset n left
 IsRecordFault message offset (faults.RData e) = ⊥
-IsRecordFault message offset faults.Pointers = ⊥
+IsRecordFault message offset faults.Limit = ⊥
 
 -- A record of UPDATE that has no data: class NONE or ANY, and RDLENGTH 0 (RFC 2136, 2.4 and 2.5). The class of OPT is
 -- no class (RFC 6891, 6.1.2).

@@ -4,11 +4,11 @@ use Rattle.dns_message.specs.declared.{header.Header.Header, error.RecordError.R
 use Rattle.dns_message.specs.{State.Message, State.Asking, State.Walking}
 use Rattle.dns_message.specs.{Headers.IsHeader, Headers.IsPlace, Headers.record_count}
 use Rattle.dns_message.specs.{Questions.Question, Questions.QuestionsFrom, Records.Record, Records.RecordsFrom}
-use Rattle.dns_message.specs.{Pointers.OfQuestion, Pointers.OfOwner, Pointers.SumOf, Stops.EndsAtQuestion, Stops.EndsAtOwner}
+use Rattle.dns_message.specs.{Steps.OfQuestion, Steps.OfOwner, Steps.SumOf, Stops.EndsAtQuestion, Stops.EndsAtOwner}
 
--- `left` is one more than the compression pointers that may be followed.
+-- `left` is one more than the steps that may be taken.
 
--- so many questions follow the header, and end at p; their names follow so many compression pointers
+-- so many questions follow the header, and end at p; their names take so many steps
 pub record AskedBefore (m : List ℕ) (n p count : ℕ) : Type 0 where
   pub questions : List Question
   pub from : QuestionsFrom m 12 n questions p
@@ -16,12 +16,12 @@ pub record AskedBefore (m : List ℕ) (n p count : ℕ) : Type 0 where
 
 -- they are fewer than are left
 pub record AskedWithin (m : List ℕ) (n left after p : ℕ) : Type 0 where
-  pub pointers : ℕ
-  pub before : AskedBefore m n p pointers
-  pub within : pointers < left
-  pub after_is : after ≡ left - pointers
+  pub steps : ℕ
+  pub before : AskedBefore m n p steps
+  pub within : steps < left
+  pub after_is : after ≡ left - steps
 
--- so many records follow each other from one offset to another; their owners follow so many compression pointers
+-- so many records follow each other from one offset to another; their owners take so many steps
 pub record FoundBetween (m : List ℕ) (first n p count : ℕ) : Type 0 where
   pub records : List Record
   pub from : RecordsFrom m first n records p
@@ -29,13 +29,13 @@ pub record FoundBetween (m : List ℕ) (first n p count : ℕ) : Type 0 where
 
 -- they are fewer than are left
 pub record FoundWithin (m : List ℕ) (first n left after p : ℕ) : Type 0 where
-  pub pointers : ℕ
-  pub between : FoundBetween m first n p pointers
-  pub within : pointers < left
-  pub after_is : after ≡ left - pointers
+  pub steps : ℕ
+  pub between : FoundBetween m first n p steps
+  pub within : steps < left
+  pub after_is : after ≡ left - steps
 
 -- The questions, and so many records after them, end at p. The names of the questions and the owners of the records
--- follow so many compression pointers.
+-- take so many steps.
 pub record Precede (m : List ℕ) (h : Header) (n p count : ℕ) : Type 0 where
   pub first : ℕ
   pub of_questions : ℕ
@@ -44,31 +44,31 @@ pub record Precede (m : List ℕ) (h : Header) (n p count : ℕ) : Type 0 where
   pub found : FoundBetween m first n p of_records
   pub sum : count ≡ of_questions + of_records
 
--- one of so many questions after the header is damaged, or its name follows too many compression pointers
+-- one of so many questions after the header is damaged, or its name takes too many steps
 pub record BreaksAsked (m : List ℕ) (n left : ℕ) (e : RecordError) : Type 0 where
   pub few : e.index < n
-  pub pointers : ℕ
-  pub before : AskedBefore m e.index e.offset pointers
-  pub within : pointers < left
-  pub why : EndsAtQuestion m e.index e.offset (left - pointers) e
+  pub steps : ℕ
+  pub before : AskedBefore m e.index e.offset steps
+  pub within : steps < left
+  pub why : EndsAtQuestion m e.index e.offset (left - steps) e
 
--- one of so many records from an offset on is damaged, or its owner follows too many compression pointers
+-- one of so many records from an offset on is damaged, or its owner takes too many steps
 pub record BreaksFound (m : List ℕ) (h : Header) (first n left : ℕ) (e : RecordError) : Type 0 where
   pub passed : ℕ
   pub few : passed < n
   pub place : IsPlace h passed e.section e.index
-  pub pointers : ℕ
-  pub before : FoundBetween m first passed e.offset pointers
-  pub within : pointers < left
-  pub why : EndsAtOwner m e.section e.index e.offset (left - pointers) e
+  pub steps : ℕ
+  pub before : FoundBetween m first passed e.offset steps
+  pub within : steps < left
+  pub why : EndsAtOwner m e.section e.index e.offset (left - steps) e
 
 -- the same of one of so many records after the questions
 pub record BreaksAfter (m : List ℕ) (h : Header) (n left : ℕ) (e : RecordError) : Type 0 where
   pub first : ℕ
-  pub pointers : ℕ
-  pub asked : AskedBefore m h.question_count first pointers
-  pub within : pointers < left
-  pub breaks : BreaksFound m h first n (left - pointers) e
+  pub steps : ℕ
+  pub asked : AskedBefore m h.question_count first steps
+  pub within : steps < left
+  pub breaks : BreaksFound m h first n (left - steps) e
 
 -- the walk cannot begin: it ends at a question, or at one of so many records after the questions
 abbrev pub Breaks : List ℕ → Header → ℕ → ℕ → RecordError → Type 0
@@ -81,16 +81,16 @@ pub record BreaksIn (m : Message) (count : Header → ℕ) (e : RecordError) : T
   pub breaks : Breaks m.octets header (count header) (m.limit + 1) e
 
 -- A walk over the records of a message with this header: so many are passed, and it goes on until so many are. The
--- compression pointers of the questions and of the owners of the records before are taken off what is left.
+-- steps of the questions and of the owners of the records before are taken off what is left.
 pub record BeginsAt (m : List ℕ) (left : ℕ) (h : Header) (from until : ℕ) (s : Walking) : Type 0 where
   pub message : s.message ≡ m
   pub header : s.header ≡ h
   pub passed : s.passed ≡ from
   pub ends : s.until ≡ until
-  pub pointers : ℕ
-  pub precede : Precede m h from s.offset pointers
-  pub within : pointers < left
-  pub left_is : s.left ≡ left - pointers
+  pub steps : ℕ
+  pub precede : Precede m h from s.offset steps
+  pub within : steps < left
+  pub left_is : s.left ≡ left - steps
 
 -- the same for the header and the limit of the message
 pub record Begins (m : Message) (from until : Header → ℕ) (s : Walking) : Type 0 where

@@ -2,13 +2,13 @@
 use Rattle.std.specs.Prelude.{ℕ, List}
 use Rattle.dns_message.specs.declared.header.Header.{Header}
 
--- The octets of a message, and how many compression pointers one walk over its records may follow.
+-- The octets of a message, and how many steps one walk over its records may take.
 pub record Message : Type 0 where
   pub octets : List ℕ
   pub limit : ℕ
 
 -- The message, the offset of the next question, how many questions precede it, and how many there are until the end.
--- `left` is one more than the compression pointers that may still be followed: the walk ends when it is 0.
+-- `left` is one more than the steps that may still be taken: the walk ends when it is 0.
 pub record Asking : Type 0 where
   pub message : List ℕ
   pub offset : ℕ

@@ -1,28 +1,28 @@
--- Why a walk ends at a question or a record: it is damaged, or too many compression pointers were followed.
+-- Why a walk ends at a question or a record: it is damaged, or too many steps were taken.
 use Rattle.std.specs.Prelude.{◌≡◌, ℕ, ◌⊎◌, List}
-use Rattle.dns_view.specs.Pointers.{NamePointers}
+use Rattle.dns_view.specs.Steps.{NameSteps}
 use Rattle.dns_message.specs.declared.{error.Fault.Fault, error.Section.Section, error.RecordError.RecordError}
 use Rattle.dns_message.specs.declared.error.Fault.TheVariants as faults
 use Rattle.dns_message.specs.declared.error.Section.TheVariants as sections
 use Rattle.dns_message.specs.{Questions.NoQuestion, Questions.IsQuestionFault, Records.NoRecord, Records.IsRecordFault}
-use Rattle.dns_message.specs.Pointers.{RecordPointers, Within, Exceeds}
+use Rattle.dns_message.specs.Steps.{RecordSteps, Within, Exceeds}
 
--- `left` is one more than the compression pointers that may still be followed.
+-- `left` is one more than the steps that may still be taken; a step is a label or a compression pointer.
 
 -- at the question that would start at p
 abbrev pub IsQuestionStop : List ℕ → ℕ → ℕ → Fault → Type 0
-IsQuestionStop m p left faults.Pointers = Exceeds (NamePointers m p) left
-IsQuestionStop m p left fault = NoQuestion m p × IsQuestionFault m p fault × Within (NamePointers m p) left
+IsQuestionStop m p left faults.Limit = Exceeds (NameSteps m p) left
+IsQuestionStop m p left fault = NoQuestion m p × IsQuestionFault m p fault × Within (NameSteps m p) left
 
 -- at the record that would start at p, before its RDATA is looked at
 abbrev pub IsOwnerStop : List ℕ → ℕ → ℕ → Fault → Type 0
-IsOwnerStop m p left faults.Pointers = Exceeds (NamePointers m p) left
-IsOwnerStop m p left fault = NoRecord m p × IsRecordFault m p fault × Within (NamePointers m p) left
+IsOwnerStop m p left faults.Limit = Exceeds (NameSteps m p) left
+IsOwnerStop m p left fault = NoRecord m p × IsRecordFault m p fault × Within (NameSteps m p) left
 
--- the same, or its owner and its RDATA together follow too many
+-- the same, or its owner and its RDATA together take too many
 abbrev pub IsRecordStop : List ℕ → ℕ → ℕ → Fault → Type 0
 IsRecordStop m p left fault = IsOwnerStop m p left fault
-    ⊎ ((fault ≡ faults.Pointers) × Exceeds (RecordPointers m p) left)
+    ⊎ ((fault ≡ faults.Limit) × Exceeds (RecordSteps m p) left)
 
 -- the error names the question of this index, which would start at p, and why the walk ends there
 pub record EndsAtQuestion (m : List ℕ) (i p left : ℕ) (e : RecordError) : Type 0 where

@@ -3,10 +3,10 @@ use Rattle.std.specs.Prelude.{◌≡◌, ℕ, suc, ◌+◌, ◌-◌, ◌<◌, �
 use Rattle.dns_message.specs.declared.{header.Header.Header, error.Section.Section, error.RecordError.RecordError}
 use Rattle.dns_message.specs.{State.Walking, Headers.IsPlace}
 use Rattle.dns_message.specs.Records.{Record, RecordsFrom}
-use Rattle.dns_message.specs.{Pointers.RecordPointers, Pointers.OfRecord, Pointers.SumOf, Stops.EndsAtRecord}
+use Rattle.dns_message.specs.{Steps.RecordSteps, Steps.OfRecord, Steps.SumOf, Stops.EndsAtRecord}
 use Rattle.dns_message.specs.Items.{Item, IsItem, GivesRecord}
 
--- A record is there, it follows fewer compression pointers than are left, and it or the error of its RDATA is given.
+-- A record is there, it takes fewer steps than are left, and it or the error of its RDATA is given.
 -- The walk goes on after it, with so many fewer.
 pub record PassesRecord (s : Walking) (x : Item) (t : Walking) : Type 0 where
   pub section : Section
@@ -14,19 +14,19 @@ pub record PassesRecord (s : Walking) (x : Item) (t : Walking) : Type 0 where
   pub place : IsPlace s.header s.passed section index
   pub left : s.passed < s.until
   pub is : GivesRecord s.message section index s.offset t.offset x
-  pub pointers : ℕ
-  pub followed : RecordPointers s.message s.offset pointers
-  pub within : pointers < s.left
+  pub steps : ℕ
+  pub followed : RecordSteps s.message s.offset steps
+  pub within : steps < s.left
   pub after : t ≡ record {
     message = s.message;
     header = s.header;
     offset = t.offset;
     passed = s.passed + 1;
     until = s.until;
-    left = s.left - pointers;
+    left = s.left - steps;
   }
 
--- none is there, or it follows too many, and the walk ends
+-- none is there, or it takes too many, and the walk ends
 pub record StopsAtRecord (s : Walking) (x : Item) (t : Walking) : Type 0 where
   pub section : Section
   pub index : ℕ
@@ -65,8 +65,7 @@ AreItems m h n [] [] = Unit {0}
 AreItems m h n (r ∷ rs) (x ∷ xs) = IsItemFor m h n r x × AreItems m h (suc n) rs xs
 AreItems m h n rs xs = ⊥
 
--- the last item is an error: the record that n records precede would be at p, and is not, or it follows too many
--- compression pointers
+-- the last item is an error: the record that n records precede would be at p, and is not, or it takes too many steps
 pub record EndsWalk (m : List ℕ) (h : Header) (n p left : ℕ) (xs : List Item) : Type 0 where
   pub section : Section
   pub index : ℕ
@@ -76,19 +75,19 @@ pub record EndsWalk (m : List ℕ) (h : Header) (n p left : ℕ) (xs : List Item
   pub why : EndsAtRecord m section index p left error
 
 -- All that a walk gives from a state on: an item for each of the records that follow each other, and then nothing if
--- they are as many as were left, and else one error, since the next record is damaged or follows too many compression
--- pointers. All records that are given follow together no more than the walk may.
+-- they are as many as were left, and else one error, since the next record is damaged or takes too many steps. All
+-- records that are given take together no more than the walk may.
 pub record WalkGives (s : Walking) (items : List Item) : Type 0 where
   pub records : List Record
   pub end : ℕ
   pub found : RecordsFrom s.message s.offset (length records) records end
-  pub pointers : ℕ
-  pub followed : SumOf (OfRecord s.message) records pointers
-  pub few : pointers ≤ s.left - 1
+  pub steps : ℕ
+  pub followed : SumOf (OfRecord s.message) records steps
+  pub few : steps ≤ s.left - 1
   pub given : List Item
   pub each : AreItems s.message s.header s.passed records given
   pub rest : List Item
   pub split : items ≡ given ++ rest
   pub ends : ((rest ≡ []) × (s.passed + length records ≡ s.until))
       ⊎ ((s.passed + length records < s.until)
-      × EndsWalk s.message s.header (s.passed + length records) end (s.left - pointers) rest)
+      × EndsWalk s.message s.header (s.passed + length records) end (s.left - steps) rest)

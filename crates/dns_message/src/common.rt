@@ -2,7 +2,7 @@
 
 ghost use Rattle.std.specs.Prelude.{◌≡◌, ◌+◌, ◌≤◌, length};
 ghost use Rattle.std.specs.Bool.{OnTrue, OnFalse};
-ghost use Rattle.dns_view.specs.{NameEnds.NameEnds, Pointers.NamePointers, Pointers.Leaves};
+ghost use Rattle.dns_view.specs.{NameEnds.NameEnds, Steps.NameSteps, Steps.Leaves};
 ghost use Rattle.dns_message.specs.Passing.{PassesRData};
 
 use crate::reading::FixedFields;
@@ -23,7 +23,7 @@ const MX: u16 = 15;
 const AAAA: u16 = 28;
 
 // Returns `true` if the type of a record is a common one and its RDATA is as the type asks, and subtracts from `left` how many
-// compression pointers the RDATA has; it stops at 0. `false` leaves `left` unchanged, and says nothing about the record.
+// steps the RDATA has; it stops at 0. `false` leaves `left` unchanged, and says nothing about the record.
 #[inline]
 pub(crate) fn has_common_rdata(message: &[u8], fields: &FixedFields, left: &mut usize) -> bool
     requires { fields.now.rdata + fields.now.rdlength ≤ length message.now }

@@ -55,10 +55,10 @@ pub enum Fault {
         /// How many octets of the message follow RDLENGTH.
         left: usize,
     },
-    /// The names of the walk follow more compression pointers (RFC 1035, section 4.1.4) than its limit allows. See
+    /// The names of the walk have more labels and compression pointers (RFC 1035, section 4.1.4) than its limit allows. See
     /// [`with_limit`](crate::MessageRef::with_limit).
-    #[error("more compression pointers than the limit")]
-    Pointers,
+    #[error("more labels and compression pointers than the limit")]
+    Limit,
     /// The RDATA is rejected, for this reason.
     #[error("{0}")]
     RData(DecodeError),

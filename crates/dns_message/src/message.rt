@@ -18,8 +18,8 @@ use crate::sections::{position_of, records_in};
 use crate::step::{PassedRecord, pass_record};
 use std::marker::Model;
 
-// How many compression pointers a walk follows at most, if the caller sets no other limit.
-const DEFAULT_LIMIT: u32 = 65_536;
+// How many steps a walk takes at most, if the caller sets no other limit.
+const DEFAULT_LIMIT: u32 = 262_144;
 
 /// A message with a whole header. What follows the header is looked at by the iterators.
 #[derive(Drop)]
@@ -46,7 +46,7 @@ impl<'a> MessageRef<'a> {
     ///
     /// [`Truncated`](MessageError::Truncated): the octets are fewer than the twelve of the header.
     pub fn read(octets: &'a [u8]) -> Result<MessageRef<'a>, MessageError>
-        ensures found { IfOk result (λ m. m ≡ record { octets = octets.now; limit = 65536 }) }
+        ensures found { IfOk result (λ m. m ≡ record { octets = octets.now; limit = 262144 }) }
         ensures header { OnOk result (HasHeader octets.now) }
         ensures refused { IfErr result (λ e. (e ≡ MessageError.Truncated (length octets.now)) × (length octets.now < 12)) }
         ensures none { IfErr result (λ e. HasHeader octets.now → ⊥) }
@@ -62,13 +62,14 @@ impl<'a> MessageRef<'a> {
         })
     }
 
-    /// The same message with another limit: how many compression pointers (RFC 1035, section 4.1.4) one walk over its
-    /// questions or records may follow. The limit of a message that was read is 65,536.
+    /// The same message with another limit: how many steps one walk over its questions or records may take. A step is a label
+    /// or a compression pointer of a name (RFC 1035, sections 3.1 and 4.1.4). The limit of a message that was read is 262,144.
     ///
-    /// The names in a hostile message of 64 KiB can follow the same 8,000 pointers some 4,000 times. A walk counts a pointer each
-    /// time that another name follows it, and ends with [`Pointers`](crate::Fault::Pointers) at the record with which the count
-    /// passes the limit. Names in RDATA that is rejected are gone over up to three times ([`step`](MessageRef::step)) and counted
-    /// once. So a walk follows at most three times the limit, and three times the pointers of one record.
+    /// The names in a hostile message of 64 KiB can follow the same 8,000 pointers, or lead to the same 127 labels, some 4,000
+    /// times. A walk counts labels and pointers each time that another name goes over them, and ends with
+    /// [`Limit`](crate::Fault::Limit) at the record with which the count passes the limit. Names in RDATA that is rejected are
+    /// gone over up to three times ([`step`](MessageRef::step)) and counted once. So a walk takes at most three times the limit,
+    /// and three times the steps of one record.
     #[inline]
     pub fn with_limit(&self, limit: u32) -> MessageRef<'a>
         ensures { result ≡ record { octets = self.now.octets; limit = limit } }
@@ -79,7 +80,7 @@ impl<'a> MessageRef<'a> {
         }
     }
 
-    /// How many compression pointers one walk may count: see [`with_limit`](MessageRef::with_limit).
+    /// How many steps one walk may take: see [`with_limit`](MessageRef::with_limit).
     #[inline]
     pub fn limit(&self) -> u32
         ensures { result ≡ self.now.limit }
@@ -105,7 +106,7 @@ impl<'a> MessageRef<'a> {
     /// The questions, as many as the header says (RFC 1035, section 4.1.2). Allocates nothing.
     ///
     /// A question that is damaged gives one error, and it is the last item. So does one with which the names of the
-    /// questions follow more compression pointers than the limit.
+    /// questions take more steps than the limit.
     pub fn questions(&self) -> Questions<'a>
         ensures begins { BeginsAsking self.now result }
         ensures all { (xs : List AskedItem) → Drains NextQuestion result xs → AsksGive result xs }
@@ -121,7 +122,7 @@ impl<'a> MessageRef<'a> {
     ///
     /// # Errors
     ///
-    /// A question is damaged, or the names of the questions follow more compression pointers than the limit: the
+    /// A question is damaged, or the names of the questions take more steps than the limit: the
     /// section, index and offset of the question, and what is wrong.
     pub fn records(&self) -> Result<Records<'a>, RecordError>
         ensures begins { IfOk result (Begins self.now (λ h. 0) record_count) }
@@ -162,7 +163,7 @@ impl<'a> MessageRef<'a> {
     /// # Errors
     ///
     /// A question is damaged, or the owner, the fixed fields or RDLENGTH of an answer; or the names of the questions
-    /// and the owners of the answers follow more compression pointers than the limit: the section, index and offset
+    /// and the owners of the answers take more steps than the limit: the section, index and offset
     /// where that is, and what is wrong.
     pub fn authorities(&self) -> Result<Records<'a>, RecordError>
         ensures begins { IfOk result (Begins self.now (λ h. h.answer_count) (λ h. h.answer_count + h.authority_count)) }
@@ -188,7 +189,7 @@ impl<'a> MessageRef<'a> {
     /// # Errors
     ///
     /// A question is damaged, or the owner, the fixed fields or RDLENGTH of an answer or an authority; or the names of
-    /// the questions and the owners of these records follow more compression pointers than the limit: the section,
+    /// the questions and the owners of these records take more steps than the limit: the section,
     /// index and offset where that is, and what is wrong.
     pub fn additionals(&self) -> Result<Records<'a>, RecordError>
         ensures begins { IfOk result (Begins self.now (λ h. h.answer_count + h.authority_count) record_count) }
@@ -222,11 +223,11 @@ impl<'a> MessageRef<'a> {
     ///
     /// Returns `None` if no record is left, or if no walk can be there, as for `resume`; `progress` is then unchanged. A
     /// record whose RDATA is rejected is passed. The names in its RDATA are then gone over twice, and the name of a CNAME, MX,
-    /// NS or PTR record up to three times; their compression pointers are counted once.
+    /// NS or PTR record up to three times; their steps are counted once.
     ///
     /// # Errors
     ///
-    /// The owner, the fixed fields or RDLENGTH of the record are damaged, or it follows more compression pointers than
+    /// The owner, the fixed fields or RDLENGTH of the record are damaged, or it takes more steps than
     /// are left. The walk has ended: `until` is set to `passed`, and all else is unchanged.
     pub fn step(&self, progress: &mut Progress) -> Option<Result<PassedRecord, Fault>>
         ensures { StepsTo self.now.octets progress.old result progress.new }

@@ -11,7 +11,7 @@ pub struct Progress {
     pub passed: usize,
     /// The walk ends when so many records are passed.
     pub until: usize,
-    /// One more than the compression pointers that may still be followed. If it is 0, no further record is returned.
-    /// The error [`Pointers`](crate::Fault::Pointers) leaves it unchanged, and sets `until` to `passed`.
+    /// One more than the steps that may still be taken. If it is 0, no further record is returned.
+    /// The error [`Limit`](crate::Fault::Limit) leaves it unchanged, and sets `until` to `passed`.
     pub left: usize,
 }

@@ -54,8 +54,8 @@ fn question_at<'a>(message: &'a [u8], index: usize, offset: usize, asked: Asked)
 
 /// The questions of a message, one after the other. Allocates nothing.
 ///
-/// A question that is damaged gives one error, and it is the last item. So does one whose name follows more compression
-/// pointers than the limit of the message leaves.
+/// A question that is damaged gives one error, and it is the last item. So does one whose name has more labels and
+/// compression pointers than the limit of the message leaves.
 #[derive(Drop)]
 pub struct Questions<'a> {
     message: &'a [u8],
@@ -133,7 +133,7 @@ impl<'a> Iterator for Questions<'a> {
     }
 }
 
-// Goes over the questions of a message, and returns the offset where they end. Subtracts the compression pointers of
+// Goes over the questions of a message, and returns the offset where they end. Subtracts the steps of
 // their names from `left`, which stops at 0.
 pub(crate) fn skip_questions(
     message: &[u8],

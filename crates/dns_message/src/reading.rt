@@ -1,8 +1,8 @@
 //! What is read of one question and of one record.
 
 ghost use Rattle.std.specs.Prelude.{◌≡◌, ◌+◌, ◌≤◌, length, IfOk, IfErr, IfSome, IfNone, OnOk};
-ghost use Rattle.dns_view.specs.{NameEnds.NameEnds, Pointers.NamePointers};
-ghost use Rattle.dns_message.specs.{Pointers.Takes, Stops.IsQuestionStop, Stops.IsOwnerStop};
+ghost use Rattle.dns_view.specs.{NameEnds.NameEnds, Steps.NameSteps};
+ghost use Rattle.dns_message.specs.{Steps.Takes, Stops.IsQuestionStop, Stops.IsOwnerStop};
 ghost use Rattle.dns_message.specs.Questions.{NoQuestion, IsQuestionFault};
 ghost use Rattle.dns_message.specs.Records.{NoRecord, IsRecordFault};
 ghost use Rattle.dns_message.specs.Readings.{IsAsked, IsFound};
@@ -64,18 +64,18 @@ fn read_asked(message: &[u8], offset: usize, end: usize) -> Result<Asked, Fault>
     })
 }
 
-// Reads the question at an offset (RFC 1035, section 4.1.2), and subtracts the compression pointers of its name from
+// Reads the question at an offset (RFC 1035, section 4.1.2), and subtracts the steps of its name from
 // `left`, which stops at 0.
 pub(crate) fn read_question(message: &[u8], offset: usize, left: &mut usize) -> Result<Asked, Fault>
     requires { offset ≤ length message.now }
     ensures found { IfOk result (IsAsked message.now offset) }
     ensures inside { IfOk result (λ q. q.end ≤ length message.now) }
-    ensures within { OnOk result (Takes (NamePointers message.now offset) left.old left.new) }
+    ensures within { OnOk result (Takes (NameSteps message.now offset) left.old left.new) }
     ensures stopped { IfErr result (IsQuestionStop message.now offset left.old) }
 {
     let name = pass_name(message, offset, left);
     if *left == 0 {
-        return Err(Fault::Pointers);
+        return Err(Fault::Limit);
     }
     match name {
         Some(end) => read_asked(message, offset, end),
@@ -119,7 +119,7 @@ fn read_fixed(message: &[u8], offset: usize, end: usize) -> Result<FixedFields, 
 }
 
 // Reads the record at an offset (RFC 1035, section 4.1.3), all but its RDATA, of which it only tells where it is. Subtracts
-// the compression pointers of its owner from `left`, which stops at 0.
+// the steps of its owner from `left`, which stops at 0.
 pub(crate) fn read_record(
     message: &[u8],
     offset: usize,
@@ -128,12 +128,12 @@ pub(crate) fn read_record(
     requires { offset ≤ length message.now }
     ensures found { IfOk result (IsFound message.now offset) }
     ensures inside { IfOk result (λ r. (r.rdata ≤ length message.now) × (r.end ≤ length message.now)) }
-    ensures within { OnOk result (Takes (NamePointers message.now offset) left.old left.new) }
+    ensures within { OnOk result (Takes (NameSteps message.now offset) left.old left.new) }
     ensures stopped { IfErr result (IsOwnerStop message.now offset left.old) }
 {
     let owner = pass_name(message, offset, left);
     if *left == 0 {
-        return Err(Fault::Pointers);
+        return Err(Fault::Limit);
     }
     match owner {
         Some(end) => read_fixed(message, offset, end),

@@ -3,9 +3,9 @@
 ghost use Rattle.std.specs.Prelude.{◌≡◌, ◌≢◌, ◌≤◌, ◌↔◌, IsTrue, length, IfOk, IfErr, OnOk, MatchOption};
 ghost use Rattle.dns_rdata.specs.{Views.IsViewOf};
 ghost use Rattle.dns_message.specs.OptRecords.{IsEdns};
-ghost use Rattle.dns_view.specs.Pointers.{Leaves};
-ghost use Rattle.dns_rdata.specs.Pointers.{RDataPointers};
-ghost use Rattle.dns_message.specs.{Pointers.DataPointers, Pointers.RecordPointers, Pointers.Takes, Stops.IsRecordStop};
+ghost use Rattle.dns_view.specs.Steps.{Leaves};
+ghost use Rattle.dns_rdata.specs.Steps.{RDataSteps};
+ghost use Rattle.dns_message.specs.{Steps.DataSteps, Steps.RecordSteps, Steps.Takes, Stops.IsRecordStop};
 ghost use Rattle.dns_message.specs.{Readings.IsFound, Records.HasNoData, Items.IsDataOf, Items.IsRefusedAt, Items.IsRejected, Items.GivesRecord};
 
 use crate::edns::{Edns, edns_of};
@@ -88,7 +88,7 @@ fn has_no_data(record_type: u16, class: u16, rdlength: u16) -> bool
     }
 }
 
-// Checks the RDATA at an offset, and subtracts its compression pointers from `left`, which stops at 0.
+// Checks the RDATA at an offset, and subtracts its steps from `left`, which stops at 0.
 fn read_rdata<'a>(
     message: &'a [u8],
     record_type: RecordType,
@@ -99,7 +99,7 @@ fn read_rdata<'a>(
     requires { rdata ≤ length message.now }
     ensures found { IfOk result (IsViewOf message.now rdata rdlength record_type) }
     ensures refused { IfErr result (IsRefusedAt message.now rdata rdlength record_type) }
-    ensures pointers { Leaves (RDataPointers record_type rdlength (record { message = message.now; index = rdata }))
+    ensures steps { Leaves (RDataSteps record_type rdlength (record { message = message.now; index = rdata }))
         left.old left.new }
 {
     let mut walk = Walk::at(message, rdata);
@@ -115,8 +115,8 @@ pub(crate) fn rdata_of<'a>(
     requires { fixed.now.rdata ≤ length message.now }
     ensures found { IfOk result (IsDataOf message.now fixed.now.record_type fixed.now.class fixed.now.rdlength fixed.now.rdata) }
     ensures refused { IfErr result (IsRejected message.now fixed.now.record_type fixed.now.class fixed.now.rdlength fixed.now.rdata) }
-    ensures pointers { Leaves
-        (DataPointers message.now fixed.now.record_type fixed.now.class fixed.now.rdlength fixed.now.rdata)
+    ensures steps { Leaves
+        (DataSteps message.now fixed.now.record_type fixed.now.class fixed.now.rdlength fixed.now.rdata)
         left.old left.new }
 {
     if has_no_data(fixed.record_type, fixed.class, fixed.rdlength) {
@@ -134,7 +134,7 @@ pub(crate) fn rdata_of<'a>(
     }
 }
 
-// Returns the item for the record at an offset, whose fixed fields were read. Subtracts the compression pointers of its RDATA
+// Returns the item for the record at an offset, whose fixed fields were read. Subtracts the steps of its RDATA
 // from `left`, which stops at 0.
 fn record_at<'a>(
     message: &'a [u8],
@@ -147,7 +147,7 @@ fn record_at<'a>(
     requires rdata { fixed.rdata ≤ length message.now }
     requires found { IsFound message.now offset fixed }
     ensures gives { GivesRecord message.now position.section position.index offset fixed.end result }
-    ensures pointers { Leaves (DataPointers message.now fixed.record_type fixed.class fixed.rdlength fixed.rdata)
+    ensures steps { Leaves (DataSteps message.now fixed.record_type fixed.class fixed.rdlength fixed.rdata)
         left.old left.new }
 {
     let owner = NameRef::at(message, offset);
@@ -179,7 +179,7 @@ pub(crate) struct Entry<'a> {
     pub(crate) fixed: FixedFields,
 }
 
-// Returns the item for the record at an offset. Subtracts its compression pointers, those of its owner and of its RDATA, from
+// Returns the item for the record at an offset. Subtracts its steps, those of its owner and of its RDATA, from
 // `left`, which stops at 0. If it is 0 then, the record is not returned.
 pub(crate) fn read_entry<'a>(
     message: &'a [u8],
@@ -191,14 +191,14 @@ pub(crate) fn read_entry<'a>(
     ensures gives { IfOk result
         (λ e. GivesRecord message.now position.section position.index offset e.fixed.end e.item) }
     ensures inside { IfOk result (λ e. e.fixed.end ≤ length message.now) }
-    ensures within { OnOk result (Takes (RecordPointers message.now offset) left.old left.new) }
+    ensures within { OnOk result (Takes (RecordSteps message.now offset) left.old left.new) }
     ensures stopped { IfErr result (IsRecordStop message.now offset left.old) }
 {
     match read_record(message, offset, left) {
         Ok(fixed) => {
             let item = record_at(message, position, offset, fixed, left);
             if *left == 0 {
-                return Err(Fault::Pointers);
+                return Err(Fault::Limit);
             }
             Ok(Entry { item, fixed })
         }

@@ -20,9 +20,9 @@ use std::marker::Model;
 /// ends. A record whose owner, fixed fields or RDLENGTH are damaged gives one error, and it is the last item. There are
 /// at most as many items as the counts of the header say.
 ///
-/// The walk counts the compression pointers (RFC 1035, section 4.1.4) that it follows: in the names of the questions,
-/// in the owners of records, and in names of RDATA, up to the damage where there is one. A record with which they are
-/// more than the limit of the message is not given: the item is an error with [`Pointers`](crate::Fault::Pointers), and
+/// The walk counts the steps that it takes, which are the labels and the compression pointers (RFC 1035, sections 3.1 and
+/// 4.1.4) of the names of the questions, of the owners of records, and of RDATA, up to the damage where there is one. A record with which they are
+/// more than the limit of the message is not given: the item is an error with [`Limit`](crate::Fault::Limit), and
 /// it is the last one.
 ///
 /// [`MessageRef`](crate::MessageRef) makes it, for all records or those of a section.
@@ -57,7 +57,7 @@ impl<'a> Model for Records<'a> {
 impl<'a> Records<'a> {
     /// The octets after the last record of the message, or `None` if the walk has not passed all records: some are left, in its
     /// own section or a later one, or it ended with an error in an owner, in fixed fields or RDLENGTH, or with
-    /// [`Pointers`](crate::Fault::Pointers). Allocates nothing.
+    /// [`Limit`](crate::Fault::Limit). Allocates nothing.
     pub fn trailing(&self) -> Option<&'a [u8]>
         ensures { MatchOption result (self.now.passed < record_count self.now.header)
             (λ s. (record_count self.now.header ≤ self.now.passed) × (s.now ≡ drop self.now.offset self.now.message)) }
@@ -129,7 +129,7 @@ impl<'a> Iterator for Records<'a> {
 }
 
 // Goes over so many records from an offset on, whatever their RDATA is, and returns the offset where they end. Subtracts
-// the compression pointers of their owners from `left`, which stops at 0.
+// the steps of their owners from `left`, which stops at 0.
 fn skip_records(
     message: &[u8],
     header: &Header,

@@ -1,8 +1,8 @@
 //! A step of a walk over records, for callers that keep numbers alone.
 
 ghost use Rattle.std.specs.Prelude.{◌+◌, ◌≤◌, length, IfOk, IfErr, OnOk};
-ghost use Rattle.dns_view.specs.Pointers.{Leaves};
-ghost use Rattle.dns_message.specs.{Passing.TellsContent, Pointers.DataPointers, Pointers.RecordPointers, Pointers.Takes};
+ghost use Rattle.dns_view.specs.Steps.{Leaves};
+ghost use Rattle.dns_message.specs.{Passing.TellsContent, Steps.DataSteps, Steps.RecordSteps, Steps.Takes};
 ghost use Rattle.dns_message.specs.{Readings.IsFound, Stops.IsRecordStop};
 
 use crate::common::has_common_rdata;
@@ -25,14 +25,14 @@ pub struct PassedRecord {
     pub content: Result<bool, DecodeError>,
 }
 
-// Returns whether a record has RDATA, or why that is rejected. Subtracts the compression pointers of the RDATA from `left`,
+// Returns whether a record has RDATA, or why that is rejected. Subtracts the steps of the RDATA from `left`,
 // which stops at 0.
 #[inline]
 fn content_of(message: &[u8], fields: &FixedFields, left: &mut usize) -> Result<bool, DecodeError>
     requires { fields.now.rdata + fields.now.rdlength ≤ length message.now }
     ensures told { TellsContent message.now fields.now result }
-    ensures pointers { Leaves
-        (DataPointers message.now fields.now.record_type fields.now.class fields.now.rdlength fields.now.rdata)
+    ensures steps { Leaves
+        (DataSteps message.now fields.now.record_type fields.now.class fields.now.rdlength fields.now.rdata)
         left.old left.new }
 {
     if has_common_rdata(message, fields, left) {
@@ -45,8 +45,8 @@ fn content_of(message: &[u8], fields: &FixedFields, left: &mut usize) -> Result<
     }
 }
 
-// Returns the fields of the record at an offset, and whether it has RDATA, or why that is rejected. Subtracts its compression
-// pointers from `left`, which stops at 0. If it is 0 then, the record is not passed.
+// Returns the fields of the record at an offset, and whether it has RDATA, or why that is rejected. Subtracts its steps
+// from `left`, which stops at 0. If it is 0 then, the record is not passed.
 #[inline]
 pub(crate) fn pass_record(
     message: &[u8],
@@ -56,14 +56,14 @@ pub(crate) fn pass_record(
     requires { offset ≤ length message.now }
     ensures found { IfOk result (λ x. IsFound message.now offset x.0) }
     ensures told { IfOk result (λ x. TellsContent message.now x.0 x.1) }
-    ensures within { OnOk result (Takes (RecordPointers message.now offset) left.old left.new) }
+    ensures within { OnOk result (Takes (RecordSteps message.now offset) left.old left.new) }
     ensures stopped { IfErr result (IsRecordStop message.now offset left.old) }
 {
     match read_record(message, offset, left) {
         Ok(fields) => {
             let content = content_of(message, &fields, left);
             if *left == 0 {
-                return Err(Fault::Pointers);
+                return Err(Fault::Limit);
             }
             Ok((fields, content))
         }

@@ -4,13 +4,19 @@ use Rattle.std.specs.Cmp.Lexicographic.{pointwise}
 use Rattle.dns_types.specs.declared.error.ProtoError.{ProtoError}
 use Rattle.dns_types.specs.declared.error.ProtoError.TheVariants as proto
 use Rattle.dns_fields.specs.Labels.{DomainName, IsName, low_labels}
-use Rattle.dns_labels.specs.Text.{IsNameText}
+use Rattle.dns_labels.specs.{Text.IsNameText, TextFaults.NameTextFault}
 
 -- memory ran out, or a message says that the fact holds
 abbrev pub IsTextError : ProtoError → Type 0 → Type 0
 IsTextError proto.Memory fact = Unit {0}
 IsTextError (proto.Message text) fact = fact
 IsTextError e fact = ⊥
+
+-- memory ran out, or a message says why the text is that of no name
+abbrev pub IsNameFault : List ℕ → ProtoError → Type 0
+IsNameFault text proto.Memory = Unit {0}
+IsNameFault text (proto.Message why) = NameTextFault text why.now
+IsNameFault text e = ⊥
 
 abbrev pub qualified : List (List ℕ) → DomainName
 qualified labels = record { labels = labels; fully_qualified = true }

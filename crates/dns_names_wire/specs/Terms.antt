@@ -3,7 +3,7 @@ use Rattle.std.specs.Prelude.{◌≡◌, ◌≢◌, ℕ, ◌+◌, ◌<◌, ◌�
 use Rattle.dns_types.specs.{declared.error.DecodeError.DecodeError, declared.error.ProtoError.ProtoError}
 use Rattle.dns_types.specs.declared.error.DecodeError.TheVariants as decode
 use Rattle.dns_types.specs.declared.error.ProtoError.TheVariants as proto
-use Rattle.dns_fields.specs.{declared.RDataEncoding.RDataEncoding, Octets.AreOctets}
+use Rattle.dns_fields.specs.{declared.RDataEncoding.RDataEncoding, Octets.AreOctets, Tlvs.string}
 use Rattle.dns_fields.specs.Fields.{Value, Values, Field, Stands, WroteField, Wrote, is_emittable, all_emittable}
 use Rattle.dns_fields.specs.Fields.{EndsItself}
 use Rattle.dns_fields.specs.declared.Kind.{Kind, TheVariants.Number, TheVariants.Name}
@@ -70,6 +70,11 @@ Always kinds vs e = Unit {0}
 -- A character string lacks octets: its length octet, or octets after it.
 abbrev pub LacksText : Reading → Reading → Type 0
 LacksText old new = ((new ≡ old) × LacksOctets old 1) ⊎ ((n : ℕ) × TookField old (Number 1) n new × LacksOctets new n)
+
+-- Character strings end at an offset: they reach the end or pass it, and the last of them begins before it.
+pub record StringsReach (end : ℕ) (strings : List (List ℕ)) (at : ℕ) : Type 0 where
+  pub reach : end ≤ at
+  pub last : (front : List (List ℕ)) (s : List ℕ) → strings ≡ front ++ s ∷ [] → at < end + length (string s)
 
 -- rejected since fewer than n octets are left
 abbrev pub IsTruncated : ℕ → Reading → DecodeError → Reading → Type 0

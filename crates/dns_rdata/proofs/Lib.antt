@@ -15,4 +15,4 @@ pub mod Views
 pub mod OrderKeys
 pub mod ViewLists
 pub mod ViewFields
-pub mod Pointers
+pub mod Steps

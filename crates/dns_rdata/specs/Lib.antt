@@ -11,7 +11,7 @@ pub mod Ties
 pub mod ReadErrors
 pub mod Texts
 pub mod WholeOctets
-pub mod Pointers
+pub mod Steps
 pub mod Views
 pub mod ViewLists
 pub mod ViewFields

@@ -1,7 +1,7 @@
 //! The order of RDATA.
 
-ghost use Rattle.std.specs.Prelude.{◌≡◌, ◌&&◌, true, refl};
-ghost use Rattle.std.specs.{Cmp.Lexicographic.slice_cmp, Ordering.nat_cmp};
+ghost use Rattle.std.specs.Prelude.{◌≡◌, ◌≢◌, ◌&&◌, true, refl, IfSome, IfNone};
+ghost use Rattle.std.specs.{Cmp.Lexicographic.slice_cmp, Ordering.nat_cmp, Ordering.ordering_then};
 ghost use Rattle.dns_rdata.specs.{Data.data_octets, Order.fields_by, Data.fields_of, Equal.equal, Order.rank, Order.rdata_cmp, Order.variants_cmp};
 ghost use Rattle.dns_rdata.specs.{Order.Differ, Order.OrdersRead, Order.rdata_total, QuickOrders.TellsOrder, Ties.rdata_ties};
 
@@ -45,6 +45,21 @@ macro_rules! rank_of {
             RData::ZERO => 25,
         }
     };
+}
+
+// The first of two orders that is not `Equal`.
+#[inline]
+fn first_of(octets: Ordering, types: Ordering) -> Option<Ordering>
+    ensures some { IfSome result (λ order. (order ≢ Ordering.Equal) × ((rest : Ordering) → order ≡ ordering_then octets (ordering_then types rest))) }
+    ensures none { IfNone result ((octets ≡ Ordering.Equal) × (types ≡ Ordering.Equal)) }
+{
+    if octets.is_ne() {
+        return Some(octets);
+    }
+    if types.is_ne() {
+        return Some(types);
+    }
+    None
 }
 
 impl RData {
@@ -102,14 +117,11 @@ impl RData {
         let octets = self
             .canonical_octets()
             .compare(&mut other.canonical_octets());
-        if octets.is_ne() {
-            return octets;
-        }
         let types = self.record_type().cmp(&other.record_type());
-        if types.is_ne() {
-            return types;
+        match first_of(octets, types) {
+            Some(order) => order,
+            None => self.cmp_values(other),
         }
-        self.cmp_values(other)
     }
 
     // The order of any two values.

@@ -7,8 +7,8 @@ ghost use Rattle.dns_rows.specs.{Fronts.IsFront, Table.table};
 ghost use Rattle.dns_view.specs.Rows.{is_row};
 ghost use Rattle.dns_names_wire.specs.Terms.{StaysBehind};
 ghost use Rattle.dns_rdata.specs.{Data.parts_of, Data.Fills, Data.HasValue, Data.NoValue, Data.IsNeverRead, ReadErrors.IsReadError, ReadErrors.OwnResult};
-ghost use Rattle.dns_view.specs.Pointers.{Leaves};
-ghost use Rattle.dns_rdata.specs.Pointers.{RDataPointers};
+ghost use Rattle.dns_view.specs.Steps.{Leaves};
+ghost use Rattle.dns_rdata.specs.Steps.{RDataSteps};
 
 use crate::record_data::RData;
 use dns_names_wire::{BinDecoder, DecodeError, RecordType, Restrict};
@@ -159,7 +159,7 @@ impl<'a> RDataRef<'a> {
     /// The same by a decoder without an allocator: checks that the next `length` octets are the RDATA of a record of this type.
     /// The decoder is then at their end. Allocates nothing.
     ///
-    /// Subtracts from `left` how many compression pointers the names of the RDATA follow (RFC 1035, section 4.1.4); it stops at
+    /// Subtracts from `left` how many steps the names of the RDATA follow (RFC 1035, section 4.1.4); it stops at
     /// 0. If the RDATA is rejected, these are the names up to and including the field that is rejected.
     ///
     /// # Errors
@@ -177,7 +177,7 @@ impl<'a> RDataRef<'a> {
         ensures why { IfErr result (IsReadError record_type length walk.old walk.new) }
         ensures allocates_nothing { IfErr result (λ e. e ≢ DecodeError.Memory) }
         ensures behind { StaysBehind walk.old walk.new }
-        ensures pointers { Leaves (RDataPointers record_type length walk.old) left.old left.new }
+        ensures steps { Leaves (RDataSteps record_type length walk.old) left.old left.new }
     {
         let start = walk.index();
         let Some((parts, front)) = parts_of_type(record_type) else {

@@ -7,8 +7,8 @@ use Rattle.dns_message.specs.declared.error.Section.TheVariants as sections
 use Rattle.dns_message.specs.{State.Walking, Headers.IsHeader, Headers.HasHeader, Headers.IsPlace, Headers.record_count}
 use Rattle.dns_message.specs.{Records.Record, Records.IsRecord, Records.NoRecord, Records.HasNoData, Items.IsRefusedAt}
 use Rattle.dns_message.specs.{Starts.Begins, Starts.BreaksIn, Starts.NoResume}
-use Rattle.dns_message.specs.{Pointers.RecordPointers, Pointers.Takes, Pointers.Exceeds, declared.error.Fault.Fault}
-use Rattle.dns_view.specs.Pointers.{NamePointers}
+use Rattle.dns_message.specs.{Steps.RecordSteps, Steps.Takes, Steps.Exceeds, declared.error.Fault.Fault}
+use Rattle.dns_view.specs.Steps.{NameSteps}
 use Rattle.dns_rdata_c.specs.declared.records.{RecordsCursor.RecordsCursor, Record.Record as Told}
 use Rattle.dns_rdata_c.specs.Status.{decode_status}
 
@@ -47,11 +47,11 @@ told_of p x = record {
   has_data = data_number x.content;
 }
 
--- the cursor is before the first record of the message, and the walk may follow 65,536 compression pointers
+-- the cursor is before the first record of the message, and the walk may take 262,144 steps
 pub record BeginsWalk (m : List ℕ) (c : RecordsCursor) : Type 0 where
   pub header : Header
   pub is : IsHeader m header
-  pub begins : Begins (record { octets = m; limit = 65536 }) (λ h. 0) record_count (walk_at m header c)
+  pub begins : Begins (record { octets = m; limit = 262144 }) (λ h. 0) record_count (walk_at m header c)
 
 -- the numbers are those of the record of this index in this section
 pub record Tells (s : Section) (i : ℕ) (r : Record) (x : Told) : Type 0 where
@@ -91,7 +91,7 @@ pub record Passes (m : List ℕ) (old new : RecordsCursor) (x : Told) (P : Recor
   pub holds : P entry
   pub passed : new.passed ≡ old.passed + 1
   pub until : new.until ≡ old.until
-  pub left_is : Takes (RecordPointers m old.next) old.left new.left
+  pub left_is : Takes (RecordSteps m old.next) old.left new.left
 
 -- The walk ends where it is: no record is left, and all else of the cursor is as before.
 abbrev pub ended : RecordsCursor → RecordsCursor
@@ -103,20 +103,20 @@ pub record EndsAtDamage (m : List ℕ) (old new : RecordsCursor) : Type 0 where
   pub none : NoRecord m old.next
   pub ended : new ≡ ended old
 
--- the next record follows as many compression pointers as are left or more, those of its owner alone or those of its
+-- the next record takes as many steps as are left or more, those of its owner alone or those of its
 -- RDATA with them, and the walk ends
-pub record EndsAtPointers (m : List ℕ) (old new : RecordsCursor) : Type 0 where
+pub record EndsAtLimit (m : List ℕ) (old new : RecordsCursor) : Type 0 where
   pub left : old.passed < old.until
-  pub many : Exceeds (NamePointers m old.next) old.left ⊎ Exceeds (RecordPointers m old.next) old.left
+  pub many : Exceeds (NameSteps m old.next) old.left ⊎ Exceeds (RecordSteps m old.next) old.left
   pub ended : new ≡ ended old
 
 -- no record is left, or no walk over the message can be where the cursor says
 abbrev pub IsAtEnd : List ℕ → RecordsCursor → Type 0
 IsAtEnd m c = (c.until ≤ c.passed) ⊎ ((HasHeader m → ⊥) ⊎ NoResume m (progress c))
 
--- the walk cannot begin, since a question is damaged or the questions follow too many compression pointers; P holds of
+-- the walk cannot begin, since a question is damaged or the questions take too many steps; P holds of
 -- the fault
 pub record NeverBegins (m : List ℕ) (P : Fault → Type 0) : Type 0 where
   pub error : RecordError
-  pub breaks : BreaksIn (record { octets = m; limit = 65536 }) (λ h. 0) error
+  pub breaks : BreaksIn (record { octets = m; limit = 262144 }) (λ h. 0) error
   pub fault : P error.fault

@@ -2,10 +2,10 @@
 
 ghost use Rattle.std.specs.Prelude.{◌≡◌, ◌≢◌, ◌≤◌, ◌<◌, ◌⊎◌, length as size};
 ghost use Rattle.dns_message.specs.{Headers.HasHeader};
-ghost use Rattle.dns_rdata_c.specs.RecordWalks.{BeginsWalk, NeverBegins, Passes, HasContent, HasRejected, EndsAtDamage, EndsAtPointers, IsAtEnd};
+ghost use Rattle.dns_rdata_c.specs.RecordWalks.{BeginsWalk, NeverBegins, Passes, HasContent, HasRejected, EndsAtDamage, EndsAtLimit, IsAtEnd};
 ghost use Rattle.dns_rdata_c.specs.RecordWalks.{cursor, told_of};
 
-use crate::status::{ABSENT, DAMAGED, HEADER, OK, POINTERS, QUESTION, RECORD, REFUSED, status_of};
+use crate::status::{ABSENT, DAMAGED, HEADER, OK, LIMIT, QUESTION, RECORD, REFUSED, status_of};
 use dns_message::{Fault, MessageRef, PassedRecord, Progress};
 
 /// Where a walk over the records of a message is. The caller holds it; any numbers in it are safe.
@@ -18,7 +18,7 @@ pub struct RecordsCursor {
     pub passed: usize,
     /// How many there are.
     pub until: usize,
-    /// One more than the compression pointers that may still be followed.
+    /// One more than the steps that may still be taken.
     pub left: usize,
 }
 
@@ -77,15 +77,15 @@ fn record_of(offset: usize, step: &PassedRecord) -> Record
     }
 }
 
-/// Sets a cursor before the first record of a message, after its questions. The walk may follow 65,536 compression
-/// pointers. Allocates nothing.
+/// Sets a cursor before the first record of a message, after its questions. The walk may take 262,144 steps: a step is a label
+/// or a compression pointer of a name. Allocates nothing.
 #[unsafe(no_mangle)]
 pub extern "C" fn dns_rdata_records_begin(message: &[u8], records: &mut RecordsCursor) -> u32
     ensures ok { result ≡ OK → BeginsWalk message.now records.new }
     ensures header { result ≡ HEADER → HasHeader message.now → ⊥ }
-    ensures question { result ≡ QUESTION → NeverBegins message.now (λ fault. fault ≢ Fault.Pointers) }
-    ensures pointers { result ≡ POINTERS → NeverBegins message.now (λ fault. fault ≡ Fault.Pointers) }
-    ensures status { (result ≡ OK) ⊎ (result ≡ HEADER) ⊎ (result ≡ QUESTION) ⊎ (result ≡ POINTERS) }
+    ensures question { result ≡ QUESTION → NeverBegins message.now (λ fault. fault ≢ Fault.Limit) }
+    ensures steps { result ≡ LIMIT → NeverBegins message.now (λ fault. fault ≡ Fault.Limit) }
+    ensures status { (result ≡ OK) ⊎ (result ≡ HEADER) ⊎ (result ≡ QUESTION) ⊎ (result ≡ LIMIT) }
     ensures emptied { result ≢ OK → records.new ≡ record { next = 0; passed = 0; until = 0; left = 0 } }
 {
     *records = RecordsCursor::default();
@@ -98,7 +98,7 @@ pub extern "C" fn dns_rdata_records_begin(message: &[u8], records: &mut RecordsC
             OK
         }
         Err(error) => match error.fault {
-            Fault::Pointers => POINTERS,
+            Fault::Limit => LIMIT,
             _ => QUESTION,
         },
     }
@@ -108,7 +108,7 @@ pub extern "C" fn dns_rdata_records_begin(message: &[u8], records: &mut RecordsC
 /// The message is the one with which the cursor began. Allocates nothing.
 ///
 /// If the RDATA is rejected, the status is its error, as `dns_rdata_check` returns it; the record is told, and the walk
-/// goes on. With `RECORD` no record is encoded there, and with `POINTERS` the record follows more compression pointers
+/// goes on. With `RECORD` no record is encoded there, and with `LIMIT` the record takes more steps
 /// than the walk may; the walk has ended.
 #[unsafe(no_mangle)]
 pub extern "C" fn dns_rdata_records_next(
@@ -120,11 +120,11 @@ pub extern "C" fn dns_rdata_records_next(
     ensures rejected { REFUSED ≤ result → result < DAMAGED
         → Passes message.now records.old records.new told.new (λ r. HasRejected message.now r result told.new.has_data) }
     ensures damaged { result ≡ RECORD → EndsAtDamage message.now records.old records.new }
-    ensures pointers { result ≡ POINTERS → EndsAtPointers message.now records.old records.new }
+    ensures steps { result ≡ LIMIT → EndsAtLimit message.now records.old records.new }
     ensures absent { result ≡ ABSENT → IsAtEnd message.now records.old }
-    ensures status { (result ≡ OK) ⊎ (result ≡ ABSENT) ⊎ (result ≡ RECORD) ⊎ (result ≡ POINTERS) ⊎ ((REFUSED ≤ result) × (result < DAMAGED)) }
+    ensures status { (result ≡ OK) ⊎ (result ≡ ABSENT) ⊎ (result ≡ RECORD) ⊎ (result ≡ LIMIT) ⊎ ((REFUSED ≤ result) × (result < DAMAGED)) }
     ensures unmoved { result ≡ ABSENT → records.new ≡ records.old }
-    ensures untold { (result ≡ ABSENT) ⊎ (result ≡ RECORD) ⊎ (result ≡ POINTERS) → told.new ≡ told.old }
+    ensures untold { (result ≡ ABSENT) ⊎ (result ≡ RECORD) ⊎ (result ≡ LIMIT) → told.new ≡ told.old }
 {
     let Ok(message) = MessageRef::read(message) else {
         return ABSENT;
@@ -148,7 +148,7 @@ pub extern "C" fn dns_rdata_records_next(
                 Err(reason) => status_of(reason),
             }
         }
-        Err(Fault::Pointers) => POINTERS,
+        Err(Fault::Limit) => LIMIT,
         Err(_) => RECORD,
     }
 }

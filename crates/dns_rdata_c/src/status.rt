@@ -57,8 +57,8 @@ pub const HEADER: u32 = 32;
 pub const QUESTION: u32 = 33;
 /// A record is damaged before its RDATA: its owner, its fixed fields, or RDLENGTH, which passes the end of the message.
 pub const RECORD: u32 = 34;
-/// More compression pointers were followed than the limit.
-pub const POINTERS: u32 = 35;
+/// More steps were taken than the limit.
+pub const LIMIT: u32 = 35;
 /// From this number on, a text is of no data of the type.
 pub const NO_DATA_TEXT: u32 = 48;
 /// A token is missing.
@@ -111,6 +111,6 @@ pub fn statuses_hold()
     ensures octets { (REFUSED ≡ 16) × (MISSING_OCTETS ≡ 16) × (LENGTH ≡ 17) × (NEVER ≡ 18) × (NO_TYPE ≡ 19) × (NAME ≡ 20) × (BITMAP ≡ 21)
         × (CAA_TAG ≡ 22) × (NAPTR_FLAGS ≡ 23) × (CSYNC_FLAGS ≡ 24) × (ADDRESS_FAMILY ≡ 25) × (MISSING_VALUE ≡ 26)
         × (PARAMETER_ORDER ≡ 27) × (UTF8 ≡ 28) }
-    ensures messages { (DAMAGED ≡ 32) × (HEADER ≡ 32) × (QUESTION ≡ 33) × (RECORD ≡ 34) × (POINTERS ≡ 35) }
+    ensures messages { (DAMAGED ≡ 32) × (HEADER ≡ 32) × (QUESTION ≡ 33) × (RECORD ≡ 34) × (LIMIT ≡ 35) }
     ensures texts { (NO_DATA_TEXT ≡ 48) × (MISSING_WORD ≡ 48) × (WRONG_WORD ≡ 49) × (UNSUPPORTED_TYPE ≡ 50) × (WRONG_VALUE ≡ 52) }
 {}

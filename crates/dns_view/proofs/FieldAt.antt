@@ -3,7 +3,7 @@ use Rattle.std.proofs.Common.{◌≡◌, ℕ, suc, ◌+◌, ◌-◌, ◌≤◌, 
 use Rattle.dns_fields.specs.declared.Kind.{Kind}
 use Rattle.dns_fields.specs.declared.Kind.TheVariants.{Options, Parameters, Bitmap}
 use Rattle.dns_fields.specs.declared.Kind.TheVariants.{Number, Octets, Name, CharacterString, CharacterStrings, Rest}
-use Rattle.dns_fields.specs.{Names.IsNameIn, Fields.Value, Fields.Field}
+use Rattle.dns_fields.specs.{Octets.At, Fields.Value, Fields.Field}
 use Rattle.dns_fields.proofs.FieldLaws.{field_same, field_end}
 use Rattle.dns_names_wire.specs.{State.Reading, Terms.TookField, Terms.LacksField}
 use Rattle.dns_rows.specs.declared.row.Part.{Part}
@@ -13,69 +13,65 @@ use Rattle.dns_view.specs.declared.field.FieldRef.{FieldRef}
 use Rattle.dns_view.specs.declared.field.FieldRef.TheVariants as shown
 use Rattle.dns_rows.specs.Table.{kinds_of}
 use Rattle.dns_view.specs.{Rows.AreCovered, Rows.IsRow, Rows.HasRow, Shown.Shows, Shown.ShowsAt}
-use Rattle.dns_view.proofs.{RowLoop.behind_row, RowLoop.field_reaches, Alone.between_is, Alone.bitmap_alone, Alone.parameters_alone}
-use Rattle.dns_view.proofs.{Alone.options_alone, PartEnds.Stops, PartEnds.NoneStops, PartEnds.behind_next, PartEnds.this_field}
+use Rattle.dns_view.proofs.{RowLoop.behind_row, RowLoop.field_reaches, Alone.between_is, Alone.slice_at}
+use Rattle.dns_view.proofs.{PartEnds.Stops, PartEnds.NoneStops, PartEnds.behind_next, PartEnds.this_field}
 
 -- ---- one field
 
+-- it shows whatever value is encoded there
+abbrev AllShown : List ℕ → ℕ → FieldRef → Kind → ℕ → Type 0
+AllShown m i f k q = (v : Value k) → Field m i k v q → Shows m i f k v q
+
 -- a kind is another
-pub shown_as : {m : List ℕ} {i q : ℕ} {k l : Kind} (f : FieldRef) → k ≡ l → ((v : Value l) → Field m i l v q → Shows f l v) → (v : Value k) → Field m i k v q
-    → Shows f k v
-shown_as {m} {i} {q} f e h = subst (λ (x : Kind). (v : Value x) → Field m i x v q → Shows f x v) (sym e) h
+pub shown_as : {m : List ℕ} {i q : ℕ} {k l : Kind} (f : FieldRef) → k ≡ l → AllShown m i f l q → AllShown m i f k q
+shown_as {m} {i} {q} f e h = subst (λ (x : Kind). AllShown m i f x q) (sym e) h
 
 pub number_shown : {m : List ℕ} {i q w n : ℕ} {k : Kind} {old new : Reading} → k ≡ Number w → old ≡ record { message = m; index = i }
-    → TookField old (Number w) n new
-    → (v : Value k) → Field m i k v q → Shows (shown.Number n) k v
+    → TookField old (Number w) n new → AllShown m i (shown.Number n) k q
 number_shown {m} {i} {q} {w} {n} {k} {old} {new} kind is t = shown_as (shown.Number n) kind (λ v f.
     let g : Field m i (Number w) n new.index = subst (λ (r : Reading). Field r.message r.index (Number w) n new.index) is t.field in
     let there : new.index ≡ q = field_end {k = Number w} tt g f in
     record { is = field_same (subst (λ (e : ℕ). Field m i (Number w) n e) there g) f })
 
 pub number_missing : {m : List ℕ} {i q w : ℕ} {k : Kind} {old : Reading} (g : FieldRef) → k ≡ Number w → old ≡ record { message = m; index = i }
-    → LacksField old (Number w)
-    → (v : Value k) → Field m i k v q → Shows g k v
+    → LacksField old (Number w) → AllShown m i g k q
 number_missing {m} {i} {q} {w} g kind is l = shown_as g kind (λ v f.
     absurd (l.none v q (subst (λ (r : Reading). Field r.message r.index (Number w) v q) (sym is) f)))
 
-pub octets_shown : {m : List ℕ} {i q n : ℕ} {k : Kind} (s : Bor (List ℕ)) → k ≡ Octets n → s.now ≡ take (q - i) (drop i m) → (v : Value k) → Field m i k v q
-    → Shows (shown.Octets s) k v
+pub octets_shown : {m : List ℕ} {i q n : ℕ} {k : Kind} (s : Bor (List ℕ)) → k ≡ Octets n → s.now ≡ take (q - i) (drop i m) → AllShown m i (shown.Octets s) k q
 octets_shown s kind same = shown_as (shown.Octets s) kind (λ v f. record { is = same ∙ between_is f.is.1 })
 
-pub name_shown : {m : List ℕ} {i q : ℕ} {k : Kind} (r : NameRef) → k ≡ Name → r.message.now ≡ m → r.offset ≡ i → (v : Value k) → Field m i k v q
-    → Shows (shown.Name r) k v
-name_shown {m} {i} {q} r kind message offset = shown_as (shown.Name r) kind (λ v f.
-    record { is = (q, subst (λ (p : ℕ). IsNameIn r.message.now p v q) (sym offset) (subst (λ (t : List ℕ). IsNameIn t i v q) (sym message) f.is)) })
+pub name_shown : {m : List ℕ} {i q : ℕ} {k : Kind} (r : NameRef) → k ≡ Name → r.message.now ≡ m → r.offset ≡ i → AllShown m i (shown.Name r) k q
+name_shown r kind message offset = shown_as (shown.Name r) kind (λ v f. record { is = (message, offset) })
 
-pub string_shown : {m : List ℕ} {i q : ℕ} {k : Kind} (s : Bor (List ℕ)) → k ≡ CharacterString → s.now ≡ take (q - (i + 1)) (drop (i + 1) m) → (v : Value k)
-    → Field m i k v q
-    → Shows (shown.CharacterString s) k v
+pub string_shown : {m : List ℕ} {i q : ℕ} {k : Kind} (s : Bor (List ℕ)) → k ≡ CharacterString → s.now ≡ take (q - (i + 1)) (drop (i + 1) m)
+    → AllShown m i (shown.CharacterString s) k q
 string_shown s kind same = shown_as (shown.CharacterString s) kind (λ v f. record { is = same ∙ between_is (at_rest (length v ∷ []) v f.is.1) })
 
-pub string_missing : {m : List ℕ} {i q : ℕ} {k : Kind} (g : FieldRef) → k ≡ CharacterString → q ≤ i → (v : Value k) → Field m i k v q → Shows g k v
+pub string_missing : {m : List ℕ} {i q : ℕ} {k : Kind} (g : FieldRef) → k ≡ CharacterString → q ≤ i → AllShown m i g k q
 string_missing g kind past = shown_as g kind (λ v f. absurd (omega (arith, f.is.1.ends)))
 
-pub strings_shown : {m : List ℕ} {i q : ℕ} {k : Kind} (s : Bor (List ℕ)) → k ≡ CharacterStrings → s.now ≡ take (q - i) (drop i m) → (v : Value k)
-    → Field m i k v q
-    → Shows (shown.CharacterStrings s) k v
+pub strings_shown : {m : List ℕ} {i q : ℕ} {k : Kind} (s : Bor (List ℕ)) → k ≡ CharacterStrings → s.now ≡ take (q - i) (drop i m)
+    → AllShown m i (shown.CharacterStrings s) k q
 strings_shown s kind same = shown_as (shown.CharacterStrings s) kind (λ v f. record { is = same ∙ between_is f.is.1 })
 
-pub rest_shown : {m : List ℕ} {i q : ℕ} {k : Kind} (s : Bor (List ℕ)) → k ≡ Rest → s.now ≡ take (q - i) (drop i m) → (v : Value k) → Field m i k v q
-    → Shows (shown.Rest s) k v
+pub rest_shown : {m : List ℕ} {i q : ℕ} {k : Kind} (s : Bor (List ℕ)) → k ≡ Rest → s.now ≡ take (q - i) (drop i m) → AllShown m i (shown.Rest s) k q
 rest_shown s kind same = shown_as (shown.Rest s) kind (λ v f. record { is = same ∙ between_is f.is })
 
 -- ---- fields whose encoding is shown
 
-pub bitmap_shown : {m : List ℕ} {i q : ℕ} {k : Kind} (s : Bor (List ℕ)) → k ≡ Bitmap → s.now ≡ take (q - i) (drop i m) → (v : Value k) → Field m i k v q
-    → Shows (shown.Bitmap s) k v
-bitmap_shown s kind same = shown_as (shown.Bitmap s) kind (λ v f. record { is = bitmap_alone v same f })
+module _ {m : List ℕ} {i q : ℕ} (s : Bor (List ℕ)) (within : i ≤ q) (inside : q ≤ length m) (same : s.now ≡ take (q - i) (drop i m)) where
+  there : At m i s.now q
+  there = subst (λ (o : List ℕ). At m i o q) (sym same) (slice_at m i q within inside)
 
-pub parameters_shown : {m : List ℕ} {i q : ℕ} {k : Kind} (s : Bor (List ℕ)) → k ≡ Parameters → s.now ≡ take (q - i) (drop i m) → (v : Value k)
-    → Field m i k v q → Shows (shown.Parameters s) k v
-parameters_shown s kind same = shown_as (shown.Parameters s) kind (λ v f. record { is = parameters_alone v same f })
+  pub bitmap_shown : {k : Kind} → k ≡ Bitmap → AllShown m i (shown.Bitmap s) k q
+  bitmap_shown kind = shown_as (shown.Bitmap s) kind (λ v f. record { is = there })
 
-pub options_shown : {m : List ℕ} {i q : ℕ} {k : Kind} (s : Bor (List ℕ)) → k ≡ Options → s.now ≡ take (q - i) (drop i m) → (v : Value k) → Field m i k v q
-    → Shows (shown.Options s) k v
-options_shown s kind same = shown_as (shown.Options s) kind (λ v f. record { is = record { is = options_alone v same f.is } })
+  pub parameters_shown : {k : Kind} → k ≡ Parameters → AllShown m i (shown.Parameters s) k q
+  parameters_shown kind = shown_as (shown.Parameters s) kind (λ v f. record { is = there })
+
+  pub options_shown : {k : Kind} → k ≡ Options → AllShown m i (shown.Options s) k q
+  options_shown kind = shown_as (shown.Options s) kind (λ v f. record { is = there })
 
 -- ---- by the index in the row
 
@@ -83,7 +79,7 @@ pub record FieldSo (m : List ℕ) (p : ℕ) (row left : List Part) (e here numbe
   pub ordered : IsRow left
   pub covered : AreCovered left
   pub only : (h : HasRow m p row e) → (rest : HasRow m here left e)
-      × ((f : FieldRef) → ShowsAt j (kinds_of left) rest.values f → ShowsAt number (kinds_of row) h.values f)
+      × ((f : FieldRef) → ShowsAt m here j (kinds_of left) rest.values e f → ShowsAt m p number (kinds_of row) h.values e f)
 
 pub record AtField (m : List ℕ) (p : ℕ) (row : List Part) (e here number index : ℕ) : Type 0 where
   pub so : FieldSo m p row (drop index row) e here number (number - index)
@@ -116,7 +112,10 @@ module _ {m : List ℕ} {p : ℕ} {row : List Part} {e here number index : ℕ} 
         so = subst (λ (k : ℕ). FieldSo m p row (drop k row) e next number (number - (index + 1))) more (record {
           ordered = behind_row part left s.ordered;
           covered = s.covered.1;
-          only = λ h. let k = s.only h in (behind_next m here e next part left s.ordered k.0 stops, k.1);
+          only = λ h.
+              let k = s.only h in
+              let field = this_field m here e next part left s.ordered k.0 stops in
+              (behind_next m here e next part left s.ordered k.0 stops, λ f shows. k.1 f (next, field, shows));
         });
         below = omega arith;
         within = within;
@@ -124,15 +123,15 @@ module _ {m : List ℕ} {p : ℕ} {row : List Part} {e here number index : ℕ} 
 
   -- it is this field
   pub at_field : {next : ℕ} (f : FieldRef) → Stops m here (get_or row index d).kind e next → index ≡ number
-      → ((v : Value (get_or row index d).kind) → Field m here (get_or row index d).kind v next → Shows f (get_or row index d).kind v)
-      → (h : HasRow m p row e) → ShowsAt number (kinds_of row) h.values f
+      → AllShown m here f (get_or row index d).kind next → (h : HasRow m p row e) → ShowsAt m p number (kinds_of row) h.values e f
   at_field {next} f stops is shows h =
       let part = get_or row index d in
       let left = drop (suc index) row in
       let zero_left : number - index ≡ 0 = omega arith in
       let s = subst (λ (k : ℕ). FieldSo m p row (part ∷ left) e here number k) zero_left here_field in
       let k = s.only h in
-      k.1 f (shows k.0.values.0 (this_field m here e next part left s.ordered k.0 stops))
+      let field = this_field m here e next part left s.ordered k.0 stops in
+      k.1 f (next, field, (behind_next m here e next part left s.ordered k.0 stops).stands, shows k.0.values.0 field)
 
   -- no field is there
   pub no_such_field : NoneStops m here (get_or row index d).kind e → HasRow m p row e → ⊥

@@ -9,8 +9,8 @@ use Rattle.dns_fields.proofs.{FieldLaws.field_inside, OctetLaws.AreOctets-same, 
 use Rattle.dns_names_wire.specs.{State.Reading, Terms.TookField}
 use Rattle.dns_rows.specs.declared.row.{Rule.Rule}
 use Rattle.dns_rows.specs.declared.row.Rule.TheVariants as rules
-use Rattle.dns_view.specs.{NameEnds.NameEnds, Parts.IsUnasked, Parts.Skips, Parts.moved, RowPointers.FieldPointers}
-use Rattle.dns_view.proofs.PointerRows.{none_in}
+use Rattle.dns_view.specs.{NameEnds.NameEnds, Parts.IsUnasked, Parts.Skips, Parts.moved, RowSteps.FieldSteps}
+use Rattle.dns_view.proofs.StepRows.{none_in}
 use Rattle.dns_view.proofs.Skips.{skips_as, number_skips, octets_skip, name_skips, string_skips, rest_skips}
 
 -- the offset after so many octets, which the message has
@@ -72,11 +72,11 @@ plain_string rule a b = tt
 
 module _ (rule : Rule) (k : Kind) (start n : ℕ) (d : Reading) (r : Option ℕ) where
   abbrev SkipsTo : Type 0
-  SkipsTo = IfSome r (λ end. Skips rule k start n (Ok tt) d (moved d end) × FieldPointers k d 0)
+  SkipsTo = IfSome r (λ end. Skips rule k start n (Ok tt) d (moved d end) × FieldSteps k d 0)
 
-  told : {l : Kind} {P : ℕ → Type 0} → k ≡ l → FieldPointers l d 0 → ((end : ℕ) → P end → Skips rule l start n (Ok tt) d (moved d end)) → IfSome r P → SkipsTo
+  told : {l : Kind} {P : ℕ → Type 0} → k ≡ l → FieldSteps l d 0 → ((end : ℕ) → P end → Skips rule l start n (Ok tt) d (moved d end)) → IfSome r P → SkipsTo
   told {l} {P} is none skips =
-      if_some {P = P} r (λ end e. (skips_as (skips end e) is, subst (λ (x : Kind). FieldPointers x d 0) (sym is) none))
+      if_some {P = P} r (λ end e. (skips_as (skips end e) is, subst (λ (x : Kind). FieldSteps x d 0) (sym is) none))
 
   pub number_ends : (w : ℕ) → k ≡ Number w → (rule ≡ rules.KnownFlags → ⊥) → AreOctets d.message → IfSome r (EndsAfter d w) → SkipsTo
   number_ends w is ne octets = told {P = EndsAfter d w} is refl (λ end e. number_skips (octets_there d w end e) octets (no_flags rule w ne))

@@ -8,16 +8,16 @@ use Rattle.dns_names_wire.specs.State.{Reading}
 use Rattle.dns_rows.specs.declared.row.{Part.Part, Rule.Rule}
 use Rattle.dns_rows.specs.declared.row.Rule.TheVariants as rules
 use Rattle.dns_rows.specs.Fronts.{is_plain, width_of, is_front}
-use Rattle.dns_view.specs.{NameEnds.NameEnds, Parts.IsCovered, Parts.Skips, Parts.moved, Pointers.NamePointers, Pointers.Leaves, RowPointers.FieldPointers, RowPointers.FieldsPointers, RowPointers.NearRow}
+use Rattle.dns_view.specs.{NameEnds.NameEnds, Parts.IsCovered, Parts.Skips, Parts.moved, Steps.NameSteps, Steps.Leaves, RowSteps.FieldSteps, RowSteps.FieldsSteps, RowSteps.NearRow}
 use Rattle.dns_view.specs.Rows.{AreCovered, IsRowChecked, TookRow}
 use Rattle.dns_view.proofs.{FieldEnds.octets_there, FieldEnds.rest_ends, FieldEnds.name_near, FieldEnds.skips_inside, RowTests.both, Asked.row_fewest}
 use Rattle.dns_view.proofs.Skips.{number_skips, octets_skip, skips_as}
 use Rattle.dns_view.proofs.RowLoop.{RowSo, AtPart, none_so, field_taken, at_next, at_last}
-use Rattle.dns_view.proofs.PointerRows.{CountedSo, none_in, counted_next, counted_last}
+use Rattle.dns_view.proofs.StepRows.{CountedSo, none_in, counted_next, counted_last}
 
 -- a plain number that the message has
 plain_number : (k : Kind) (r : Rule) (start n : ℕ) (d : Reading) → is_plain k r ≡ true → AreOctets d.message → d.index + width_of k ≤ length d.message
-    → Skips r k start n (Ok tt) d (moved d (d.index + width_of k)) × FieldPointers k d 0
+    → Skips r k start n (Ok tt) d (moved d (d.index + width_of k)) × FieldSteps k d 0
 plain_number (Number w) rules.KnownFlags start n d h octets l = absurd cc
 plain_number (Number w) r start n d h octets l = (number_skips (octets_there d w (d.index + w) (refl, l)) octets tt, refl)
 plain_number k r start n d h octets l = absurd cc
@@ -53,17 +53,17 @@ front_so (suc count) octets row (p ∷ left) n old now h a l so =
 
 -- no pointer is followed by a front
 front_counted : (count octets : ℕ) (row : List Part) (start n k : ℕ) (now : Reading) → is_front count octets row ≡ true → AreOctets now.message
-    → now.index + octets ≤ length now.message → FieldsPointers (drop count row) start n (moved now (now.index + octets)) k → FieldsPointers row start n now k
+    → now.index + octets ≤ length now.message → FieldsSteps (drop count row) start n (moved now (now.index + octets)) k → FieldsSteps row start n now k
 front_counted zero octets row start n k now h a l f =
-    subst (λ (i : ℕ). FieldsPointers row start n (moved now i) k) (omega (arith, none octets h)) f
+    subst (λ (i : ℕ). FieldsSteps row start n (moved now i) k) (omega (arith, none octets h)) f
 front_counted (suc count) octets [] start n k now h a l f = absurd cc
 front_counted (suc count) octets (p ∷ row) start n k now h a l f =
     let x = first count octets p row h in
     let next = moved now (now.index + width_of p.kind) in
     let s = plain_number p.kind p.rule start n now x.plain a (omega (arith, x.within, l)) in
     let there : now.index + octets ≡ next.index + (octets - width_of p.kind) = omega (arith, x.within) in
-    let g : FieldsPointers (drop count row) start n (moved now (next.index + (octets - width_of p.kind))) k =
-    subst (λ (i : ℕ). FieldsPointers (drop count row) start n (moved now i) k) there f in
+    let g : FieldsSteps (drop count row) start n (moved now (next.index + (octets - width_of p.kind))) k =
+    subst (λ (i : ℕ). FieldsSteps (drop count row) start n (moved now i) k) there f in
     (0, s.1, inl (next, k, s.0.is, front_counted count (octets - width_of p.kind) row start n k next x.rest a (omega (arith, x.within, l)) g, omega arith))
 
 pub covered_at : (row : List Part) (at : ℕ) (d : Part) → AreCovered row → at < length row → IsCovered (get_or row at d).kind (get_or row at d).rule
@@ -79,7 +79,7 @@ module _ {row : List Part} (count octets n : ℕ) {old : Reading} (front : is_fr
   pub counted_front : (before : ℕ) → CountedSo row count old.index n old (moved old (old.index + octets)) before before
   counted_front before = record {
     count = 0;
-    so = λ k f. subst (λ (i : ℕ). FieldsPointers row old.index n old i) (omega arith) (front_counted count octets row old.index n k old front a l f);
+    so = λ k f. subst (λ (i : ℕ). FieldsSteps row old.index n old i) (omega arith) (front_counted count octets row old.index n k old front a l f);
     left = omega arith;
   }
 
@@ -102,7 +102,7 @@ abbrev at_octet : List ℕ → ℕ → Reading
 at_octet m p = record { message = m; index = p }
 
 -- a field that is no name follows no pointer
-unfollowed : {before : ℕ} {j : Kind} (k : Kind) (old : Reading) → j ≡ k → (k ≡ Name → ⊥) → Leaves (FieldPointers j old) before before
+unfollowed : {before : ℕ} {j : Kind} (k : Kind) (old : Reading) → j ≡ k → (k ≡ Name → ⊥) → Leaves (FieldSteps j old) before before
 unfollowed {before} {j} k old is other = (0, none_in j old (λ name. other (sym is ∙ name)), omega arith)
 
 abbrev kind_at : List Part → ℕ → Part → Kind
@@ -117,7 +117,7 @@ SkipsLast row count octets start n m d =
 module _ {row : List Part} (count octets : ℕ) {start n : ℕ} {m : List ℕ} (d : Part) (checked : IsRowChecked row) (front : is_front count octets row ≡ true)
     (last : length row ≡ count + 1) (a : AreOctets m) where
   last_near : {before after : ℕ} → start + octets ≤ length m → start + n ≤ length m → SkipsLast row count octets start n m d
-      → Leaves (FieldPointers (kind_at row count d) (at_octet m (start + octets))) before after → NearRow row n start m before after
+      → Leaves (FieldSteps (kind_at row count d) (at_octet m (start + octets))) before after → NearRow row n start m before after
   last_near {before} {after} within inside s left =
       let at = at_front count octets n front a within checked in
       let counted = counted_front count octets n front a within before in
@@ -135,10 +135,10 @@ module _ {row : List Part} (count octets : ℕ) {start n : ℕ} {m : List ℕ} (
       last_near (omega (arith, some, inside)) inside s.0 (unfollowed Rest (at_octet m (start + octets)) is (λ e. cc))
 
   pub name_last : {before after : ℕ} → kind_at row count d ≡ Name → start + octets ≤ length m → NameEnds m (start + octets) (start + n)
-      → Leaves (NamePointers m (start + octets)) before after → NearRow row n start m before after
+      → Leaves (NameSteps m (start + octets)) before after → NearRow row n start m before after
   name_last {before} {after} is within ends left =
       let s = name_near (get_or row count d).rule start n {d = at_octet m (start + octets)} (Some (start + n)) is refl refl ends in
-      last_near within (name_inside ends.is).1 s (subst (λ (k : Kind). Leaves (FieldPointers k (at_octet m (start + octets))) before after) (sym is) left)
+      last_near within (name_inside ends.is).1 s (subst (λ (k : Kind). Leaves (FieldSteps k (at_octet m (start + octets))) before after) (sym is) left)
 
   pub other_last : {before : ℕ} → (kind_at row count d ≡ Name → ⊥) → start + octets ≤ length m → SkipsLast row count octets start n m d
       → NearRow row n start m before before

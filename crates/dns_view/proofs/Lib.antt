@@ -1,12 +1,12 @@
 pub mod NameSteps
-pub mod PointerSteps
+pub mod StepCounts
 pub mod Numbers
 pub mod Asked
 pub mod Skips
 pub mod FieldEnds
 pub mod Strings
 pub mod RowLoop
-pub mod PointerRows
+pub mod StepRows
 pub mod Fronts
 pub mod Puts
 pub mod PutLoop

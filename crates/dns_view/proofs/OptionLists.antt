@@ -5,17 +5,18 @@ use Rattle.std.proofs.lemmas.Grind.{flat_map-append}
 use Rattle.std.proofs.Common.{◌≡◌, ℕ, ◌+◌, ◌≤◌, ◌<◌, ◌^◌, ◌⊎◌, inl, inr, ⊎_elim, List, [], ◌∷◌, ◌++◌, length, take, drop, refl, sym, ap, ◌∙◌, arith, subst}
 use Rattle.std.specs.Int.{bytes_high_first}
 use Rattle.dns_types.specs.declared.error.DecodeError.{DecodeError}
+use Rattle.dns_types.specs.declared.error.DecodeError.TheVariants as decode
 use Rattle.dns_fields.specs.Tlvs.{Numbered, tlv, tlvs, IsTlv, AreTlvs, AllHeld, OptionValue, OptionHeld, IsTruncated}
 use Rattle.dns_fields.specs.{declared.Kind.TheVariants.Number, declared.Kind.TheVariants.Octets, Fields.Field, declared.Kind.TheVariants.Options}
 use Rattle.dns_fields.specs.{Fields.CompleteOptions, Fields.TruncatedOptions, Octets.At}
 use Rattle.dns_fields.proofs.{Tlvs.first_tlv, Tlvs.truncated_tlv, Tlvs.length-tlv, Tlvs.tlv_before, Numbers.length-bytes, FieldLaws.field_same}
 use Rattle.dns_names_wire.specs.{Terms.TookField, Terms.StaysBehind, State.Reading}
-use Rattle.dns_names_wire.proofs.{FieldReads.took_number, Strings.at_front, Strings.at_rest, Strings.at_then}
+use Rattle.dns_names_wire.proofs.{FieldReads.took_number, FieldReads.took_then, FieldReads.took_last, Strings.at_front, Strings.at_rest, Strings.at_then}
 use Rattle.dns_rows.specs.declared.row.Rule.{Rule}
 use Rattle.dns_rows.specs.declared.row.Rule.TheVariants as rules
 use Rattle.dns_view.specs.Parts.{IsUnasked, Skips}
 use Rattle.dns_view.specs.{Tlvs.TlvThere, Options.HasOptions}
-use Rattle.dns_view.specs.Options.{OptionsLeft, NoneLeft, TookTlv, TookCut, RefusedTlv, IsTlvError, HasOption, IsSubnetError, IsNextError}
+use Rattle.dns_view.specs.Options.{OptionsLeft, NoneLeft, TookTlv, TookCut, TookHead, PassedEnd, RefusedTlv, IsTlvError, HasOption, IsSubnetError, IsNextError}
 use Rattle.dns_view.proofs.{Alone.slice, Alone.slice_at, Alone.between_is, Asked.unasked, Splits.all_append, Subnets.subnet_none}
 
 -- ---- what begins the rest
@@ -46,6 +47,23 @@ begins {m} {n} {i} {end} lt fits h = first h.read h.stub h.at h.fit h.ends where
 
 -- ---- the next option is rejected
 
+head_long : {d new : Reading} {code size : ℕ} → TookHead d code size new → new.index ≡ d.index + 2 + 2
+head_long {code = code} {size} t =
+    let (i, first, (j, second, end)) = t.stands in omega (arith, first.is.1.ends, second.is.1.ends, length-bytes 2 code, length-bytes 2 size, end)
+
+-- a code and a length were taken, and pass the end
+pub head_passed : {d b new : Reading} {e : DecodeError} {start n code size : ℕ} → TookField d (Number 2) code b → TookField b (Number 2) size new
+    → b.index < start + n → start + n < new.index → e ≡ decode.IncorrectRDataLengthRead (new.index - start) n → PassedEnd start n d e new
+head_passed {b = b} {new} {code = code} {size} f g inside past is = record {
+  error = is;
+  past = past;
+  head = inr (code, size, omega (arith, took_number f, inside), took_then f (took_then g (took_last new)));
+}
+
+pub code_passed : {d new : Reading} {e : DecodeError} {start n code : ℕ} → TookField d (Number 2) code new → start + n < new.index
+    → e ≡ decode.IncorrectRDataLengthRead (new.index - start) n → PassedEnd start n d e new
+code_passed {code = code} f past is = record { error = is; past = past; head = inl (code, f) }
+
 -- so nothing is left in any way
 pub tlv_none : {d new : Reading} {e : DecodeError} (start n : ℕ) → start ≤ d.index → d.index < start + n → RefusedTlv start n d e new
     → NoneLeft d.message n d.index (start + n)
@@ -55,7 +73,10 @@ tlv_none {d} {new} {e} start n le lt r = record { none = λ h. by (begins lt (om
   by b (inr (inl h)) =
       let s = b.size (omega (arith, took_number h.took, h.before)) in
       omega (arith, took_number h.took, s.3, b.within, h.lacks, ap length h.took.message)
-  by b (inr (inr (inl h))) = omega (arith, (b.size (omega (arith, b.code, r.past h.past))).3, h.past, h.short)
+  by b (inr (inr (inl h))) = ⊎_elim
+      (λ (t : (code : ℕ) × TookField d (Number 2) code new). omega (arith, took_number t.1, b.code, h.past))
+      (λ (t : (code : ℕ) × (size : ℕ) × (d.index + 2 < start + n) × TookHead d code size new).
+      omega (arith, (b.size t.2).3, h.past, head_long t.3)) h.head
   by b (inr (inr (inr (inl h)))) =
       let (i, code, (j, size, end)) = h.took.stands in
       let there : i ≡ d.index + 2 = omega (arith, code.is.1.ends, length-bytes 2 h.code) in

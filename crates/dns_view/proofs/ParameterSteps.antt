@@ -15,7 +15,7 @@ use Rattle.dns_names_wire.proofs.{Strings.at_then}
 use Rattle.dns_rows.specs.Rules.{HasText, HaveTexts}
 use Rattle.dns_rows.specs.declared.row.Rule.TheVariants as rules
 use Rattle.dns_view.specs.Parts.{Skips}
-use Rattle.dns_view.specs.Parameters.{IsAbove, TookParameter, LacksHead, TruncatedValue, RefusedValue, IsParameterError}
+use Rattle.dns_view.specs.Parameters.{IsAbove, TookParameter, ParametersBefore, LacksHead, TruncatedValue, RefusedValue, IsParameterError}
 use Rattle.dns_view.specs.Values.{HasValue, IsKeyError}
 use Rattle.dns_view.proofs.ParameterLists.{StandEach, Risen, risen_push, risen_not, risen_rises, fails_test, OneOf, one_long, one_once, one_of}
 use Rattle.dns_view.proofs.ParameterLists.{parameters_each, each_parameters, each_inside, each_rest}
@@ -162,6 +162,9 @@ on_taken {last = last} on = record { message = on.behind.message; field = each_p
 
 -- ---- how the loop ends
 
+abbrev before_of : {old d : Reading} {last : Option ℕ} {end : ℕ} (on : ParametersOn old last d) → d.index + 4 ≤ end → ParametersBefore end old d
+before_of on room = record { values = on.items; took = on_taken on; texts = on.texts; room = room }
+
 -- all that are encoded there have one more, if octets are left
 record NextOf (m : List ℕ) (p end : ℕ) (xs v : List (Numbered ParameterValue)) : Type 0 where
   next : Numbered ParameterValue
@@ -217,7 +220,7 @@ parameters_refused {start} {n} {e} {old} {d} {b} {last} on room h =
               let text = all_behind (λ y. HasText y.0 y.1) on.items (x.next ∷ x.rest) (subst HaveTexts x.same a.0) in
               none.none x.next x.offset (subst (λ (m : List ℕ). OneOf m d.index x.next x.offset) (sym on.behind.message) x.one) text.0;
         };
-        fault = inr (omega (arith, on.behind.index, room), inl (record { before = on.items; between = d; took = on_taken on; room = room; refused = h }));
+        fault = inr (omega (arith, on.behind.index, room), inl (record { between = d; before = before_of on room; refused = h }));
       };
     }
 
@@ -240,11 +243,10 @@ parameters_unordered {start} {n} {key} {old} {d} {b} {last} on room f fails =
         fault = inr (
           omega (arith, on.behind.index, room),
           inr (inl (record {
-            before = on.items;
             between = d;
-            took = on_taken on;
-            last = x;
-            then = f.took;
+            before = before_of on room;
+            key = key;
+            then = f;
             error = refl;
             order = fails_test (on.items ++ x ∷ []) (risen_not last on.items x [] on.risen fails);
           })),
@@ -269,9 +271,12 @@ parameters_passed {start} {n} {key} {size} {old} {d} {b} {last} on room f above 
         fault = inr (
           omega (arith, on.behind.index, room),
           inr (inr (record {
-            taken = more.items;
+            between = d;
+            before = before_of on room;
+            key = key;
+            then = f;
+            order = risen_rises (Some key) (on.items ++ (key, f.value) ∷ []) (risen_push last on.items (key, f.value) on.risen above);
             size = size;
-            took = on_taken more;
             error = refl;
             passed = past;
             index = omega (arith, is, more.behind.index, before);

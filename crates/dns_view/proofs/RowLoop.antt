@@ -6,7 +6,7 @@ use Rattle.dns_types.specs.declared.error.DecodeError.{DecodeError}
 use Rattle.dns_types.specs.declared.error.DecodeError.TheVariants as decode
 use Rattle.dns_fields.specs.declared.Kind.{Kind}
 use Rattle.dns_fields.specs.declared.Kind.TheVariants.{Number, Octets, Name, CharacterString}
-use Rattle.dns_fields.specs.Fields.{Values, Field, Stands, EndsItself}
+use Rattle.dns_fields.specs.Fields.{Value, Values, Field, Stands, EndsItself}
 use Rattle.dns_fields.proofs.FieldLaws.{field_inside}
 use Rattle.dns_names_wire.specs.{State.Reading, Terms.StaysBehind}
 use Rattle.dns_names_wire.proofs.FieldReads.{stands_inside}
@@ -17,27 +17,31 @@ use Rattle.dns_view.specs.Rows.{AreCovered, IsRow, HasRow, RowFault, RowReached,
 use Rattle.dns_view.proofs.Asked.{asks_join, asks_split, row_fewest}
 
 -- of the fields that are left the last one tells where the row ends; if none is left, it ends here
-abbrev Reaching : (row left : List Part) (end at : ℕ) → Type 0
-Reaching row [] end at = RowReached row end at
-Reaching row (p ∷ left) end at = (q : ℕ) → RowReached (p ∷ left) end q → RowReached row end q
+abbrev Reaching : (row left : List Part) → Values (kinds_of row) → Values (kinds_of left) → (end q : ℕ) → Type 0
+Reaching row [] vs ws end q = RowReached row end vs q
+Reaching row (p ∷ left) vs ws end q = RowReached (p ∷ left) end ws q → RowReached row end vs q
 
-reaching_first : (row : List Part) (end at : ℕ) → Reaching row row end at
-reaching_first [] end at = tt
-reaching_first (p ∷ left) end at = λ q h. h
+reaching_first : (row : List Part) (vs : Values (kinds_of row)) (end q : ℕ) → Reaching row row vs vs end q
+reaching_first [] vs end q = tt
+reaching_first (p ∷ left) vs end q = λ h. h
 
-reaching_next : (row : List Part) (p : Part) (left : List Part) (end at there : ℕ) → Reaching row (p ∷ left) end at → Ends p.kind p.rule end there
-    → Reaching row left end there
-reaching_next row p [] end at there h e = h there e
-reaching_next row p (l ∷ left) end at there h e = λ q r. h q r
+reaching_next : (row : List Part) (p : Part) (left : List Part) (m : List ℕ) (vs : Values (kinds_of row)) (v : Value p.kind) (ws : Values (kinds_of left)) (end at q : ℕ)
+    → Reaching row (p ∷ left) vs (v, ws) end q → Ends p.kind p.rule end v at → Stands m at (kinds_of left) ws q → Reaching row left vs ws end q
+reaching_next row p [] m vs v ws end at q h e s = h (subst (λ (i : ℕ). Ends p.kind p.rule end v i) s e)
+reaching_next row p (l ∷ left) m vs v ws end at q h e s = h
+
+-- the row, if what is left of it ends at an offset
+pub record Gives (row left : List Part) (m : List ℕ) (at end q : ℕ) (ws : Values (kinds_of left)) : Type 0 where
+  pub has : HasRow m at row q
+  pub reached : Reaching row left has.values ws end q
 
 -- the fields before those that are left were taken
 pub record RowSo (row left : List Part) (n : ℕ) (old now : Reading) : Type 0 where
   pub behind : StaysBehind old now
   pub ordered : IsRow left
   pub covered : AreCovered left
-  pub gives : (end : ℕ) → HasRow old.message now.index left end → HasRow old.message old.index row end
+  pub gives : (q : ℕ) (h : HasRow old.message now.index left q) → Gives row left old.message old.index (old.index + n) q h.values
   pub only : HasRow old.message old.index row (old.index + n) → HasRow old.message now.index left (old.index + n)
-  pub reached : Reaching row left (old.index + n) now.index
   pub fault : (e : DecodeError) (new : Reading) → RowFault left old.index n now e new → RowFault row old.index n old e new
 
 pub none_so : (row : List Part) (n : ℕ) (old : Reading) → IsRow row → AreCovered row → RowSo row row n old old
@@ -45,9 +49,8 @@ none_so row n old ordered covered = record {
   behind = record { message = refl; index = omega arith };
   ordered = ordered;
   covered = covered;
-  gives = λ end h. h;
+  gives = λ q h. record { has = h; reached = reaching_first row h.values (old.index + n) q };
   only = λ h. h;
-  reached = reaching_first row (old.index + n) old.index;
   fault = λ e new f. f;
 }
 
@@ -85,8 +88,13 @@ field_taken row p left n old now new so a =
       behind = record { message = a.took.message ∙ same; index = omega (arith, so.behind.index, (field_inside here).0) };
       ordered = behind_row p left so.ordered;
       covered = so.covered.1;
-      gives = λ end h. so.gives end
-          (record { values = (a.value, h.values); stands = (new.index, here, h.stands); meets = asks_join p.rule p.kind a.value (MeetsRow left h.values) a.asked h.meets });
+      gives = λ q h.
+          let g = so.gives q
+          (record { values = (a.value, h.values); stands = (new.index, here, h.stands); meets = asks_join p.rule p.kind a.value (MeetsRow left h.values) a.asked h.meets }) in
+          record {
+            has = g.has;
+            reached = reaching_next row p left old.message g.has.values a.value h.values (old.index + n) new.index q g.reached a.ends h.stands;
+          };
       only = λ h.
           let k = so.only h in
           let q = k.stands.0 in
@@ -97,7 +105,6 @@ field_taken row p left n old now new so a =
             stands = subst (λ (x : ℕ). Stands old.message x (kinds_of left) k.values.1 (old.index + n)) there k.stands.2;
             meets = (asks_split p.rule p.kind k.values.0 (MeetsRow left k.values.1) k.meets).1;
           };
-      reached = reaching_next row p left (old.index + n) now.index new.index so.reached a.ends;
       fault = λ e next f. so.fault e next (inr (a.value, new, a.took, a.asked, a.ends, f));
     }
 
@@ -120,13 +127,15 @@ field_refused row p left n e old now new so long r = record {
 
 -- all were taken
 row_taken : (row : List Part) (n : ℕ) (old now : Reading) → RowSo row [] n old now → TookRow row n old now
-row_taken row n old now so = record {
-  behind = so.behind;
-  fields = so.gives now.index (record { values = tt; stands = refl; meets = tt });
-  reached = so.reached;
-  here = λ e. so.gives (old.index + n) (record { values = tt; stands = e; meets = tt });
-  elsewhere = λ ne. record { none = λ h. ne (so.only h).stands };
-}
+row_taken row n old now so =
+    let g = so.gives now.index (record { values = tt; stands = refl; meets = tt }) in
+    record {
+      behind = so.behind;
+      fields = g.has;
+      reached = g.reached;
+      here = λ e. (so.gives (old.index + n) (record { values = tt; stands = e; meets = tt })).has;
+      elsewhere = λ ne. record { none = λ h. ne (so.only h).stands };
+    }
 
 -- ---- by the index in the row
 

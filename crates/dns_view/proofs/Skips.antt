@@ -23,7 +23,7 @@ use Rattle.dns_fields.specs.declared.Kind.TheVariants.{Parameters, Bitmap}
 
 -- a field that says itself where it ends was taken
 pub skipped_itself : {rule : Rule} {k : Kind} {v : Value k} {end : ℕ} {old new : Reading} → EndsItself k → TookField old k v new → Asks rule k v
-    → Ends k rule end new.index → Skipped rule k end old new
+    → Ends k rule end v new.index → Skipped rule k end old new
 skipped_itself itself t a e = record { value = _; took = t; asked = a; one = λ w q f r. field_end itself f t.field; ends = e }
 
 pub none_by : {rule : Rule} {k : Kind} {end : ℕ} {old : Reading} → LacksField old k → NoPart rule k end old
@@ -142,13 +142,13 @@ string_fault r start n old new e p why l = (why, l)
 pub lacks_of : {e : DecodeError} {old new : Reading} {k : Kind} → e ≡ decode.InsufficientBytes → RefusedField e old k new → LacksField old k
 lacks_of {e} {old} {new} {k} why r = let P : DecodeError → Type 0 = λ x. UnlessMemory x (LacksField old k) in subst P why r.none
 
-pub any_end : (rule : Rule) (end q : ℕ) → IsUnasked rule CharacterString → Ends CharacterString rule end q
-any_end rules.Tag end q u = absurd u
-any_end r end q u = tt
+pub any_end : (rule : Rule) (end : ℕ) (s : List ℕ) (q : ℕ) → IsUnasked rule CharacterString → Ends CharacterString rule end s q
+any_end rules.Tag end s q u = absurd u
+any_end r end s q u = tt
 
 pub string_skips : {rule : Rule} {start n : ℕ} {s : List ℕ} {old new : Reading} → TookField old CharacterString s new → IsUnasked rule CharacterString
     → Skips rule CharacterString start n (Ok tt) old new
-string_skips {rule} t p = record { is = skipped_itself tt t (unasked rule CharacterString _ p) (any_end rule _ _ p) }
+string_skips {rule} t p = record { is = skipped_itself tt t (unasked rule CharacterString _ p) (any_end rule _ _ _ p) }
 
 pub string_refused : {rule : Rule} {start n : ℕ} {e : DecodeError} {old new : Reading} → RefusedField e old CharacterString new → e ≡ decode.InsufficientBytes
     → LacksText old new

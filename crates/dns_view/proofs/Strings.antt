@@ -1,7 +1,7 @@
 -- Character strings that are gone over one after the other (as dns_rdata_base's TextLists).
 use Rattle.std.proofs.Common.{◌≡◌, ℕ, ◌+◌, ◌≤◌, ◌<◌, List, [], ◌∷◌, ◌++◌, length, refl, sym, ap, ◌∙◌, arith, subst, Ok, Err}
 use Rattle.std.specs.List.{flat_map, AllByRecursion}
-use Rattle.std.proofs.lemmas.{List.append-nil, List.Concat.flat_map-cons, Grind.flat_map-append}
+use Rattle.std.proofs.lemmas.{List.append-nil, List.length-append, List.same_from_push, List.Concat.flat_map-cons, Grind.flat_map-append}
 use Rattle.dns_types.specs.declared.error.DecodeError.{DecodeError}
 use Rattle.dns_types.specs.declared.error.DecodeError.TheVariants as decode
 use Rattle.dns_fields.specs.declared.Kind.TheVariants.{CharacterString, CharacterStrings}
@@ -42,6 +42,7 @@ pub record On (old : Reading) (end : ℕ) (d : Reading) : Type 0 where
   pub behind : old.index ≤ d.index
   pub strings : List (List ℕ)
   pub took : Field old.message old.index CharacterStrings strings d.index
+  pub last : (front : List (List ℕ)) (s : List ℕ) → strings ≡ front ++ s ∷ [] → d.index < end + length (string s)
   pub rest : (ws : List (List ℕ)) → Field old.message old.index CharacterStrings ws end → (vs : List (List ℕ))
       × Field old.message d.index CharacterStrings vs end
 
@@ -49,7 +50,14 @@ no_strings : (m : List ℕ) (p : ℕ) → p ≤ length m → Field m p Character
 no_strings m p h = record { is = (tt, record { ends = omega arith; within = h; same = refl }) }
 
 pub on_none : {old : Reading} (end : ℕ) → old.index ≤ length old.message → On old end old
-on_none {old} end h = record { message = refl; behind = omega arith; strings = []; took = no_strings old.message old.index h; rest = λ ws f. (ws, f) }
+on_none {old} end h = record {
+  message = refl;
+  behind = omega arith;
+  strings = [];
+  took = no_strings old.message old.index h;
+  last = λ front s e. absurd (omega (arith, ap length e, length-append front (s ∷ [])));
+  rest = λ ws f. (ws, f);
+}
 
 pub on_more : {old d b : Reading} {end : ℕ} {s : List ℕ} → On old end d → TookField d CharacterString s b → d.index < end → On old end b
 on_more {old} {d} {b} {end} {s} r f lt =
@@ -59,6 +67,7 @@ on_more {old} {d} {b} {end} {s} r f lt =
       behind = omega (arith, r.behind, (field_inside g).0);
       strings = r.strings ++ s ∷ [];
       took = strings_push r.took g;
+      last = λ front t e. omega (arith, lt, g.is.1.ends, ap length (same_from_push r.strings front s t e).1);
       rest = λ ws h.
           let vs = r.rest ws h in
           let x = next_string old.message d.index end vs.0 lt vs.1 in
@@ -81,7 +90,7 @@ strings_skip {rule} {start = start} {n} {old} {d} r past = record {
     one = λ v q f e.
         let vs = r.rest v (subst (λ (x : ℕ). Field old.message old.index CharacterStrings v x) e f) in
         omega (arith, (field_inside vs.1).0, e);
-    ends = past;
+    ends = record { reach = past; last = r.last };
   };
 }
 

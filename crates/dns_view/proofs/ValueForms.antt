@@ -247,6 +247,7 @@ names_wrong {octets} {rest} {n} f some count room wrong =
       name = take n (drop 1 rest);
       rest = drop (1 + n) rest;
       split = f.front ∙ ap (λ (t : List ℕ). flat_map string f.names ++ t) (split_first n rest some count room);
+      texts = f.texts;
       wrong = λ t. wrong (subst (λ (i : ℕ). IsUtf8 (take i (drop 1 rest))) (sym size) t);
     }
 

@@ -1,5 +1,5 @@
 pub mod NameEnds
-pub mod Pointers
+pub mod Steps
 pub mod Tags
 pub mod Blocks
 pub mod Values
@@ -8,7 +8,7 @@ pub mod OptionOctets
 pub mod Parameters
 pub mod Parts
 pub mod Rows
-pub mod RowPointers
+pub mod RowSteps
 pub mod Checks
 pub mod Putting
 pub mod Shown

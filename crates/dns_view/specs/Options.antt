@@ -135,16 +135,16 @@ pub record LacksLength (end : ℕ) (d : Reading) (e : DecodeError) (new : Readin
   pub before : new.index < end
   pub lacks : LacksOctets new 2
 
--- the code, or the length after it, goes past the end of the n octets
-pub record PassedEnd (start n : ℕ) (d : Reading) (e : DecodeError) (new : Reading) : Type 0 where
-  pub error : e ≡ decode.IncorrectRDataLengthRead (new.index - start) n
-  pub past : start + n < new.index
-  pub short : new.index ≤ d.index + 4
-  pub message : new.message ≡ d.message
-
 -- a code and a length are taken
 abbrev pub TookHead : Reading → ℕ → ℕ → Reading → Type 0
 TookHead d code size new = Took d (Number 2 ∷ Number 2 ∷ []) (code, (size, tt)) new
+
+-- the code goes past the end of the n octets, or ends before it and the length after it goes past
+pub record PassedEnd (start n : ℕ) (d : Reading) (e : DecodeError) (new : Reading) : Type 0 where
+  pub error : e ≡ decode.IncorrectRDataLengthRead (new.index - start) n
+  pub past : start + n < new.index
+  pub head : ((code : ℕ) × TookField d (Number 2) code new)
+      ⊎ ((code : ℕ) × (size : ℕ) × (d.index + 2 < start + n) × TookHead d code size new)
 
 -- the option's length is greater than that of all options
 pub record LongOption (n end : ℕ) (d : Reading) (e : DecodeError) (new : Reading) : Type 0 where
@@ -174,10 +174,9 @@ IsTlvError start n d e new = LacksCode d e new
     ⊎ (LacksLength (start + n) d e new
     ⊎ (PassedEnd start n d e new ⊎ (LongOption n (start + n) d e new ⊎ LacksBody n (start + n) d e new)))
 
--- the next option is rejected; what was taken past the end is more than a code that ends there
+-- the next option is rejected
 pub record RefusedTlv (start n : ℕ) (old : Reading) (e : DecodeError) (new : Reading) : Type 0 where
   pub behind : StaysBehind old new
-  pub past : start + n < new.index → old.index + 2 ≢ start + n
   pub why : IsTlvError start n old e new
 
 abbrev pub ReadsTlv : {T : Type 0} → (T → Numbered (List ℕ)) → ℕ → ℕ → Result (Option T) DecodeError → Reading

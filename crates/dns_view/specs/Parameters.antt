@@ -5,7 +5,7 @@ use Rattle.dns_types.specs.declared.error.DecodeError.TheVariants as decode
 use Rattle.dns_fields.specs.declared.Kind.TheVariants.{Number, Rest, Parameters}
 use Rattle.dns_fields.specs.Octets.{At}
 use Rattle.dns_fields.specs.Tlvs.{tlv, IsTlv, Numbered, ParameterValue, Rising}
-use Rattle.dns_rows.specs.Rules.{HasText}
+use Rattle.dns_rows.specs.Rules.{HasText, HaveTexts}
 use Rattle.dns_names_wire.specs.{State.Reading, Terms.Took, Terms.TookField, Terms.LacksOctets}
 use Rattle.dns_view.specs.Values.{IsKeyError}
 
@@ -55,29 +55,36 @@ pub record RefusedValue (old : Reading) (e : DecodeError) (new : Reading) : Type
 abbrev pub IsParameterError : Reading → DecodeError → Reading → Type 0
 IsParameterError old e new = LacksHead old e new ⊎ (TruncatedValue old e new ⊎ RefusedValue old e new)
 
--- after parameters that are taken, one is rejected
-pub record RefusedParameter (end : ℕ) (old : Reading) (e : DecodeError) (new : Reading) : Type 0 where
-  pub before : List (Numbered ParameterValue)
-  pub between : Reading
-  pub took : TookField old Parameters before between
+-- parameters are taken, whose paths are UTF-8, and at least four octets are left before the end
+pub record ParametersBefore (end : ℕ) (old between : Reading) : Type 0 where
+  pub values : List (Numbered ParameterValue)
+  pub took : TookField old Parameters values between
+  pub texts : HaveTexts values
   pub room : between.index + 4 ≤ end
+
+-- after parameters one is rejected
+pub record RefusedParameter (end : ℕ) (old : Reading) (e : DecodeError) (new : Reading) : Type 0 where
+  pub between : Reading
+  pub before : ParametersBefore end old between
   pub refused : IsParameterError between e new
 
--- after parameters that are taken, one is taken whose key is not greater than theirs
-pub record WrongOrder (old : Reading) (e : DecodeError) (new : Reading) : Type 0 where
-  pub before : List (Numbered ParameterValue)
+-- after parameters one is taken whose key is not greater than theirs
+pub record WrongOrder (end : ℕ) (old : Reading) (e : DecodeError) (new : Reading) : Type 0 where
   pub between : Reading
-  pub took : TookField old Parameters before between
-  pub last : Numbered ParameterValue
-  pub then : TookField between Parameters (last ∷ []) new
+  pub before : ParametersBefore end old between
+  pub key : ℕ
+  pub then : TookParameter between key new
   pub error : e ≡ decode.SvcParamsOutOfOrder
-  pub order : Rising (before ++ last ∷ []) → ⊥
+  pub order : Rising (before.values ++ (key, then.value) ∷ []) → ⊥
 
--- parameters are taken beyond the n octets of RDATA from the offset p
+-- after parameters one of a greater key is taken, which ends beyond the n octets of RDATA from the offset p
 pub record PassedParameters (p n : ℕ) (old : Reading) (e : DecodeError) (new : Reading) : Type 0 where
-  pub taken : List (Numbered ParameterValue)
+  pub between : Reading
+  pub before : ParametersBefore (p + n) old between
+  pub key : ℕ
+  pub then : TookParameter between key new
+  pub order : Rising (before.values ++ (key, then.value) ∷ [])
   pub size : ℕ
-  pub took : TookField old Parameters taken new
   pub error : e ≡ decode.IncorrectRDataLengthRead size n
   pub passed : n < size
   pub index : new.index ≡ p + size
@@ -85,4 +92,4 @@ pub record PassedParameters (p n : ℕ) (old : Reading) (e : DecodeError) (new :
 -- parameters to the end of n octets of RDATA from p
 abbrev pub IsParametersError : ℕ → ℕ → Reading → DecodeError → Reading → Type 0
 IsParametersError p n old e new =
-    RefusedParameter (p + n) old e new ⊎ (WrongOrder old e new ⊎ PassedParameters p n old e new)
+    RefusedParameter (p + n) old e new ⊎ (WrongOrder (p + n) old e new ⊎ PassedParameters p n old e new)

@@ -9,7 +9,7 @@ use Rattle.dns_fields.specs.declared.Kind.TheVariants.{Options, Parameters, Bitm
 use Rattle.dns_fields.specs.{Fields.Value, Fields.Field}
 use Rattle.dns_fields.specs.Bitmaps.{BitmapAt}
 use Rattle.dns_names_wire.specs.{State.Reading, Terms.TookField, Terms.LacksField, Terms.LacksOctets, Terms.LacksText}
-use Rattle.dns_names_wire.specs.{Terms.StaysBehind}
+use Rattle.dns_names_wire.specs.{Terms.StaysBehind, Terms.StringsReach}
 use Rattle.dns_rows.specs.declared.row.Rule.{Rule}
 use Rattle.dns_rows.specs.declared.row.Rule.TheVariants as rules
 use Rattle.dns_rows.specs.Rules.{AreLetters, also}
@@ -64,17 +64,18 @@ abbrev pub step_of : Rule → ℕ
 step_of (rules.Steps n) = max 1 n
 step_of r = 1
 
--- Where a field ends that was taken, if the RDATA ends at `end`: a tag within it; strings reach the end or pass it;
--- parameters leave at most three octets; every other field that does not say itself where it ends, with the RDATA.
-abbrev pub Ends : Kind → Rule → ℕ → ℕ → Type 0
-Ends CharacterString rules.Tag end q = q ≤ end
-Ends CharacterString r end q = Unit {0}
-Ends CharacterStrings r end q = end ≤ q
-Ends Parameters r end q = (q ≤ end) × (end < q + 4)
-Ends Rest r end q = q ≡ end
-Ends Options r end q = q ≡ end
-Ends Bitmap r end q = q ≡ end
-Ends k r end q = Unit {0}
+-- Where a field ends that was taken, if the RDATA ends at `end`: a tag within it; strings reach the end or pass it, and
+-- the last one begins before it; parameters leave at most three octets; every other field that does not say itself where
+-- it ends, with the RDATA.
+abbrev pub Ends : (k : Kind) → Rule → ℕ → Value k → ℕ → Type 0
+Ends CharacterString rules.Tag end v q = q ≤ end
+Ends CharacterString r end v q = Unit {0}
+Ends CharacterStrings r end v q = StringsReach end v q
+Ends Parameters r end v q = (q ≤ end) × (end < q + 4)
+Ends Rest r end v q = q ≡ end
+Ends Options r end v q = q ≡ end
+Ends Bitmap r end v q = q ≡ end
+Ends k r end v q = Unit {0}
 
 -- A field was taken: it is there and is as its rule asks, and any other way to read it ends at the same offset.
 pub record Skipped (rule : Rule) (k : Kind) (end : ℕ) (old new : Reading) : Type 0 where
@@ -82,7 +83,7 @@ pub record Skipped (rule : Rule) (k : Kind) (end : ℕ) (old new : Reading) : Ty
   pub took : TookField old k value new
   pub asked : Asks rule k value
   pub one : (v : Value k) (q : ℕ) → Field old.message old.index k v q → Reaches k end q → q ≡ new.index
-  pub ends : Ends k rule end new.index
+  pub ends : Ends k rule end value new.index
 
 -- no field is there that is as its rule asks
 pub record NoPart (rule : Rule) (k : Kind) (end : ℕ) (old : Reading) : Type 0 where

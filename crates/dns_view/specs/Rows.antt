@@ -97,7 +97,7 @@ abbrev pub RowFault : List Part → ℕ → ℕ → Reading → DecodeError → 
 RowFault [] start n old e new = ⊥
 RowFault (p ∷ row) start n old e new = KindFault p.rule p.kind start n old e new
     ⊎ ((v : Value p.kind) × (between : Reading) × TookField old p.kind v between × Asks p.rule p.kind v
-    × Ends p.kind p.rule (start + n) between.index × RowFault row start n between e new)
+    × Ends p.kind p.rule (start + n) v between.index × RowFault row start n between e new)
 
 -- RDLENGTH is less than the row asks for, and nothing is taken
 pub record ShortLength (row : List Part) (n : ℕ) (old : Reading) (e : DecodeError) (new : Reading) : Type 0 where
@@ -110,16 +110,16 @@ abbrev pub RowError : List Part → ℕ → Reading → DecodeError → Reading 
 RowError row n old e new = ShortLength row n old e new ⊎ ((asked_length row ≤ n) × RowFault row old.index n old e new)
 
 -- where the last field ends, if the RDATA ends at `end`
-abbrev pub RowReached : List Part → ℕ → ℕ → Type 0
-RowReached [] end q = Unit {0}
-RowReached (p ∷ []) end q = Ends p.kind p.rule end q
-RowReached (p ∷ (l ∷ row)) end q = RowReached (l ∷ row) end q
+abbrev pub RowReached : (row : List Part) → ℕ → Values (kinds_of row) → ℕ → Type 0
+RowReached [] end vs q = Unit {0}
+RowReached (p ∷ []) end vs q = Ends p.kind p.rule end vs.0 q
+RowReached (p ∷ (l ∷ row)) end vs q = RowReached (l ∷ row) end vs.1 q
 
 -- The fields were taken. If they end with the RDATA, the row is there; if they do not, no row fills it.
 pub record TookRow (row : List Part) (n : ℕ) (old new : Reading) : Type 0 where
   pub behind : StaysBehind old new
   pub fields : HasRow old.message old.index row new.index
-  pub reached : RowReached row (old.index + n) new.index
+  pub reached : RowReached row (old.index + n) fields.values new.index
   pub here : new.index ≡ old.index + n → HasRow old.message old.index row (old.index + n)
   pub elsewhere : new.index ≢ old.index + n → NoRow old.message old.index row (old.index + n)
 

@@ -1,34 +1,31 @@
 -- What a field of a view shows.
-use Rattle.std.specs.Prelude.{◌≡◌, ℕ, zero, suc, List, [], ◌∷◌, length}
+use Rattle.std.specs.Prelude.{◌≡◌, ℕ, zero, suc, List, [], ◌∷◌}
 use Rattle.std.specs.List.{flat_map}
 use Rattle.dns_fields.specs.declared.Kind.{Kind}
 use Rattle.dns_fields.specs.declared.Kind.TheVariants as kinds
-use Rattle.dns_fields.specs.{Fields.Value, Fields.Values, Fields.Field, Names.IsNameIn, Tlvs.string}
+use Rattle.dns_fields.specs.{Octets.At, Fields.Value, Fields.Values, Fields.Field, Fields.Stands, Tlvs.string}
 use Rattle.dns_view.specs.declared.field.FieldRef.{FieldRef}
 use Rattle.dns_view.specs.declared.field.FieldRef.TheVariants as shown
 
--- the octets are the value's encoding, whole
-abbrev pub IsAlone : List ℕ → (k : Kind) → Value k → Type 0
-IsAlone s k v = Field s 0 k v (length s)
+-- Of a field that is encoded from i to q: its value; of a name, the message and the offset where it is encoded, before
+-- any pointer; of options, parameters and a bitmap, these octets.
+abbrev pub IsShown : List ℕ → ℕ → FieldRef → (k : Kind) → Value k → ℕ → Type 0
+IsShown m i (shown.Number n) (kinds.Number w) v q = n ≡ v
+IsShown m i (shown.Octets s) (kinds.Octets n) v q = s.now ≡ v
+IsShown m i (shown.Name r) kinds.Name v q = (r.message.now ≡ m) × (r.offset ≡ i)
+IsShown m i (shown.CharacterString s) kinds.CharacterString v q = s.now ≡ v
+IsShown m i (shown.CharacterStrings s) kinds.CharacterStrings v q = s.now ≡ flat_map string v
+IsShown m i (shown.Rest s) kinds.Rest v q = s.now ≡ v
+IsShown m i (shown.Options s) kinds.Options v q = At m i s.now q
+IsShown m i (shown.Parameters s) kinds.Parameters v q = At m i s.now q
+IsShown m i (shown.Bitmap s) kinds.Bitmap v q = At m i s.now q
+IsShown m i f k v q = ⊥
 
--- The value of a field; of a name, where it is encoded; of options, parameters and a bitmap, their encoding.
-abbrev pub IsShown : FieldRef → (k : Kind) → Value k → Type 0
-IsShown (shown.Number n) (kinds.Number w) v = n ≡ v
-IsShown (shown.Octets s) (kinds.Octets n) v = s.now ≡ v
-IsShown (shown.Name r) kinds.Name v = (q : ℕ) × IsNameIn r.message.now r.offset v q
-IsShown (shown.CharacterString s) kinds.CharacterString v = s.now ≡ v
-IsShown (shown.CharacterStrings s) kinds.CharacterStrings v = s.now ≡ flat_map string v
-IsShown (shown.Rest s) kinds.Rest v = s.now ≡ v
-IsShown (shown.Options s) kinds.Options v = IsAlone s.now kinds.Options v
-IsShown (shown.Parameters s) kinds.Parameters v = IsAlone s.now kinds.Parameters v
-IsShown (shown.Bitmap s) kinds.Bitmap v = IsAlone s.now kinds.Bitmap v
-IsShown f k v = ⊥
+pub record Shows (m : List ℕ) (i : ℕ) (f : FieldRef) (k : Kind) (v : Value k) (q : ℕ) : Type 0 where
+  pub is : IsShown m i f k v q
 
-pub record Shows (f : FieldRef) (k : Kind) (v : Value k) : Type 0 where
-  pub is : IsShown f k v
-
--- the field of this index
-abbrev pub ShowsAt : ℕ → (kinds : List Kind) → Values kinds → FieldRef → Type 0
-ShowsAt n [] vs f = ⊥
-ShowsAt zero (k ∷ kinds) vs f = Shows f k vs.0
-ShowsAt (suc n) (k ∷ kinds) vs f = ShowsAt n kinds vs.1 f
+-- the field of this index among those that follow each other from p to the end
+abbrev pub ShowsAt : List ℕ → ℕ → ℕ → (kinds : List Kind) → Values kinds → ℕ → FieldRef → Type 0
+ShowsAt m p n [] vs end f = ⊥
+ShowsAt m p zero (k ∷ kinds) vs end f = (q : ℕ) × Field m p k vs.0 q × Stands m q kinds vs.1 end × Shows m p f k vs.0 q
+ShowsAt m p (suc n) (k ∷ kinds) vs end f = (q : ℕ) × Field m p k vs.0 q × ShowsAt m q n kinds vs.1 end f

@@ -1,6 +1,6 @@
 -- The values of service parameters, and why octets are none (RFC 9460, 7 and 8; RFC 9461, 5).
 use Rattle.std.specs.Prelude.{◌≡◌, ◌≢◌, ◌⊎◌, ℕ, ◌%◌, ◌<◌, true, List, [], ◌∷◌, ◌++◌, length, IsUtf8}
-use Rattle.std.specs.List.{flat_map}
+use Rattle.std.specs.List.{flat_map, AllByRecursion}
 use Rattle.dns_types.specs.declared.error.DecodeError.{DecodeError}
 use Rattle.dns_types.specs.declared.error.DecodeError.TheVariants as decode
 use Rattle.dns_fields.specs.Tlvs.{string, ParameterValue, ParameterForm, Keys, Names, Nothing, PortNumber, Addresses4}
@@ -23,20 +23,22 @@ pub record HasForm (form : ParameterForm) (octets : List ℕ) : Type 0 where
   pub emittable : IsEmittable value
   pub body : IsBody octets value
 
--- names of protocols, and after them one that has fewer octets than its length says
+-- names of protocols, which are UTF-8, and after them one that has fewer octets than its length says
 pub record TruncatedName (body : List ℕ) : Type 0 where
   pub names : List (List ℕ)
   pub size : ℕ
   pub octets : List ℕ
   pub split : body ≡ flat_map string names ++ size ∷ octets
+  pub texts : AllByRecursion IsUtf8 names
   pub truncated : length octets < size
 
--- names of protocols, and after them one that is not UTF-8
+-- names of protocols, which are UTF-8, and after them one that is not
 pub record WrongName (body : List ℕ) : Type 0 where
   pub names : List (List ℕ)
   pub name : List ℕ
   pub rest : List ℕ
   pub split : body ≡ flat_map string names ++ (string name ++ rest)
+  pub texts : AllByRecursion IsUtf8 names
   pub wrong : IsUtf8 name → ⊥
 
 -- why octets are no value of a format

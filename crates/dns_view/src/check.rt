@@ -4,7 +4,7 @@ ghost use Rattle.std.specs.Prelude.{◌≡◌, ◌+◌, ◌<◌, IfErr, OnOk};
 ghost use Rattle.dns_names_wire.specs.Terms.{StaysBehind};
 ghost use Rattle.dns_view.specs.Checks.{FillsRow, NoFill, IsRowError};
 ghost use Rattle.dns_view.specs.Rows.{IsRowChecked};
-ghost use Rattle.dns_view.specs.{Pointers.Leaves, RowPointers.RowPointers};
+ghost use Rattle.dns_view.specs.{Steps.Leaves, RowSteps.RowSteps};
 
 use crate::skip::skip_row;
 use crate::walk::Walk;
@@ -22,7 +22,7 @@ use dns_types::DecodeError;
 ///   field was rejected, after another number of octets than `len`, with both numbers.
 /// - Otherwise the error of the first field that is missing or breaks the rule of its row.
 ///
-/// Subtracts from `left` how many compression pointers are followed; it stops at 0. They are those of the names up to and
+/// Subtracts from `left` how many steps are taken; it stops at 0. They are those of the names up to and
 /// including a field that is rejected.
 #[inline]
 pub fn check_data(
@@ -38,7 +38,7 @@ pub fn check_data(
     ensures refused { IfErr result (λ e. NoFill walk.old.message walk.old.index len row.now) }
     ensures why { IfErr result (λ e. IsRowError row.now len walk.old e walk.new) }
     ensures behind { StaysBehind walk.old walk.new }
-    ensures pointers { Leaves (RowPointers row.now len walk.old) left.old left.new }
+    ensures steps { Leaves (RowSteps row.now len walk.old) left.old left.new }
 {
     let start = walk.index();
     let own = skip_row(walk, row, len, left);

@@ -72,7 +72,7 @@ fn show_field<'a>(
     requires before { here ≤ end }
     requires within { end ≤ length message.now }
     requires named { kind ≡ Name → IsNamed message.now here }
-    ensures { (v : Value kind) → Field message.now here kind v end → Shows result kind v }
+    ensures { (v : Value kind) → Field message.now here kind v end → Shows message.now here result kind v end }
 {
     let octets = &message[here..end];
     match kind {
@@ -112,7 +112,8 @@ pub fn field_of<'a>(
     requires row { IsRowChecked row.now }
     requires short { len < 65536 }
     ensures { (h : HasRow message.now offset row.now (offset + len)) →
-        MatchOption result (length row.now ≤ number) (λ f. ShowsAt number (kinds_of row.now) h.values f) }
+        MatchOption result (length row.now ≤ number)
+        (λ f. ShowsAt message.now offset number (kinds_of row.now) h.values (offset + len) f) }
 {
     let end = offset + len;
     if message.len() < end {

@@ -4,7 +4,7 @@ ghost use Rattle.std.specs.Prelude.{◌≡◌, ℕ, ◌+◌, ◌≤◌, List, le
 ghost use Rattle.dns_fields.specs.{Labels.DomainName, Labels.wire, Names.IsNameIn};
 ghost use Rattle.dns_labels.specs.Reading.{IsRun};
 ghost use Rattle.dns_view.specs.NameEnds.{NameEnds, SkipsRun};
-ghost use Rattle.dns_view.specs.Pointers.{NamePointers, Leaves, OneCount, PointerExamples};
+ghost use Rattle.dns_view.specs.Steps.{NameSteps, Leaves, OneCount, PassesLabels, StepExamples};
 
 // The most octets that a name has before the 0 at its end (RFC 1035, 3.1).
 const MAX_OCTETS: usize = 254;
@@ -18,12 +18,75 @@ pub(crate) struct Run {
     pub(crate) octets: usize,
 }
 
-// Goes over labels up to an octet 0 or a compression pointer.
+// Labels that were gone over, and how many were passed, to their end or to the damage.
+#[derive(Clone, Copy)]
+struct PassedRun {
+    run: Option<Run>,
+    labels: usize,
+}
+
+// Goes over labels up to an octet 0 or a compression pointer, and counts them.
 //
 // The name has at most 254 octets with them, so whatever ends them is encoded before `most`. One comparison with it finds
 // both damage and a name that is too long.
 #[inline]
 #[tactic(auto, using(crate::proofs::NameSteps::pointer_skips, crate::proofs::NameSteps::zero_skips, crate::proofs::NameSteps::skipped_none))]
+fn pass_run(message: &[u8], offset: usize, before: usize) -> PassedRun
+    requires offset { offset ≤ length message.now }
+    requires few { before ≤ 254 }
+    ensures some { IfSome result.run (λ r. SkipsRun message.now offset r.next r.end before r.octets) }
+    ensures end { IfSome result.run (λ r. (r.end ≤ length message.now) × (before + result.labels ≤ r.octets)) }
+    ensures none { IfNone result.run ((front : List (List ℕ)) (stop : Option ℕ) (end : ℕ) →
+        IsRun message.now offset front stop end → before + length (wire front) ≤ 254 → ⊥) }
+    ensures labels { PassesLabels result.labels message.now offset before }
+    ensures few { before + result.labels ≤ 254 }
+{
+    if offset == message.len() {
+        return PassedRun {
+            run: None,
+            labels: 0,
+        };
+    }
+    let most = message.len().min(offset + (MAX_OCTETS - before) + 1);
+    let mut at = offset;
+    let mut first = message[at] as usize;
+    let mut labels = 0;
+    'labels: while first != 0 && first < 64 {
+        let next = at + (first + 1);
+        if next >= most {
+            return PassedRun { run: None, labels };
+        }
+        at = next;
+        first = message[at] as usize;
+        labels += 1;
+    }
+    let octets = before + (at - offset);
+    if first == 0 {
+        return PassedRun {
+            run: Some(Run {
+                end: at + 1,
+                next: None,
+                octets,
+            }),
+            labels,
+        };
+    }
+    if first < 192 || message.len() - at < 2 {
+        return PassedRun { run: None, labels };
+    }
+    let second = message[at + 1];
+    PassedRun {
+        run: Some(Run {
+            end: at + 2,
+            next: Some((first - 192) * 256 + second as usize),
+            octets,
+        }),
+        labels,
+    }
+}
+
+// The same without a count.
+#[inline]
 pub(crate) fn skip_run(message: &[u8], offset: usize, before: usize) -> Option<Run>
     requires offset { offset ≤ length message.now }
     requires few { before ≤ 254 }
@@ -32,44 +95,14 @@ pub(crate) fn skip_run(message: &[u8], offset: usize, before: usize) -> Option<R
     ensures none { IfNone result ((front : List (List ℕ)) (stop : Option ℕ) (end : ℕ) →
         IsRun message.now offset front stop end → before + length (wire front) ≤ 254 → ⊥) }
 {
-    if offset == message.len() {
-        return None;
-    }
-    let most = message.len().min(offset + (MAX_OCTETS - before) + 1);
-    let mut at = offset;
-    let mut first = message[at] as usize;
-    'labels: while first != 0 && first < 64 {
-        let next = at + (first + 1);
-        if next >= most {
-            return None;
-        }
-        at = next;
-        first = message[at] as usize;
-    }
-    let octets = before + (at - offset);
-    if first == 0 {
-        return Some(Run {
-            end: at + 1,
-            next: None,
-            octets,
-        });
-    }
-    if first < 192 || message.len() - at < 2 {
-        return None;
-    }
-    let second = message[at + 1];
-    Some(Run {
-        end: at + 2,
-        next: Some((first - 192) * 256 + second as usize),
-        octets,
-    })
+    pass_run(message, offset, before).run
 }
 
-// Where the encoding of a name ends, if one is there, and how many compression pointers were followed.
+// Where the encoding of a name ends, if one is there, and how many steps were taken.
 #[derive(Clone, Copy)]
 struct Followed {
     end: Option<usize>,
-    pointers: usize,
+    steps: usize,
 }
 
 // Goes over a name: its labels, and the compression pointers up to its end or to the damage.
@@ -80,40 +113,29 @@ fn follow_name(message: &[u8], start: usize) -> Followed
     ensures some { IfSome result.end (λ end. NameEnds message.now start end) }
     ensures end { IfSome result.end (λ end. end ≤ length message.now) }
     ensures none { IfNone result.end ((name : DomainName) (end : ℕ) → IsNameIn message.now start name end → ⊥) }
-    ensures pointers { NamePointers message.now start result.pointers }
+    ensures steps { NameSteps message.now start result.steps }
 {
-    let first = match skip_run(message, start, 0) {
+    let passed = pass_run(message, start, 0);
+    let mut steps = passed.labels;
+    let first = match passed.run {
         Some(first) => first,
-        None => {
-            return Followed {
-                end: None,
-                pointers: 0,
-            };
-        }
+        None => return Followed { end: None, steps },
     };
     let end = first.end;
     let mut region = message;
     let mut offset = start;
     let mut octets = first.octets;
     let mut next = first.next;
-    let mut pointers = 0;
     'runs: while let Some(target) = next {
         if target >= offset {
-            return Followed {
-                end: None,
-                pointers,
-            };
+            return Followed { end: None, steps };
         }
-        pointers += 1;
         region = &region[..offset];
-        let run = match skip_run(region, target, octets) {
+        let passed = pass_run(region, target, octets);
+        steps += 1 + passed.labels;
+        let run = match passed.run {
             Some(run) => run,
-            None => {
-                return Followed {
-                    end: None,
-                    pointers,
-                };
-            }
+            None => return Followed { end: None, steps },
         };
         offset = target;
         octets = run.octets;
@@ -121,7 +143,7 @@ fn follow_name(message: &[u8], start: usize) -> Followed
     }
     Followed {
         end: Some(end),
-        pointers,
+        steps,
     }
 }
 
@@ -136,37 +158,37 @@ pub fn skip_name(message: &[u8], start: usize) -> Option<usize>
 }
 
 /// Returns where the encoding of a name ends, or `None` if no name is encoded there, and subtracts from `left` how many
-/// compression pointers are followed; it stops at 0. If no name is encoded there, these are the pointers up to the damage.
+/// steps that takes; it stops at 0. A step is a label or a compression pointer. If no name is encoded there, the steps are
+/// those up to the damage.
 pub fn pass_name(message: &[u8], start: usize, left: &mut usize) -> Option<usize>
     requires { start ≤ length message.now }
     ensures some { IfSome result (λ end. NameEnds message.now start end) }
     ensures end { IfSome result (λ end. end ≤ length message.now) }
     ensures none { IfNone result ((name : DomainName) (end : ℕ) → IsNameIn message.now start name end → ⊥) }
-    ensures pointers { Leaves (NamePointers message.now start) left.old left.new }
+    ensures steps { Leaves (NameSteps message.now start) left.old left.new }
 {
     let followed = follow_name(message, start);
-    *left = left.saturating_sub(followed.pointers);
+    *left = left.saturating_sub(followed.steps);
     followed.end
 }
 
-/// Returns where the encoding of a name ends, and subtracts from `left` how many compression pointers are followed; it stops
-/// at 0. If no name is encoded there, it returns `None` and leaves `left` as it is.
+/// Returns where the encoding of a name ends, and subtracts from `left` how many labels and compression pointers it has; it
+/// stops at 0. If no name is encoded there, it returns `None` and leaves `left` as it is.
 #[inline]
 pub(crate) fn near_name(message: &[u8], start: usize, left: &mut usize) -> Option<usize>
     requires { start ≤ length message.now }
     ensures some { IfSome result (λ end. NameEnds message.now start end) }
-    ensures pointers { IfSome result (λ end. Leaves (NamePointers message.now start) left.old left.new) }
+    ensures steps { IfSome result (λ end. Leaves (NameSteps message.now start) left.old left.new) }
     ensures none { IfNone result (left.new ≡ left.old) }
 {
     let followed = follow_name(message, start);
     let end = followed.end?;
-    *left = left.saturating_sub(followed.pointers);
+    *left = left.saturating_sub(followed.steps);
     Some(end)
 }
 
-/// The compression pointers of a name are one number; and examples: none, one and two pointers, one to damage, and one
-/// to itself.
-pub fn pointers_hold()
+/// The steps of a name are one number; and examples: no compression pointer, one and two, one to damage, and one to itself.
+pub fn name_steps_hold()
     ensures one { OneCount }
-    ensures examples { PointerExamples }
+    ensures examples { StepExamples }
 {}

@@ -7,7 +7,7 @@ ghost use Rattle.dns_rows.specs.Rules.{AreLetters};
 ghost use Rattle.dns_view.specs.{Parts.Skips, Parts.Asks, Parts.Ends, Parts.IsCovered, Parts.IsUnasked, Parts.moved, Parts.step_of as octet_step};
 ghost use Rattle.dns_rows.specs.Fronts.{IsFront, is_front};
 ghost use Rattle.dns_view.specs.Rows.{IsRowChecked, SkipsRow, asked_length as row_asks};
-ghost use Rattle.dns_view.specs.{NameEnds.NameEnds, Pointers.NamePointers, Pointers.Leaves, RowPointers.FieldPointers, RowPointers.NearRow, RowPointers.RowPointers};
+ghost use Rattle.dns_view.specs.{NameEnds.NameEnds, Steps.NameSteps, Steps.Leaves, RowSteps.FieldSteps, RowSteps.NearRow, RowSteps.RowSteps};
 
 use crate::blocks::check_blocks;
 use crate::names::near_name;
@@ -100,7 +100,7 @@ fn letters_end(message: &[u8], at: usize, rule: Rule, start: usize, len: usize) 
 #[inline]
 fn is_asked(text: &[u8], rule: Rule, end: usize, data_end: usize) -> bool
     ensures asked { result ≡ true → Asks rule CharacterString text.now }
-    ensures ends { result ≡ true → Ends CharacterString rule data_end end }
+    ensures ends { result ≡ true → Ends CharacterString rule data_end text.now end }
 {
     match rule {
         Rule::Letters => are_letters(text),
@@ -143,7 +143,7 @@ fn field_end(walk: &Walk<'_>, part: &Part, start: usize, len: usize) -> Option<u
     requires short { len < 65536 }
     requires before { start ≤ walk.now.index }
     ensures { IfSome result (λ end. Skips part.now.rule part.now.kind start len (Ok tt) walk.now (moved walk.now end)
-        × FieldPointers part.now.kind walk.now 0) }
+        × FieldSteps part.now.kind walk.now 0) }
 {
     let at = walk.index();
     match part.kind {
@@ -168,7 +168,7 @@ fn field_end(walk: &Walk<'_>, part: &Part, start: usize, len: usize) -> Option<u
     }
 }
 
-// The same for a field that may be a name. If the name is there, it subtracts from `left` how many compression pointers it has;
+// The same for a field that may be a name. If the name is there, it subtracts from `left` how many steps it has;
 // `left` stops at 0.
 #[inline]
 fn near_end(
@@ -182,7 +182,7 @@ fn near_end(
     requires short { len < 65536 }
     requires before { start ≤ walk.now.index }
     ensures skips { IfSome result (λ end. Skips part.now.rule part.now.kind start len (Ok tt) walk.now (moved walk.now end)) }
-    ensures pointers { IfSome result (λ end. Leaves (FieldPointers part.now.kind walk.now) left.old left.new) }
+    ensures steps { IfSome result (λ end. Leaves (FieldSteps part.now.kind walk.now) left.old left.new) }
     ensures none { IfNone result (left.new ≡ left.old) }
 {
     match part.kind {
@@ -191,7 +191,7 @@ fn near_end(
     }
 }
 
-// Takes a field as `skip_field` does, and subtracts from `left` how many compression pointers are followed, which are those of
+// Takes a field as `skip_field` does, and subtracts from `left` how many steps are taken, which are those of
 // a name, whether it is there or not; `left` stops at 0.
 #[inline]
 fn pass_field(
@@ -206,7 +206,7 @@ fn pass_field(
     requires short { len < 65536 }
     requires before { start ≤ walk.old.index }
     ensures skips { Skips rule kind start len result walk.old walk.new }
-    ensures pointers { Leaves (FieldPointers kind walk.old) left.old left.new }
+    ensures steps { Leaves (FieldSteps kind walk.old) left.old left.new }
 {
     match kind {
         Kind::Name => pass_one_name(walk, rule, start, len, left),
@@ -288,7 +288,7 @@ fn pass_one_name(
     left: &mut usize,
 ) -> Result<(), DecodeError>
     ensures skips { Skips rule Name start len result walk.old walk.new }
-    ensures pointers { Leaves (FieldPointers Name walk.old) left.old left.new }
+    ensures steps { Leaves (FieldSteps Name walk.old) left.old left.new }
 {
     match walk.pass_name(left) {
         Ok(()) => Ok(()),
@@ -467,7 +467,7 @@ fn asked_length(row: &[Part]) -> usize
 }
 
 /// Returns whether fields of the row fill the `len` octets of RDATA from an offset, each as its rule asks, and then
-/// subtracts from `left` how many compression pointers their names follow; it stops at 0. `false` says nothing about them:
+/// subtracts from `left` how many steps their names follow; it stops at 0. `false` says nothing about them:
 /// [`skip_row`] tells. It is the quick way for RDATA that is not damaged. `front` are the numbers at the front of the row,
 /// which are taken at once.
 #[inline]
@@ -548,7 +548,7 @@ fn is_other_near(message: &[u8], at: usize, part: &Part, start: usize, len: usiz
 pub fn is_name_near(message: &[u8], at: usize, end: usize, left: &mut usize) -> bool
     requires within { at ≤ length message.now }
     ensures name { result ≡ true → NameEnds message.now at end }
-    ensures pointers { result ≡ true → Leaves (NamePointers message.now at) left.old left.new }
+    ensures steps { result ≡ true → Leaves (NameSteps message.now at) left.old left.new }
     ensures unchanged { result ≡ false → left.new ≡ left.old }
 {
     let mut unfollowed = *left;
@@ -618,7 +618,7 @@ pub fn skip_row(
     requires row { IsRowChecked row.now }
     requires short { len < 65536 }
     ensures skips { SkipsRow row.now len result walk.old walk.new }
-    ensures pointers { Leaves (RowPointers row.now len walk.old) left.old left.new }
+    ensures steps { Leaves (RowSteps row.now len walk.old) left.old left.new }
 {
     let asked = asked_length(row);
     if len < asked {

@@ -7,7 +7,7 @@ ghost use Rattle.dns_rows.specs.{Fronts.IsFront, Table.kinds_of};
 ghost use Rattle.dns_view.specs.Rows.{HasRow, is_row};
 ghost use Rattle.dns_view.specs.{Putting.Put, Putting.all_form, Putting.key_of};
 ghost use Rattle.dns_view.specs.Checks.{FillsRow, NoFill, IsRowError};
-ghost use Rattle.dns_view.specs.{Pointers.Leaves, RowPointers.RowPointers};
+ghost use Rattle.dns_view.specs.{Steps.Leaves, RowSteps.RowSteps};
 
 use crate::canonical::put_row;
 use crate::check::check_data;
@@ -42,7 +42,7 @@ impl<'a> RowView<'a> {
     ghost use Rattle.dns_view.specs.{ViewOf.IsViewOf, Shown.ShowsAt, NameFields.names_in, NameFields.ShowsNameAt};
 
     /// Checks that the next `length` octets are RDATA of the row of this type, and takes them. Subtracts from `left` how many
-    /// compression pointers are followed; it stops at 0. They are those of the names up to and including a field that is
+    /// steps are taken; it stops at 0. They are those of the names up to and including a field that is
     /// rejected. Allocates nothing.
     ///
     /// # Errors
@@ -62,7 +62,7 @@ impl<'a> RowView<'a> {
         ensures refused { IfErr result (λ e. NoFill walk.old.message walk.old.index length row.now) }
         ensures why { IfErr result (λ e. IsRowError row.now length walk.old e walk.new) }
         ensures behind { StaysBehind walk.old walk.new }
-        ensures pointers { Leaves (RowPointers row.now length walk.old) left.old left.new }
+        ensures steps { Leaves (RowSteps row.now length walk.old) left.old left.new }
     {
         let message = walk.message();
         let offset = walk.index();
@@ -80,7 +80,7 @@ impl<'a> RowView<'a> {
     }
 
     /// The view of the `len` octets of RDATA at an offset of a message, if the quick way tells that fields of the row fill
-    /// them ([`is_near`]). Then it subtracts from `left` how many compression pointers their names follow; it stops at 0.
+    /// them ([`is_near`]). Then it subtracts from `left` how many steps their names follow; it stops at 0.
     /// `None` says nothing about them: [`read`](RowView::read) tells. Allocates nothing.
     #[inline]
     pub fn near(
@@ -96,7 +96,7 @@ impl<'a> RowView<'a> {
         requires front { IsFront row.now front }
         requires within { offset ≤ length message.now }
         ensures found { IfSome result (λ r. IsViewOf (record { message = message.now; index = offset }) len row.now r × (r.record_type ≡ record_type)) }
-        ensures pointers { IfSome result (λ r. Leaves (RowPointers row.now len (record { message = message.now; index = offset })) left.old left.new) }
+        ensures steps { IfSome result (λ r. Leaves (RowSteps row.now len (record { message = message.now; index = offset })) left.old left.new) }
         ensures unchanged { IfNone result (left.new ≡ left.old) }
     {
         // For the proof: brings in that the message is octets.
@@ -195,7 +195,8 @@ impl<'a> RowView<'a> {
     /// The field of this index in the row, or `None` if the row has fewer fields. Allocates nothing.
     pub fn field(&self, number: usize) -> Option<FieldRef<'a>>
         ensures { (h : HasRow self.now.message.now self.now.offset self.now.row.now (self.now.offset + self.now.len)) →
-            MatchOption result (length self.now.row.now ≤ number) (λ f. ShowsAt number (kinds_of self.now.row.now) h.values f) }
+            MatchOption result (length self.now.row.now ≤ number) (λ f. ShowsAt self.now.message.now self.now.offset number
+            (kinds_of self.now.row.now) h.values (self.now.offset + self.now.len) f) }
     {
         field_of(
             self.message,

@@ -3,7 +3,7 @@
 ghost use Rattle.std.specs.Prelude.{◌≡◌, ◌+◌, ◌*◌, ◌-◌, ◌/◌, ◌^◌, ◌<◌, ◌≤◌, length, drop, IfOk, IfErr, OnErr, OnOk};
 ghost use Rattle.dns_fields.specs.{declared.Kind.TheVariants.Number, declared.Kind.TheVariants.Octets, declared.Kind.TheVariants.CharacterString, declared.Kind.TheVariants.Name, Octets.AreOctets};
 ghost use Rattle.dns_names_wire.specs.Terms.{TookField, LacksField, ReadsField, LacksOctets, LacksText};
-ghost use Rattle.dns_view.specs.{Parts.TookSome, Parts.moved, Pointers.NamePointers, Pointers.Leaves};
+ghost use Rattle.dns_view.specs.{Parts.TookSome, Parts.moved, Steps.NameSteps, Steps.Leaves};
 
 use crate::names::pass_name;
 use dns_types::DecodeError;
@@ -178,7 +178,7 @@ impl<'a> Walk<'a> {
         Ok(octets)
     }
 
-    /// Reads over a name (RFC 1035, 3.1 and 4.1.4), and subtracts from `left` how many compression pointers are followed,
+    /// Reads over a name (RFC 1035, 3.1 and 4.1.4), and subtracts from `left` how many steps are taken,
     /// whether a name is encoded there or not; it stops at 0.
     ///
     /// # Errors
@@ -189,7 +189,7 @@ impl<'a> Walk<'a> {
         ensures taken { OnOk result (TookSome self.old Name self.new) }
         ensures lacking { IfErr result (λ e. (e ≡ DecodeError.NameInvalid) × LacksField self.old Name) }
         ensures unchanged { OnErr result (self.new ≡ self.old) }
-        ensures pointers { Leaves (NamePointers self.old.message self.old.index) left.old left.new }
+        ensures steps { Leaves (NameSteps self.old.message self.old.index) left.old left.new }
     {
         match pass_name(self.message, self.index, left) {
             Some(end) => {

@@ -1,4 +1,5 @@
-//! Walks over the records of a message that end at a limit of compression pointers, or go on where another one was.
+//! Walks over the records of a message that end at a limit of labels and compression pointers, or go on where another one
+//! was.
 
 use crate::response::RESPONSE;
 use anyhow::{Context, Result};
@@ -16,9 +17,10 @@ fn print_walk(rt: &impl Print, records: Records<'_>) -> Result<()> {
     Ok(())
 }
 
-// The three answers follow two compression pointers, one and two, and the walk ends at the one that passes the limit.
+// The names of the question and of the three answers take 2, 7, 5 and 7 steps, one for each label and for each compression
+// pointer, and the walk ends at the answer that passes the limit.
 fn print_limited(rt: &impl Print) -> Result<()> {
-    for limit in [0, 2, 4, 5] {
+    for limit in [2, 9, 15, 21] {
         print!(rt; "limit {limit}:")?;
         let message = MessageRef::read(&RESPONSE)?.with_limit(limit);
         print_walk(rt, message.records()?)?;

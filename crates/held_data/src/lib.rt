@@ -64,6 +64,17 @@ impl Held {
         Ok(Held(RData::try_from_str(alloc, record_type, text)?))
     }
 
+    /// Reads RDATA from a text; an origin completes relative names.
+    pub fn parse_within(
+        alloc: Global,
+        record_type: RecordType,
+        text: &str,
+        origin: &Name,
+    ) -> Result<Held, ParseError> {
+        let value = RData::try_from_str_with_origin(alloc, record_type, text, Some(origin))?;
+        Ok(Held(value))
+    }
+
     /// Reads RDATA from tokens, joined with spaces.
     pub fn of_words(
         alloc: Global,

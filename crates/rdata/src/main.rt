@@ -1,10 +1,10 @@
 //! Reads the data of one record from a message, and prints it.
 #![tactic(auto)]
 
-use rdata_command::{run, say};
+use rdata_command::{explain, is_longer, run, say, visible};
 use std::alloc::{AllocError, Global};
 use std::env::Args;
-use std::io::ErrorKind;
+use std::io::{ErrorKind, IsTerminal};
 use std::process::ExitCode;
 use std::{env, io};
 
@@ -17,10 +17,42 @@ fn command_words(alloc: Global, args: Args<Global>) -> Result<Vec<String>, Alloc
     Ok(words)
 }
 
+// Runs the command with its control characters made visible.
+fn run_visibly<W: io::Write>(alloc: Global, words: &[String], out: &mut W) -> u8 {
+    let mut written: Vec<u8> = Vec::new(alloc);
+    let status = run(alloc, words, &mut written);
+    let text = match String::from_utf8(written) {
+        Ok(text) => text,
+        Err(_) => return 4,
+    };
+    // Writing to a vector fails only for memory.
+    if status == 4 {
+        return say(out, "memory\n", 3);
+    }
+    match visible(alloc, text.as_str()) {
+        Ok(shown) => say(out, shown.as_str(), status),
+        Err(_) => say(out, "memory\n", 3),
+    }
+}
+
+// Writes what is told to people beside the result: why it is rejected, that a word was left out, that writing failed.
+fn tell<W: io::Write>(alloc: Global, words: &[String], status: u8, err: &mut W) {
+    match status {
+        0 => {
+            if is_longer(alloc, words) {
+                let _ = writeln!(err, "rdata: the last word of the text changes nothing");
+            }
+        }
+        1 => explain(alloc, words, err),
+        4 => {
+            let _ = writeln!(err, "rdata: the result cannot be written");
+        }
+        _ => (),
+    }
+}
+
 fn main(rt: HostRuntime) -> ExitCode {
     let mut out = io::writer(&rt);
-    let standard_error = rt.stderr();
-    let mut err = io::writer(&standard_error);
     let words = match env::args(&rt) {
         Ok(args) => command_words(rt.alloc(), args),
         Err(e) if e.kind() == ErrorKind::OutOfMemory => {
@@ -28,8 +60,21 @@ fn main(rt: HostRuntime) -> ExitCode {
         }
         Err(_) => return ExitCode::from(4),
     };
-    match words {
-        Ok(words) => ExitCode::from(run(rt.alloc(), words.as_slice(), &mut out, &mut err)),
-        Err(_) => ExitCode::from(say(&mut out, "memory\n", 3)),
-    }
+    let words = match words {
+        Ok(words) => words,
+        Err(_) => return ExitCode::from(say(&mut out, "memory\n", 3)),
+    };
+    let status = if rt.stdout().is_terminal() {
+        run_visibly(rt.alloc(), words.as_slice(), &mut out)
+    } else {
+        run(rt.alloc(), words.as_slice(), &mut out)
+    };
+    let standard_error = rt.stderr();
+    tell(
+        rt.alloc(),
+        words.as_slice(),
+        status,
+        &mut io::writer(&standard_error),
+    );
+    ExitCode::from(status)
 }

@@ -76,8 +76,8 @@ fn order_text(order: Ordering) -> &'static str
     }
 }
 
-// The order of the values, of which the left one is read first.
-fn order_of(alloc: Global, pair: &Pair) -> Result<Ordering, DecodeError>
+/// Returns the order of the values, of which the left one is read first.
+pub fn order_of(alloc: Global, pair: &Pair) -> Result<Ordering, DecodeError>
     requires left { size pair.now.left.items < 65536 }
     requires right { size pair.now.right.items < 65536 }
     ensures found { IfOk result (λ o. HasOrder pair.now.record_type pair.now.left.items pair.now.right.items o) }
@@ -91,12 +91,7 @@ fn order_of(alloc: Global, pair: &Pair) -> Result<Ordering, DecodeError>
 
 /// Reads both, the left one first, writes their order, and returns the status: 0 if both are RDATA of the type, 1 if
 /// one is not, 3 if an allocation fails, 4 if writing fails.
-pub fn serve_order<W: io::Write, E: io::Write>(
-    alloc: Global,
-    pair: &Pair,
-    out: &mut W,
-    err: &mut E,
-) -> u8
+pub fn serve_order<W: io::Write>(alloc: Global, pair: &Pair, out: &mut W) -> u8
     requires left { size pair.now.left.items < 65536 }
     requires right { size pair.now.right.items < 65536 }
     ensures status { (result ≡ 0) ⊎ (result ≡ 1) ⊎ (result ≡ 3) ⊎ (result ≡ 4) }
@@ -107,7 +102,7 @@ pub fn serve_order<W: io::Write, E: io::Write>(
 {
     match order_of(alloc, pair) {
         Err(DecodeError::Memory) => say(out, "memory\n", 3),
-        Err(e) => reject(out, err, &e),
+        Err(_) => reject(out),
         Ok(order) => say(out, order_text(order), 0),
     }
 }

@@ -40,8 +40,8 @@ pub fn text_request(words: &[String]) -> Option<(RecordType, &str)>
     Some((record_type, text))
 }
 
-// The value of a text, which is held.
-fn parsed(alloc: Global, record_type: RecordType, text: &str) -> Result<Held, ParseError>
+/// Reads the RDATA of a text, and holds it.
+pub fn parsed(alloc: Global, record_type: RecordType, text: &str) -> Result<Held, ParseError>
     ensures found { IfOk result (λ v. IsDataText record_type text.now v.0) }
     ensures refused { IfErr result (λ e. e ≢ ParseError.Memory → NoDataText record_type text.now) }
 {
@@ -50,12 +50,11 @@ fn parsed(alloc: Global, record_type: RecordType, text: &str) -> Result<Held, Pa
 
 /// Reads the text, writes the result, and returns the status: 0 with four lines if the text is of a value of the type,
 /// 1 if it is of none, 3 if an allocation fails, 4 if writing fails.
-pub fn serve_text<W: io::Write, E: io::Write>(
+pub fn serve_text<W: io::Write>(
     alloc: Global,
     record_type: RecordType,
     text: &str,
     out: &mut W,
-    err: &mut E,
 ) -> u8
     ensures status { (result ≡ 0) ⊎ (result ≡ 1) ⊎ (result ≡ 3) ⊎ (result ≡ 4) }
     ensures printed { result ≡ 0 → PrintedText record_type text.now (W.contents out.old) (W.contents out.new) }
@@ -65,7 +64,7 @@ pub fn serve_text<W: io::Write, E: io::Write>(
 {
     match parsed(alloc, record_type, text) {
         Err(ParseError::Memory) => say(out, "memory\n", 3),
-        Err(e) => reject(out, err, &e),
+        Err(_) => reject(out),
         Ok(value) => match lines(alloc, record_type, &value.0) {
             Err(_) => say(out, "memory\n", 3),
             Ok(text) => say(out, text.as_str(), 0),

@@ -13,7 +13,7 @@ use dns_rdata::{
 };
 use held_data::Held;
 use std::alloc::{AllocError, Global};
-use std::{fmt, io};
+use std::io;
 
 // Reads the data of a record at an offset of a message.
 fn value_at(
@@ -45,6 +45,22 @@ pub fn read_at(
     ensures refused { IfErr result (λ e. UnlessMemory e (NoValue message.now offset length record_type)) }
 {
     Ok(Held(value_at(alloc, message, offset, record_type, length)?))
+}
+
+/// Reads the RDATA that is asked for, and holds it.
+pub fn read_request(alloc: Global, request: &Request) -> Result<Held, DecodeError>
+    requires { request.now.offset ≤ size request.now.message.items }
+    ensures found { IfOk result (λ v. Fills request.now.message.items request.now.offset request.now.length request.now.record_type v.0) }
+    ensures refused { IfErr result (λ e. UnlessMemory e
+        (NoValue request.now.message.items request.now.offset request.now.length request.now.record_type)) }
+{
+    read_at(
+        alloc,
+        request.message.as_slice(),
+        request.offset,
+        request.record_type,
+        request.length,
+    )
 }
 
 // Writes the octets of a value to an empty vector.
@@ -141,27 +157,16 @@ pub fn say<W: io::Write>(out: &mut W, text: &str, status: u8) -> u8
     }
 }
 
-/// Writes `refused` to `out` and the reason to `err`, and returns the status. Whether the reason can be written changes
-/// nothing: standard error may be closed.
-pub fn reject<W: io::Write, E: io::Write, T: fmt::Display>(
-    out: &mut W,
-    err: &mut E,
-    reason: &T,
-) -> u8
+/// Writes `refused`, and returns the status.
+pub fn reject<W: io::Write>(out: &mut W) -> u8
     ensures { (result ≡ 4) ⊎ ((result ≡ 1) × Appends (W.contents out.old) (W.contents out.new) (codes "refused\n")) }
 {
-    let _ = writeln!(err, "{reason}");
     say(out, "refused\n", 1)
 }
 
 /// Reads what is asked for, writes the result, and returns the status: 0 with four lines if a value fills the octets, 1
 /// if none does, 3 if an allocation fails, 4 if writing fails.
-pub fn serve<W: io::Write, E: io::Write>(
-    alloc: Global,
-    request: &Request,
-    out: &mut W,
-    err: &mut E,
-) -> u8
+pub fn serve<W: io::Write>(alloc: Global, request: &Request, out: &mut W) -> u8
     requires { request.now.offset ≤ size request.now.message.items }
     ensures status { (result ≡ 0) ⊎ (result ≡ 1) ⊎ (result ≡ 3) ⊎ (result ≡ 4) }
     ensures printed { result ≡ 0 → Printed request.now.message.items request.now.offset request.now.length request.now.record_type (W.contents out.old)
@@ -170,16 +175,9 @@ pub fn serve<W: io::Write, E: io::Write>(
         × Appends (W.contents out.old) (W.contents out.new) (codes "refused\n") }
     ensures memory { result ≡ 3 → Appends (W.contents out.old) (W.contents out.new) (codes "memory\n") }
 {
-    let outcome = read_at(
-        alloc,
-        request.message.as_slice(),
-        request.offset,
-        request.record_type,
-        request.length,
-    );
-    match outcome {
+    match read_request(alloc, request) {
         Err(DecodeError::Memory) => say(out, "memory\n", 3),
-        Err(e) => reject(out, err, &e),
+        Err(_) => reject(out),
         Ok(value) => match lines(alloc, request.record_type, &value.0) {
             Err(_) => say(out, "memory\n", 3),
             Ok(text) => say(out, text.as_str(), 0),

@@ -32,9 +32,11 @@ macro_rules! held {
 mod asking;
 mod changing;
 mod emitting;
+mod looking;
 mod making;
 mod moving;
 mod numbers;
+mod services;
 mod texts;
 
 use crate::shared;
@@ -97,7 +99,9 @@ fn answer_to_one(marks: &Marks<'_>, call: &str, text: &str) -> Result<String> {
         "view" => making::view(marks, text),
         "clone" => making::copy(marks, text),
         "to_string" | "cert_base64" => making::text(marks, call, text),
-        "canonical_octets" | "octet_at" => asking::octets(marks, call, text),
+        "to_rdata" => looking::value(marks, text),
+        "to_name" => looking::name(marks, text),
+        "canonical_octets" | "octet_at" | "copy_to" => asking::octets(marks, call, text),
         "numbers" => numbers::numbers(marks, text),
         "new_issue" | "new_issuewild" => making::issuer(marks, call, text),
         "new_iodef" => making::location(marks, text),
@@ -130,7 +134,8 @@ fn answer_to_text(marks: &Marks<'_>, call: &str, text: &str) -> Result<String> {
         "SOA::new" => moving::zone(marks, text),
         "NAPTR::new" => moving::rule(marks, text),
         "OPT::new" => moving::options(marks, text),
-        _ => bail!("no such call"),
+        "OPT::fmt" => services::options_text(marks, text),
+        _ => services::part(marks, call, text),
     }
 }
 
@@ -146,6 +151,20 @@ fn answer_to_two(marks: &Marks<'_>, call: &str, first: &str, second: &str) -> Re
         "new_machine" => moving::machine(marks, first, second),
         "new_service" => moving::service(marks, first, second),
         "KeyValue::new" => moving::pair(marks, first, second),
+        _ => answer_to_parts(marks, call, first, second),
+    }
+}
+
+fn answer_to_parts(marks: &Marks<'_>, call: &str, first: &str, second: &str) -> Result<String> {
+    match call {
+        "SVCB::insert" | "SVCB::insert_as" | "SVCB::remove" => {
+            services::parameters(marks, call, first, second)
+        }
+        "OPT::replace" => services::replaced(marks, first, second),
+        "Name::append_label" | "Name::append_name" | "Name::append_domain" | "Name::to_lowercase" =>
+            { looking::joined(marks, call, first, second) }
+        "try_from_str_with_origin" => looking::with_origin(marks, first, second),
+        "Alpn::from_strs" => looking::protocols(marks, first, second),
         _ => asking::ask(marks, call, first, second),
     }
 }

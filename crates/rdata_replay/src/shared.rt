@@ -12,7 +12,6 @@ use replay::octets;
 use std::alloc::{AllocError, Global};
 use std::fmt::Debug;
 use std::hash::{DefaultHasher, Hash, Hasher};
-use std::io;
 
 /// A result as `Debug` prints it.
 pub fn shown<T: Debug + Drop>(alloc: Global, answer: T) -> Result<String> {
@@ -22,7 +21,7 @@ pub fn shown<T: Debug + Drop>(alloc: Global, answer: T) -> Result<String> {
 /// The status of a run of the program with these words, and its output.
 pub fn run_of(alloc: Global, words: &[String]) -> Result<(u8, String)> {
     let mut out: Vec<u8> = Vec::new(alloc);
-    let status = run(alloc, words, &mut out, &mut io::sink());
+    let status = run(alloc, words, &mut out);
     Ok((status, String::from_utf8(out)?))
 }
 

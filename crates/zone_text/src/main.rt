@@ -38,6 +38,10 @@ const USAGE: &str = "usage: zone_text [read [ORIGIN] | message [OCTETS]]";
 
 const NO_TYPE: &str = "no record type";
 
+// The same, where people often paste a line of a zone file.
+const NO_TYPE_FIRST: &str =
+    "no record type; a line is a type and its data, as `A 192.0.2.1`, without owner, TTL and class";
+
 const NO_PLACE: &str = "no offset of the RDATA";
 
 const NO_LENGTH: &str = "no length of 16 bits";
@@ -155,7 +159,7 @@ fn write_octets<W: Write>(
 ) -> Result<bool> {
     let (word, text) = first_word(line);
     let Some(kind) = type_of(word) else {
-        return refuse(out, NO_TYPE);
+        return refuse(out, NO_TYPE_FIRST);
     };
     let held = match from_zone_text(alloc, kind, text, origin) {
         Ok(value) => Held(value),

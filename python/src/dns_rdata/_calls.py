@@ -22,9 +22,10 @@ file that the environment's DNS_RDATA_LIBRARY names, else the one in this packag
 from __future__ import annotations
 
 import ctypes
+import operator
 import os
 import pathlib
-from typing import Any, Callable, List, Optional, Tuple, Union
+from typing import Any, Callable, List, Optional, SupportsIndex, Tuple, Union
 
 from ._errors import MessageError, Status, TextError, error_class
 
@@ -66,7 +67,7 @@ class TextFault(ctypes.Structure):
 
 class Records(ctypes.Structure):
     """Where a walk over the records of a message is: the offset of the next record, how many precede it, how many there are, and one
-    more than the compression pointers that may still be followed."""
+    more than the labels and compression pointers that may still be gone over."""
 
     _fields_ = [("next", ctypes.c_size_t), ("passed", ctypes.c_size_t), ("until", ctypes.c_size_t), ("left", ctypes.c_size_t)]
 
@@ -133,7 +134,7 @@ _byref = ctypes.byref
 _SIZES = 1 << 8 * ctypes.sizeof(ctypes.c_size_t)
 
 
-def data(message: Octets, offset: int, length: int, type_number: int) -> Data:
+def data(message: Octets, offset: SupportsIndex, length: SupportsIndex, type_number: SupportsIndex) -> Data:
     """RDATA in a message. ctypes truncates a number that is too large without a word, so it is rejected here."""
     octets = octets_of(message)
     return Data(octets, len(octets), _size(offset), _short(length), _short(type_number))
@@ -154,16 +155,19 @@ def _text_octets(text: Union[str, Octets]) -> bytes:
         raise TextError(Status.NOT_UTF8) from None
 
 
-def _size(offset: int) -> int:
-    if not 0 <= offset < _SIZES:
-        raise OverflowError("an offset is a size")
-    return offset
-
-
-def _short(number: int) -> int:
-    if not 0 <= number <= 65535:
-        raise OverflowError("RDLENGTH and the number of a type have 16 bits")
+def _size(offset: SupportsIndex, what: str = "an offset") -> int:
+    """The number, if it is a whole one: a float raises TypeError."""
+    number = operator.index(offset)
+    if not 0 <= number < _SIZES:
+        raise OverflowError(f"{what} is a size")
     return number
+
+
+def _short(number: SupportsIndex) -> int:
+    short = operator.index(number)
+    if not 0 <= short <= 65535:
+        raise OverflowError("RDLENGTH and the number of a type have 16 bits")
+    return short
 
 
 def _want_ok(number: int, why: Optional[Refusal] = None) -> None:
@@ -206,7 +210,7 @@ def wire(message: Octets, offset: int, length: int, type_number: int) -> bytes:
 
 
 def text(message: Octets, offset: int, length: int, type_number: int) -> str:
-    """The text in a zone file, as every name server reads it (RFC 1035, section 5.1; RFC 9460, section 2.1; RFC 3597, section 5)."""
+    """The text in a zone file (RFC 1035, section 5.1; RFC 9460, section 2.1; RFC 3597, section 5)."""
     return _filled(_library.dns_rdata_text, _byref(data(message, offset, length, type_number))).decode()
 
 
@@ -308,19 +312,18 @@ def name_from_text(text: Union[str, Octets], origin: Octets = b"") -> bytes:
 
 
 def records_begin(message: bytes, limit: int) -> Records:
-    """A cursor before the first record of a message, after its questions, from which the walk may follow `limit` compression pointers.
-    Raises MessageError if the message has no header, or a damaged question."""
-    if not 0 <= limit < _SIZES:
-        raise OverflowError("a limit is a size")
+    """A cursor before the first record of a message, after its questions, from which the walk may go over `limit` labels
+    and compression pointers. Raises MessageError if the message has no header, or a damaged question."""
+    most = _size(limit, "a limit")
     cursor = Records()
     _want_ok(_library.dns_rdata_records_begin(message, len(message), _byref(cursor)))
-    cursor.left = min(limit + 1, _SIZES - 1)
+    cursor.left = min(most + 1, _SIZES - 1)
     return cursor
 
 
 def records_next(message: bytes, cursor: Records) -> Optional[Tuple[Status, Record]]:
     """The record at the cursor, which is moved, with OK or the status with which its RDATA is rejected. None if no record is left.
-    Raises MessageError if the record is damaged or has too many compression pointers: the walk has ended."""
+    Raises MessageError if the record is damaged or has too many labels and compression pointers: the walk has ended."""
     found, offset = Record(), cursor.next
     status = Status(_library.dns_rdata_records_next(message, len(message), _byref(cursor), _byref(found)))
     if status == Status.ABSENT:

@@ -37,7 +37,7 @@ class Status(OpenEnum):
     HEADER = 32
     QUESTION = 33
     RECORD = 34
-    POINTERS = 35
+    LIMIT = 35
     MISSING_WORD = 48
     WRONG_WORD = 49
     UNSUPPORTED_TYPE = 50
@@ -71,7 +71,7 @@ _MEANINGS = {
     Status.HEADER: "the message is shorter than a header",
     Status.QUESTION: "a damaged question",
     Status.RECORD: "a damaged record",
-    Status.POINTERS: "too many compression pointers",
+    Status.LIMIT: "too many labels and compression pointers",
     Status.MISSING_WORD: "a token is missing",
     Status.WRONG_WORD: "a wrong token",
     Status.UNSUPPORTED_TYPE: "no text of this type is read",
@@ -127,7 +127,7 @@ class WireError(RdataError):
 
 
 class MessageError(RdataError):
-    """A message is damaged, so that a walk over its records ends: HEADER, QUESTION, RECORD or POINTERS.
+    """A message is damaged, so that a walk over its records ends: HEADER, QUESTION, RECORD or LIMIT.
 
     `offset` is that of the record in the message, and None if the damage precedes the records."""
 

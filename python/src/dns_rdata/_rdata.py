@@ -118,7 +118,7 @@ class Rdata:
         return self._message[self._offset : self._offset + self._length]
 
     def to_text(self) -> str:
-        """The text in a zone file, as every name server reads it (RFC 1035, section 5.1; RFC 9460, section 2.1). Types without a
+        """The text in a zone file (RFC 1035, section 5.1; RFC 9460, section 2.1). Types without a
         format of their own, OPT, NULL, ANAME, 0, and RDATA that has no such text are written in the unknown-data form of RFC 3597.
         Raises RdataError (TOO_LONG) if the RDATA has more than 65535 octets with its names uncompressed."""
         return _calls.text(self._message, self._offset, self._length, self._rdtype)

@@ -96,13 +96,13 @@ class Record:
         return f"<Record {self.owner} {self.ttl} {rdclass} {self.rdtype.name} {rest}>"
 
 
-def records(message: _calls.Octets, limit: int = 65536) -> Iterator[Record]:
+def records(message: _calls.Octets, limit: int = 262144) -> Iterator[Record]:
     """Goes over the records of a message: answers, authorities and additional records, as many as its header counts (RFC 1035, section
     4.1).
 
     A record whose RDATA is rejected has an `error` and no `rdata`, and the walk goes on after it. The walk raises MessageError if the
-    message has no header, if a question or a record is damaged, or if the records have more than `limit` compression pointers. A
-    hostile message can have names that follow the same thousands of them thousands of times; real messages need a few for each name.
+    message has no header, if a question or a record is damaged, or if the names have more than `limit` labels and compression pointers.
+    The names of a hostile message can go over the same ones thousands of times; real messages need a few for each name.
 
     >>> message = bytes.fromhex("000080000001000100000000" "0161000001" "0001" "c00c" "00010001" "0000003c" "0004" "c0000201")
     >>> for record in records(message):

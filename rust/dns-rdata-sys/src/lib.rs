@@ -74,8 +74,8 @@ pub const DNS_RDATA_HEADER: dns_rdata_status = 32;
 pub const DNS_RDATA_QUESTION: dns_rdata_status = 33;
 /// The owner, the fixed fields or RDLENGTH of a record are damaged.
 pub const DNS_RDATA_RECORD: dns_rdata_status = 34;
-/// The walk would follow more compression pointers than it may.
-pub const DNS_RDATA_POINTERS: dns_rdata_status = 35;
+/// The walk would go over more labels and compression pointers of names than it may.
+pub const DNS_RDATA_LIMIT: dns_rdata_status = 35;
 /// From this number on, the text is not that of RDATA of the type.
 pub const DNS_RDATA_NO_DATA_TEXT: dns_rdata_status = 48;
 /// A token is missing.
@@ -155,7 +155,7 @@ pub struct dns_rdata_records {
     pub passed: usize,
     /// How many records there are by the header of the message.
     pub until: usize,
-    /// One more than the compression pointers that may still be followed.
+    /// One more than the labels and compression pointers that may still be gone over.
     pub left: usize,
 }
 

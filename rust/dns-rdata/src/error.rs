@@ -89,8 +89,8 @@ statuses! {
         /// A question of the message is damaged.
     Record DNS_RDATA_RECORD "a damaged record"
         /// The owner, the fixed fields or RDLENGTH of a record are damaged, or the message ends before the record does.
-    Pointers DNS_RDATA_POINTERS "too many compression pointers"
-        /// The walk over the records would follow more compression pointers than it may.
+    Limit DNS_RDATA_LIMIT "too many labels and compression pointers"
+        /// The walk over the records would go over more labels and compression pointers of names than it may.
     MissingWord DNS_RDATA_MISSING_WORD "a token is missing"
         /// A token is missing.
     WrongWord DNS_RDATA_WRONG_WORD "a wrong token"

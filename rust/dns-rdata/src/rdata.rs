@@ -158,7 +158,7 @@ impl<'a> Rdata<'a> {
             .unwrap_or(&[])
     }
 
-    /// The text in a zone file, as every name server reads it (RFC 1035, section 5.1; RFC 9460, section 2.1). Types without a
+    /// The text in a zone file (RFC 1035, section 5.1; RFC 9460, section 2.1). Types without a
     /// format of their own, OPT, NULL, ANAME, 0, and RDATA that has no such text are written in the unknown-data form of RFC 3597.
     ///
     /// # Errors

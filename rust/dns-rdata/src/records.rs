@@ -9,10 +9,10 @@ use crate::{Error, Name, Rdata, RecordType, Status};
 /// counts (RFC 1035, section 4.1). It borrows the message, and allocates nothing.
 ///
 /// A record whose RDATA is rejected is an error that has the record, and the walk goes on after it. If a record is damaged, or if
-/// the walk would follow too many compression pointers, the error has no record, and no item follows it.
+/// the walk would go over too many labels and compression pointers, the error has no record, and no item follows it.
 ///
-/// The names in one hostile message can follow the same thousands of compression pointers thousands of times. So a walk counts them,
-/// each as often as another name follows it, and ends when the count passes 65,536; real messages need a few for each name.
+/// The names in one hostile message can go over the same labels and compression pointers thousands of times. So a walk counts both,
+/// each as often as another name goes over it, and ends when the count passes 262,144; real messages need a few for each name.
 /// [`Records::set_limit`] sets another limit.
 ///
 /// # Examples
@@ -47,7 +47,8 @@ impl<'a> Records<'a> {
     /// # Errors
     ///
     /// [`Status::Header`] if the message is shorter than the twelve octets of a header; [`Status::Question`] if one of its questions
-    /// is damaged; [`Status::Pointers`] if its questions follow more than 65,536 compression pointers.
+    /// is damaged; [`Status::Limit`] if the names of its questions have more than 262,144 labels and
+    /// compression pointers.
     pub fn new(message: &'a [u8]) -> Result<Records<'a>, Error> {
         let mut cursor = sys::dns_rdata_records::default();
         // SAFETY: the pointer and the length are a slice's, and `cursor` is written by this call alone.
@@ -59,10 +60,10 @@ impl<'a> Records<'a> {
         }
     }
 
-    /// Sets how many compression pointers the walk may follow from here on.
-    pub fn set_limit(&mut self, pointers: usize) {
+    /// Sets how many labels and compression pointers of names the walk may go over from here on.
+    pub fn set_limit(&mut self, limit: usize) {
         // Of a walk that has ended the cursor has no records, whatever the limit.
-        self.cursor.left = pointers.saturating_add(1);
+        self.cursor.left = limit.saturating_add(1);
     }
 
     /// The offset in the message of the next record, and after the last one the offset where it ends. After an error that has no
@@ -296,8 +297,8 @@ impl<'a> RecordError<'a> {
         self.offset
     }
 
-    /// The record, if its RDATA alone is rejected. `None` if the record itself is damaged or has too many compression pointers: no
-    /// record follows.
+    /// The record, if its RDATA alone is rejected. `None` if the record itself is damaged or has too many labels and compression
+    /// pointers: no record follows.
     #[must_use]
     pub fn record(&self) -> Option<Record<'a>> {
         self.record

@@ -142,7 +142,7 @@ fn messages_are_damaged() {
 }
 
 #[test]
-fn pointers_are_counted() {
+fn labels_and_pointers_are_counted() {
     let first = record(b"\x01a\0", 1, 1, &[192, 0, 2, 1]);
     // MX whose owner and exchange are compression pointers to the first owner.
     let mx = record(b"\xc0\x0c", 15, 1, b"\0\x0a\xc0\x0c");
@@ -154,10 +154,12 @@ fn pointers_are_counted() {
             .map(|it| it.map(|_| ()).map_err(|error| error.status()))
             .collect::<Vec<_>>()
     };
-    assert_eq!(limited(4), [Ok(()); 3]);
+    // 1 label, and twice a pointer and a label in each of two names.
+    assert_eq!(limited(9), [Ok(()); 3]);
     assert_eq!(limited(usize::MAX), [Ok(()); 3]);
-    assert_eq!(limited(3), [Ok(()), Ok(()), Err(Status::Pointers)]);
-    assert_eq!(limited(0), [Ok(()), Err(Status::Pointers)]);
+    assert_eq!(limited(8), [Ok(()), Ok(()), Err(Status::Limit)]);
+    assert_eq!(limited(4), [Ok(()), Err(Status::Limit)]);
+    assert_eq!(limited(0), [Err(Status::Limit)]);
 }
 
 // RFC 2136, sections 2.4 and 2.5: class ANY or NONE without data.

@@ -3,7 +3,7 @@
 ghost use Rattle.std.specs.Prelude.{◌≡◌, ◌⊎◌, string_bytes, IfOk, IfErr, MatchResult, Some};
 ghost use Rattle.dns_fields.specs.Labels.{DomainName, IsName};
 ghost use Rattle.dns_labels.specs.Text.{IsNameText, HasOctets, name_text};
-ghost use Rattle.dns_names_wire.specs.NameValues.{IsTextError};
+ghost use Rattle.dns_names_wire.specs.NameValues.{IsTextError, IsNameFault};
 
 use crate::name::Name;
 use dns_labels::NameTextError;
@@ -22,11 +22,12 @@ impl Name {
     ///
     /// # Errors
     ///
-    /// - [`Message`](ProtoError::Message): any other text; the message says why.
+    /// - [`Message`](ProtoError::Message): any other text; the message says why, by the first label at fault.
     /// - [`Memory`](ProtoError::Memory): an allocation failed.
     pub fn from_ascii(alloc: Global, text: &str) -> ProtoResult<Name>
         ensures found { IfOk result (λ x. IsNameText x text.now) }
         ensures refused { IfErr result (λ e. IsTextError e ((x : DomainName) → IsNameText x text.now → ⊥)) }
+        ensures why { IfErr result (IsNameFault text.now) }
         // a name's printed text reads back as that name
         ensures reads_back { (x : DomainName) → IsName x → HasOctets x → text.now ≡ name_text x →
             MatchResult result (λ n. n ≡ x) (λ e. e ≡ ProtoError.Memory) }
@@ -42,6 +43,7 @@ impl Name {
     pub fn from_str(alloc: Global, text: &str) -> ProtoResult<Name>
         ensures found { IfOk result (λ x. IsNameText x text.now) }
         ensures refused { IfErr result (λ e. IsTextError e ((x : DomainName) → IsNameText x text.now → ⊥)) }
+        ensures why { IfErr result (IsNameFault text.now) }
         ensures reads_back { (x : DomainName) → IsName x → HasOctets x → text.now ≡ name_text x →
             MatchResult result (λ n. n ≡ x) (λ e. e ≡ ProtoError.Memory) }
     {

@@ -12,7 +12,6 @@ use held_data::{Held, record_type};
 use rdata_command::run;
 use replay::octets;
 use std::alloc::Global;
-use std::io;
 
 // Why a view of the data of so many octets is not made, and the offset where its check ends. The decoder stays where it is.
 fn view_end(
@@ -148,5 +147,5 @@ pub fn flags(alloc: Global, text: &str) -> Result<String> {
 pub fn little_room(alloc: Global, words: &[String]) -> Result<String> {
     let mut room = [0u8; 5];
     let mut out = &mut room[..];
-    shown(alloc, run(alloc, words, &mut out, &mut io::sink()))
+    shown(alloc, run(alloc, words, &mut out))
 }

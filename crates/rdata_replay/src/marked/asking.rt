@@ -93,6 +93,8 @@ fn ask_both(marks: &Marks<'_>, call: &str, left: &RData, right: &RData) -> Resul
         "compare" => marks.shown(by_cursors(left, right)),
         "record_type" => marks.shown(left.record_type()),
         "ip_addr" => marks.shown(left.ip_addr()),
+        "target" => marks.shown(left.target().map(|name| name.len())),
+        "is_emittable" => marks.shown(left.is_emittable()),
         "iter" => marks.shown(parts(left)),
         "get" => marks.shown(has_part(left)),
         _ => marks.shown("no such call"),
@@ -131,6 +133,15 @@ pub fn octets(marks: &Marks<'_>, call: &str, text: &str) -> Result<String> {
     let mut octets = Vec::with_capacity(marks.alloc(), 131072)?;
     let result = match call {
         "octet_at" => marked!(marks, append_first(&value.0, &mut octets)),
+        "copy_to" => {
+            octets.resize(131072, 0)?;
+            let count = marked!(
+                marks,
+                value.0.canonical_octets().copy_to(octets.as_mut_slice())
+            );
+            octets.truncate(count);
+            Ok(())
+        }
         _ => marked!(marks, append_all(&value.0, &mut octets)),
     };
     let digits = hex::encode(marks.alloc(), octets.as_slice())?;

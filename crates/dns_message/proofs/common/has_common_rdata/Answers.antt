@@ -33,7 +33,7 @@ returns-in-2-clause-there c =
     let octets = subst AreOctets (ap (λ (r : Reading). r.message) c.at.ensures) c.index-start.ensures.octets in
     OnTrue_from c.is_name_near.result (PassesRData c.args.message.now c.args.fields.now c.args.left.now c.is_name_near.new.left) (λ h.
     name_content c.in-2.is octets (omega arith) c.requires (omega arith) (c.is_name_near.ensures.name h)
-    (c.is_name_near.ensures.pointers h))
+    (c.is_name_near.ensures.steps h))
 
 pub returns-in-15-clause-there : goal.returns-in-15-clause-there
 returns-in-15-clause-there c =
@@ -41,4 +41,4 @@ returns-in-15-clause-there c =
     OnTrue_from c.is_name_near-in-15.result (PassesRData c.args.message.now c.args.fields.now c.args.left.now c.is_name_near-in-15.new.left) (λ h.
     content_there types.MX (ap record_type_of c.in-15.is) (λ never. never) (omega arith)
     (pair_there octets (omega arith) (omega arith) c.requires (c.is_name_near-in-15.ensures.name h)
-    (c.is_name_near-in-15.ensures.pointers h)))
+    (c.is_name_near-in-15.ensures.steps h)))

@@ -14,15 +14,15 @@ returns-in-Err-clause-refused c = record {
   refused = rw c.from.ensures.0 at c.in-Err.ensures.refused;
 }
 
-pub returns-then-has_no_data-clause-pointers : goal.returns-then-has_no_data-clause-pointers
-returns-then-has_no_data-clause-pointers c = (0, inl (c.has_no_data.ensures.0 c.if-has_no_data.true, refl), omega arith)
+pub returns-then-has_no_data-clause-steps : goal.returns-then-has_no_data-clause-steps
+returns-then-has_no_data-clause-steps c = (0, inl (c.has_no_data.ensures.0 c.if-has_no_data.true, refl), omega arith)
 
-pub returns-in-Ok-clause-pointers : goal.returns-in-Ok-clause-pointers
-returns-in-Ok-clause-pointers c =
-    let l = rw c.from.ensures.0 at c.read_rdata.ensures.pointers in
+pub returns-in-Ok-clause-steps : goal.returns-in-Ok-clause-steps
+returns-in-Ok-clause-steps c =
+    let l = rw c.from.ensures.0 at c.read_rdata.ensures.steps in
     (l.0, inr (λ none. let t = c.has_no_data.ensures.1 none in let f = c.if-has_no_data.false in cc, l.1), l.2)
 
-pub returns-in-Err-clause-pointers : goal.returns-in-Err-clause-pointers
-returns-in-Err-clause-pointers c =
-    let l = rw c.from.ensures.0 at c.read_rdata.ensures.pointers in
+pub returns-in-Err-clause-steps : goal.returns-in-Err-clause-steps
+returns-in-Err-clause-steps c =
+    let l = rw c.from.ensures.0 at c.read_rdata.ensures.steps in
     (l.0, inr (λ none. let t = c.has_no_data.ensures.1 none in let f = c.if-has_no_data.false in cc, l.1), l.2)

@@ -4,11 +4,11 @@ use Rattle.dns_message.proofs.record_ref.read_entry.Goals as goal
 
 pub returns-then-left-eq0-clause-stopped : goal.returns-then-left-eq0-clause-stopped
 returns-then-left-eq0-clause-stopped c =
-    inr (refl, exceeds (both_leave c.in-Ok.fixed c.in-Ok.ensures.found c.in-Ok.ensures.within c.record_at-item.ensures.pointers) c.if-left-eq0.true)
+    inr (refl, exceeds (both_leave c.in-Ok.fixed c.in-Ok.ensures.found c.in-Ok.ensures.within c.record_at-item.ensures.steps) c.if-left-eq0.true)
 
 pub returns-else-left-eq0-clause-within : goal.returns-else-left-eq0-clause-within
 returns-else-left-eq0-clause-within c =
-    takes (both_leave c.in-Ok.fixed c.in-Ok.ensures.found c.in-Ok.ensures.within c.record_at-item.ensures.pointers) (omega arith)
+    takes (both_leave c.in-Ok.fixed c.in-Ok.ensures.found c.in-Ok.ensures.within c.record_at-item.ensures.steps) (omega arith)
 
 pub returns-in-Err-clause-stopped : goal.returns-in-Err-clause-stopped
 returns-in-Err-clause-stopped c = inl c.in-Err.ensures.stopped

@@ -14,12 +14,12 @@ returns-in-Ok-skip_records-clause-begins c =
       header = refl;
       passed = refl;
       ends = refl;
-      pointers = a.pointers + f.pointers;
+      steps = a.steps + f.steps;
       precede = record {
         first = c.in-Ok.first;
-        of_questions = a.pointers;
+        of_questions = a.steps;
         asked = a.before;
-        of_records = f.pointers;
+        of_records = f.steps;
         found = f.between;
         sum = refl;
       };

@@ -4,11 +4,11 @@ use Rattle.dns_message.proofs.step.pass_record.Goals as goal
 
 pub returns-then-left-eq0-clause-stopped : goal.returns-then-left-eq0-clause-stopped
 returns-then-left-eq0-clause-stopped c =
-    inr (refl, exceeds (both_leave c.in-Ok.fields c.in-Ok.ensures.found c.in-Ok.ensures.within c.content_of-content.ensures.pointers) c.if-left-eq0.true)
+    inr (refl, exceeds (both_leave c.in-Ok.fields c.in-Ok.ensures.found c.in-Ok.ensures.within c.content_of-content.ensures.steps) c.if-left-eq0.true)
 
 pub returns-else-left-eq0-clause-within : goal.returns-else-left-eq0-clause-within
 returns-else-left-eq0-clause-within c =
-    takes (both_leave c.in-Ok.fields c.in-Ok.ensures.found c.in-Ok.ensures.within c.content_of-content.ensures.pointers) (omega arith)
+    takes (both_leave c.in-Ok.fields c.in-Ok.ensures.found c.in-Ok.ensures.within c.content_of-content.ensures.steps) (omega arith)
 
 pub returns-in-Err-clause-stopped : goal.returns-in-Err-clause-stopped
 returns-in-Err-clause-stopped c = inl c.in-Err.ensures.stopped

@@ -31,10 +31,10 @@ pub returns-in-Rest : goal.returns-in-Rest
 returns-in-Rest c = rest_shown _ c.in-Rest.is refl
 
 pub returns-in-Options : goal.returns-in-Options
-returns-in-Options c = options_shown _ c.in-Options.is refl
+returns-in-Options c = options_shown _ (omega arith) (omega arith) refl c.in-Options.is
 
 pub returns-in-Parameters : goal.returns-in-Parameters
-returns-in-Parameters c = parameters_shown _ c.in-Parameters.is refl
+returns-in-Parameters c = parameters_shown _ (omega arith) (omega arith) refl c.in-Parameters.is
 
 pub returns-in-Bitmap : goal.returns-in-Bitmap
-returns-in-Bitmap c = bitmap_shown _ c.in-Bitmap.is refl
+returns-in-Bitmap c = bitmap_shown _ (omega arith) (omega arith) refl c.in-Bitmap.is

@@ -1,6 +1,6 @@
 use Rattle.std.proofs.Common.{◌≡◌, ◌+◌, ◌≤◌, ◌∙◌, ap, refl, arith, length}
 use Rattle.dns_names_wire.specs.State.{Reading}
-use Rattle.dns_view.proofs.{FieldEnds.skips_inside, RowLoop.at_next, PointerRows.counted_next}
+use Rattle.dns_view.proofs.{FieldEnds.skips_inside, RowLoop.at_next, StepRows.counted_next}
 use Rattle.dns_view.proofs.Fronts.{at_front, counted_front, ends_near}
 use Rattle.dns_view.proofs.skip.are_near.Goals as goal
 
@@ -20,7 +20,7 @@ move_to-requires-in-Some c = skips_inside c.in-Some.ensures.skips
 pub near-preserved : goal.near-preserved
 near-preserved c = rw c.move_to-in-Some.ensures (
   at_next _ c.near.invariant.0 c.near-test.true refl c.in-Some.ensures.skips,
-  counted_next _ _ c.near.invariant.1 c.near-test.true c.in-Some.ensures.pointers c.in-Some.ensures.skips,
+  counted_next _ _ c.near.invariant.1 c.near-test.true c.in-Some.ensures.steps c.in-Some.ensures.skips,
 )
 
 pub returns-clause-near : goal.returns-clause-near

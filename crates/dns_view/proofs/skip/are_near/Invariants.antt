@@ -1,5 +1,5 @@
 use Rattle.std.proofs.Common.{length, ◌-◌}
-use Rattle.dns_view.proofs.{RowLoop.AtPart, PointerRows.CountedSo}
+use Rattle.dns_view.proofs.{RowLoop.AtPart, StepRows.CountedSo}
 use Rattle.dns_view.proofs.skip.are_near.Given as goal
 
 abbrev pub invariant-near : goal.invariant-near

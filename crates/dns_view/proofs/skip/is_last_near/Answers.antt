@@ -33,7 +33,7 @@ pub returns-then-octets-there-clause-near : goal.returns-then-octets-there-claus
 returns-then-octets-there-clause-near c = λ e.
     let at = at_start c.index.ensures.offset c.at.ensures in
     name_last c.args.first c.args.octets _ c.requires.row c.requires.front c.requires.last (rw c.at.ensures at c.index.ensures.octets)
-    c.in-Name.is (omega (arith, c.if-octets-there.true, c.requires.within, at)) (c.is_name_near.ensures.name e) (c.is_name_near.ensures.pointers e)
+    c.in-Name.is (omega (arith, c.if-octets-there.true, c.requires.within, at)) (c.is_name_near.ensures.name e) (c.is_name_near.ensures.steps e)
 
 pub returns-then-octets-there-2-clause-near : goal.returns-then-octets-there-2-clause-near
 returns-then-octets-there-2-clause-near c = λ e.

@@ -3,7 +3,7 @@ use Rattle.dns_types.specs.declared.error.DecodeError.TheVariants as decode
 use Rattle.dns_view.specs.Rows.{is_row}
 use Rattle.dns_rdata.specs.ReadErrors.{IsReadError}
 use Rattle.dns_rdata.proofs.Views.{rows_checked, starts_at, view_found, view_none, view_why}
-use Rattle.dns_rdata.proofs.Pointers.{never_followed, row_followed}
+use Rattle.dns_rdata.proofs.Steps.{never_followed, row_followed}
 use Rattle.dns_rdata.proofs.view.RDataRef.read_in.Goals as goal
 
 pub near-requires-clause-row : goal.near-requires-clause-row
@@ -37,20 +37,20 @@ returns-in-Err-clause-why c = (why c).0
 pub returns-in-Err-clause-allocates_nothing : goal.returns-in-Err-clause-allocates_nothing
 returns-in-Err-clause-allocates_nothing c = (why c).1
 
-pub returns-in_default-clause-pointers : goal.returns-in_default-clause-pointers
-returns-in_default-clause-pointers c = never_followed c.args.record_type c.args.length c.args.walk.now c.args.left.now c.in_default.ensures.none
+pub returns-in_default-clause-steps : goal.returns-in_default-clause-steps
+returns-in_default-clause-steps c = never_followed c.args.record_type c.args.length c.args.walk.now c.args.left.now c.in_default.ensures.none
 
-pub returns-in-Ok-clause-pointers : goal.returns-in-Ok-clause-pointers
-returns-in-Ok-clause-pointers c =
+pub returns-in-Ok-clause-steps : goal.returns-in-Ok-clause-steps
+returns-in-Ok-clause-steps c =
     row_followed c.args.record_type c.in-Some.parts.now c.args.length c.args.walk.now _ _ c.in-Some.ensures.some
-    (rw c.in_default-near.ensures.unchanged at c.read.ensures.pointers)
+    (rw c.in_default-near.ensures.unchanged at c.read.ensures.steps)
 
-pub returns-in-Err-clause-pointers : goal.returns-in-Err-clause-pointers
-returns-in-Err-clause-pointers c =
+pub returns-in-Err-clause-steps : goal.returns-in-Err-clause-steps
+returns-in-Err-clause-steps c =
     row_followed c.args.record_type c.in-Some.parts.now c.args.length c.args.walk.now _ _ c.in-Some.ensures.some
-    (rw c.in_default-near.ensures.unchanged at c.read.ensures.pointers)
+    (rw c.in_default-near.ensures.unchanged at c.read.ensures.steps)
 
-pub returns-in-Some-near-clause-pointers : goal.returns-in-Some-near-clause-pointers
-returns-in-Some-near-clause-pointers c =
+pub returns-in-Some-near-clause-steps : goal.returns-in-Some-near-clause-steps
+returns-in-Some-near-clause-steps c =
     row_followed c.args.record_type c.in-Some.parts.now c.args.length c.args.walk.now _ _ c.in-Some.ensures.some
-    (rw (c.message.ensures, c.index-start.ensures.offset, c.unverified-len.ensures) at c.in-Some-near.ensures.pointers)
+    (rw (c.message.ensures, c.index-start.ensures.offset, c.unverified-len.ensures) at c.in-Some-near.ensures.steps)
