@@ -1,5 +1,5 @@
 -- Octets appended to others.
-use Rattle.std.proofs.Common.{◌≡◌, Bool, ℕ, zero, suc, ◌-◌, ◌≤◌, List, ◌∷◌, Result, Ok, Err, refl, sym, ◌∙◌, subst, take, drop, arith}
+use Rattle.std.proofs.Common.{◌≡◌, ◌⊎◌, inr, IfErr, Option, [], ap, Bool, ℕ, zero, suc, ◌-◌, ◌≤◌, List, ◌∷◌, Result, Ok, Err, refl, sym, ◌∙◌, subst, take, drop, arith}
 use Rattle.std.specs.{Int.bytes_high_first, Result.IsErrAnd, Bool.OnTrue}
 use Rattle.std.proofs.lemmas.Bool.{OnTrue_at, OnTrue_from}
 use Rattle.dns_fields.specs.{Fields.Value, declared.Kind.Kind}
@@ -7,7 +7,11 @@ use Rattle.dns_types.specs.declared.error.ParseError.{ParseError}
 use Rattle.dns_tokens.specs.Reads.{UnlessParseMemory}
 use Rattle.dns_zone_tokens.specs.{Forms.ZoneForm, Tokens.Token, Tokens.Cursor, Tokens.tokens_at, Tokens.seen_at, Tokens.with_token, ZoneReads.NoValueOf, ZoneReads.PutAs, ZoneReads.PutsAs}
 use Rattle.dns_tokens.proofs.Steps.{unless_map}
-use Rattle.dns_zone_tokens.proofs.{FirstSteps.exit_with, RemainingSteps.token_ok}
+use Rattle.dns_zone_tokens.proofs.{FirstSteps.exit_with, FirstSteps.or_then, NamePuts.if_err, RemainingSteps.token_ok}
+use Rattle.dns_fields.specs.Labels.{DomainName}
+use Rattle.dns_zone_tokens.specs.Remaining.{NoneOfAll, PutsAll}
+use Rattle.dns_types.specs.declared.error.ParseError.TheVariants as parse
+use Rattle.dns_zone_rows.specs.{RowFaults.TokenFault, RowFaults.FieldFault, declared.zone_row.ZoneField.ZoneField}
 use Rattle.dns_zone_rows.specs.{RowSteps.NoFirstGives, RowSteps.AddsFirst, RowSteps.GivesNone, RowSteps.PutField, RowSteps.PutsField, Rows.Gives}
 
 -- a token that has no value
@@ -44,6 +48,28 @@ adds_first gives (Err e) before after token old new first seen h = unless_map e 
           let same : other ≡ token = cc in
           no.none octets (subst (gives octets) same given);
     }) h
+
+-- some tokens, which are all taken
+pub rest_some : {T : Type 0} (gives : List ℕ → List Token → Type 0) (r : Result T ParseError) (before after : List ℕ) (cursor : Cursor)
+    → (tokens_at cursor ≡ Ok [] → ⊥) → PutsAll gives r before after cursor
+    → PutsAll (λ octets tokens. (tokens ≡ [] → ⊥) × gives octets tokens) r before after cursor
+rest_some gives (Ok x) before after cursor some p = record {
+  tokens = p.tokens;
+  divided = p.divided;
+  octets = p.octets;
+  given = (λ e. some (p.divided ∙ ap Ok e), p.given);
+  same = p.same;
+}
+rest_some gives (Err e) before after cursor some p = unless_map e (NoneOfAll gives cursor)
+    (NoneOfAll (λ (octets : List ℕ) (tokens : List Token). (tokens ≡ [] → ⊥) × gives octets tokens) cursor)
+    (λ no. record { none = λ v tokens divided is. no.none v tokens divided is.1 }) p
+
+-- why the first token gives no octets
+pub field_why : {T : Type 0} (origin : Option DomainName) (field : ZoneField) (r : Result T ParseError) (token : Token) (old new : Cursor)
+    → seen_at old ≡ token ∷ seen_at new → IfErr r (λ e. (e ≡ parse.Memory) ⊎ TokenFault origin field token e)
+    → IfErr r (λ e. (e ≡ parse.Memory) ⊎ FieldFault origin field old e)
+field_why origin field r token old new seen = if_err _ _ r
+    (λ e. or_then (λ has. inr (record { token = token; others = seen_at new; seen = seen; has = has })))
 
 -- the last octets of a number of four
 pub last_octets : (count n : ℕ) → count ≤ 4 → take (4 - (4 - count)) (drop (4 - count) (bytes_high_first 4 n)) ≡ bytes_high_first count n

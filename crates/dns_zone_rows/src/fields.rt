@@ -19,7 +19,7 @@ use dns_zone_tokens::{
 };
 
 // Takes the next token and appends the octets that it gives for the field.
-#[tactic(auto, using(crate::proofs::Adding::adds_first))]
+#[tactic(auto, using(crate::proofs::Adding::adds_first, crate::proofs::Adding::field_why))]
 pub(crate) fn add_field(
     tokens: &mut ZoneTokens<'_>,
     origin: Option<&Name>,
