@@ -1,5 +1,5 @@
 -- Views are ordered by their types and canonical octets.
-use Rattle.std.proofs.Common.{◌≡◌, ◌≢◌, ◌↔◌, ◌+◌, ◌≤◌, ◌==◌, ◌&&◌, ℕ, zero, suc, Bool, true, false, true≢false, List, [], ◌∷◌, ◌++◌, length, take, drop, IsTrue, refl, sym, ap, ◌∙◌, arith, subst}
+use Rattle.std.proofs.Common.{◌≡◌, ◌↔◌, ◌+◌, ◌==◌, ◌&&◌, ℕ, zero, suc, Bool, true, false, true≢false, List, [], ◌∷◌, ◌++◌, length, take, drop, IsTrue, refl, sym, ap, ◌∙◌, arith, subst}
 use Rattle.std.proofs.{Math.Logic.∥∥₁_elim, lemmas.Slice.Eq.bytes_eq-Decides, lemmas.Bool.cases_Bool, Common.⊎_elim}
 use Rattle.std.specs.{Ordering.nat_cmp, Ordering.ordering_then, Ordering.is_eq, Ordering.is_ne, Ordering.Ordering-set, Cmp.Lexicographic.slice_cmp, Cmp.Lexicographic.pointwise, Cmp.first_so, Cmp.second_so, Cmp.tied_itself, declared.cmp.Ordering.Ordering}
 use Rattle.std.specs.declared.cmp.Ordering.TheVariants.{Less, Equal, Greater}
