@@ -8,7 +8,7 @@ need_rt vendor
 dir=$(mktemp -d)
 trap 'rm -rf "$dir"' EXIT
 . "$top/tests/want.sh"
-to="$dir/there"
+to="$dir/over there"
 
 # The first block of a page that is marked with a word and is after a line with a text.
 block() { # PAGE WORD TEXT

@@ -24,9 +24,10 @@ while IFS= read -r line; do
 done < <(grep -v '^#' "$top/crates/rdata_replay/data/rows.tsv")
 
 # A copy of the tree without built programs, in which `rdata` and `zone_text` are ready-made scripts that print their words, and
-# `rt` is a command that fails.
-copy=$(mktemp -d)
-trap 'rm -rf "$copy"' EXIT
+# `rt` is a command that fails. Its path has a blank.
+base=$(mktemp -d)
+copy="$base/a b"
+trap 'rm -rf "$base"' EXIT
 . "$top/tests/build.sh"
 . "$top/tools/dist.sh"
 machine=$(this_machine)

@@ -15,6 +15,8 @@ unset MAKEFLAGS MFLAGS MAKEOVERRIDES MAKELEVEL CPPFLAGS CFLAGS LDFLAGS
 . "$top/tests/want.sh"
 rounds=${ROUNDS:-200000}
 library=${ARCHIVE:-$top/crates/dns_rdata_c/out/libdns_rdata_c.a}
+# make takes a blank in a path for two files.
+case "$library" in *' '*) cp "$library" "$dir/archive.a" && library="$dir/archive.a" ;; esac
 CC=${CC:-cc} CXX=${CXX:-c++} AR=${AR:-ar} NM=${NM:-nm}
 read -ra run <<<"${RUN:-}"
 read -ra stacks <<<"${STACKS:-}"
@@ -23,7 +25,6 @@ cpp=("$CXX" -x c++ -std=c++17 -Wall -Wextra -Werror -O2 -I"$top/c/include")
 build=(make -s -C "$top/c" "ARCHIVE=$library" "CC=$CC" "AR=$AR" PREFIX=/usr/local LIBDIR=/usr/local/lib)
 installed="$dir/installed/usr/local"
 tests="$top/c/tests"
-# An emulator is slower than the processor.
 
 # Whether a command prints what a file has.
 prints() { # FILE COMMAND ..

@@ -1,10 +1,10 @@
 -- A step of a walk over records, which a caller keeps as numbers.
-use Rattle.std.specs.Prelude.{◌≡◌, ℕ, ◌+◌, ◌<◌, ◌≤◌, ◌⊎◌, List, Bool, true, false, Option, Some, None, Result, Ok, Err}
+use Rattle.std.specs.Prelude.{◌≡◌, ℕ, ◌+◌, ◌<◌, ◌≤◌, ◌⊎◌, List, length, Bool, true, false, Option, Some, None, Result, Ok, Err}
 use Rattle.dns_types.specs.{RecordTypes.record_type_of, declared.error.DecodeError.DecodeError}
 use Rattle.dns_rdata.specs.Data.{HasValue}
 use Rattle.dns_message.specs.declared.{header.Header.Header, error.Fault.Fault, progress.Progress.Progress}
 use Rattle.dns_message.specs.declared.{reading.FixedFields.FixedFields, step.PassedRecord.PassedRecord}
-use Rattle.dns_message.specs.{Headers.IsHeader, Headers.IsPlace, Readings.IsFound, Records.HasNoData, Items.IsRejected}
+use Rattle.dns_message.specs.{Headers.IsHeader, Headers.IsPlace, Headers.record_count, Readings.IsFound, Records.HasNoData, Items.IsRejected}
 use Rattle.dns_view.specs.Steps.{Leaves}
 use Rattle.dns_message.specs.{Steps.DataSteps, Steps.RecordSteps, Steps.Takes, Stops.IsRecordStop, Starts.NoResume}
 
@@ -25,6 +25,8 @@ pub record PassesRData (m : List ℕ) (f : FixedFields) (left after : ℕ) : Typ
 pub record PassesTo (m : List ℕ) (old new : Progress) (x : PassedRecord) : Type 0 where
   pub header : Header
   pub is : IsHeader m header
+  pub inside : old.offset ≤ length m
+  pub few : old.until ≤ record_count header
   pub place : IsPlace header old.passed x.section x.index
   pub left : old.passed < old.until
   pub found : IsFound m old.offset x.fields
@@ -34,11 +36,16 @@ pub record PassesTo (m : List ℕ) (old new : Progress) (x : PassedRecord) : Typ
 
 -- the walk ends where it was, for this fault
 pub record StopsWith (m : List ℕ) (old new : Progress) (fault : Fault) : Type 0 where
+  pub header : Header
+  pub is : IsHeader m header
+  pub inside : old.offset ≤ length m
+  pub few : old.until ≤ record_count header
   pub left : old.passed < old.until
   pub why : IsRecordStop m old.offset old.left fault
   pub after : new ≡ record { offset = old.offset; passed = old.passed; until = old.passed; left = old.left }
 
--- a step of a walk: no record is left, or no walk can be there; or a record is passed; or the walk ends
+-- A step of a walk: no record is left, or no walk can be there; or a record is passed; or the walk ends. The last two are
+-- only where a walk can be (`Resumes`).
 abbrev pub StepsTo : List ℕ → Progress → Option (Result PassedRecord Fault) → Progress → Type 0
 StepsTo m old None new = (new ≡ old) × ((old.until ≤ old.passed) ⊎ NoResume m old)
 StepsTo m old (Some (Ok x)) new = PassesTo m old new x

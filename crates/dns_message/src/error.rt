@@ -55,7 +55,7 @@ pub enum Fault {
         /// How many octets of the message follow RDLENGTH.
         left: usize,
     },
-    /// The names of the walk have more labels and compression pointers (RFC 1035, section 4.1.4) than its limit allows. See
+    /// The names of the walk have more labels and steps (RFC 1035, section 4.1.4) than its limit allows. See
     /// [`with_limit`](crate::MessageRef::with_limit).
     #[error("more labels and compression pointers than the limit")]
     Limit,

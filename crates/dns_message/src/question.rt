@@ -55,7 +55,7 @@ fn question_at<'a>(message: &'a [u8], index: usize, offset: usize, asked: Asked)
 /// The questions of a message, one after the other. Allocates nothing.
 ///
 /// A question that is damaged gives one error, and it is the last item. So does one whose name has more labels and
-/// compression pointers than the limit of the message leaves.
+/// steps than the limit of the message leaves.
 #[derive(Drop)]
 pub struct Questions<'a> {
     message: &'a [u8],

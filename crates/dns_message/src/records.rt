@@ -20,7 +20,7 @@ use std::marker::Model;
 /// ends. A record whose owner, fixed fields or RDLENGTH are damaged gives one error, and it is the last item. There are
 /// at most as many items as the counts of the header say.
 ///
-/// The walk counts the steps that it takes, which are the labels and the compression pointers (RFC 1035, sections 3.1 and
+/// The walk counts the steps that it takes, which are the labels and the steps (RFC 1035, sections 3.1 and
 /// 4.1.4) of the names of the questions, of the owners of records, and of RDATA, up to the damage where there is one. A record with which they are
 /// more than the limit of the message is not given: the item is an error with [`Limit`](crate::Fault::Limit), and
 /// it is the last one.

@@ -279,18 +279,18 @@ reads_own {n = n} {old = old} {new = new} t f fields r never region own taken va
 
 -- where the fields say themselves where they end
 pub taken_fields : {X : Type 0} (t : RecordType) (fields : X → Values (shape t)) (n : ℕ) (old new : Reading) (r : Result X DecodeError)
-    → Reached (shape t) n old new → ReadsIf (shape t) (λ vs _. MeetsCondition t vs) fields r old new → IfOk r (λ x. OwnTaken t n old new)
-taken_fields t fields n old new (Ok x) ends reads = record { values = fields x; took = reads.0; holds = reads.1; reached = ends }
+    → ((vs : Values (shape t)) → Reached (shape t) n vs old new) → ReadsIf (shape t) (λ vs _. MeetsCondition t vs) fields r old new → IfOk r (λ x. OwnTaken t n old new)
+taken_fields t fields n old new (Ok x) ends reads = record { values = fields x; took = reads.0; holds = reads.1; reached = ends (fields x) }
 taken_fields t fields n old new (Err e) ends reads = tt
 
 -- where they fill the length
 pub taken_filling : {X : Type 0} (t : RecordType) (fields : X → Values (shape t)) (n : ℕ) (old new : Reading) (r : Result X DecodeError) (P : X → Type 0)
-    → (new.index ≡ old.index + n → Reached (shape t) n old new) → ReadsRegion (shape t) (MeetsCondition t) fields n r old new
+    → (new.index ≡ old.index + n → (vs : Values (shape t)) → Reached (shape t) n vs old new) → ReadsRegion (shape t) (MeetsCondition t) fields n r old new
     → IfOk r (λ x. P x × (new.index ≡ old.index + n)) → IfOk r (λ x. OwnTaken t n old new)
 taken_filling t fields n old new (Ok x) P ends w after_read =
     let h = w.here after_read.1 in
     record
-    { values = fields x; took = record { message = w.behind.message; stands = rw after_read.1 h.stands }; holds = h.holds; reached = ends after_read.1 }
+    { values = fields x; took = record { message = w.behind.message; stands = rw after_read.1 h.stands }; holds = h.holds; reached = ends after_read.1 (fields x) }
 taken_filling t fields n old new (Err e) P ends w after_read = tt
 
 -- and where what its reader says of a value says so

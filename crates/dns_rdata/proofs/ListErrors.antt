@@ -154,8 +154,8 @@ parameter_error d e new (inr (inr h)) =
     inr (inr (record { key = h.key; octets = h.octets; took = h.took; refused = key_error h.key h.octets e h.refused }))
 
 parameters_error : (p n : ℕ) (d : Reading) (e : DecodeError) (new : Reading) → IsParametersError p n d e new → service.Parameters.IsParametersError p n d e new
-parameters_error p n d e new (inl h) = inr (inl (record
-    { before = h.before; between = h.between; took = h.took; room = h.room; refused = parameter_error h.between e new h.refused }))
+parameters_error p n d e new (inl h) =
+    inr (inl (record { between = h.between; before = h.before; refused = parameter_error h.between e new h.refused }))
 parameters_error p n d e new (inr h) = inr (inr h)
 
 svcb_fault : Faults rows.SVCB service.SVCB.svcb_facts.rejects

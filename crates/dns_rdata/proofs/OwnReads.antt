@@ -47,7 +47,7 @@ ending : {X : Type 0} {n : ℕ} {old new : Reading} {P : X → Type 0} (t : Reco
       refused : IfErr r (OwnError t n old new);
       after_read : IfOk r P;
       fields : ReadsIf (shape t) (λ vs _. MeetsCondition t vs) fields r old new;
-    } → (IsNeverRead t → ⊥) → Reached (shape t) n old new → ((x : X) → P x → IsValue t (fields x) (value x)) → ReadsOwn t n (mapped value r) old new
+    } → (IsNeverRead t → ⊥) → ((vs : Values (shape t)) → Reached (shape t) n vs old new) → ((x : X) → P x → IsValue t (fields x) (value x)) → ReadsOwn t n (mapped value r) old new
 ending {P = P} t value fields r h never ends is = reads_own t value fields r never h.region h.refused (taken_fields t fields _ _ _ r ends h.fields)
     (λ x e. is x (of_read P h.after_read e))
 
@@ -56,34 +56,34 @@ filling : {X : Type 0} {n : ℕ} {old new : Reading} {P : X → Type 0} (t : Rec
       region : ReadsRegion (shape t) (MeetsCondition t) fields n r old new;
       refused : IfErr r (OwnError t n old new);
       after_read : IfOk r (λ x. P x × (new.index ≡ old.index + n));
-    } → (IsNeverRead t → ⊥) → (new.index ≡ old.index + n → Reached (shape t) n old new) → ((x : X) → P x → IsValue t (fields x) (value x))
+    } → (IsNeverRead t → ⊥) → (new.index ≡ old.index + n → (vs : Values (shape t)) → Reached (shape t) n vs old new) → ((x : X) → P x → IsValue t (fields x) (value x))
     → ReadsOwn t n (mapped value r) old new
 filling {P = P} t value fields r h never ends is = reads_own t value fields r never h.region h.refused
     (taken_filling t fields _ _ _ r P ends h.region h.after_read) (λ x e. is x (of_read _ h.after_read e).0)
 
 pub own_a : OwnFields types.A rdata.A base.A.a_facts
-own_a n old new r h = ending _ _ base.A.a_fields r h (λ h. h) tt (λ x can. record { type = refl; fields = refl; can_be_read = tt })
+own_a n old new r h = ending _ _ base.A.a_fields r h (λ h. h) (λ vs. tt) (λ x can. record { type = refl; fields = refl; can_be_read = tt })
 
 pub own_aaaa : OwnFields types.AAAA rdata.AAAA base.AAAA.aaaa_facts
-own_aaaa n old new r h = ending _ _ base.AAAA.aaaa_fields r h (λ h. h) tt (λ x can. record { type = refl; fields = refl; can_be_read = tt })
+own_aaaa n old new r h = ending _ _ base.AAAA.aaaa_fields r h (λ h. h) (λ vs. tt) (λ x can. record { type = refl; fields = refl; can_be_read = tt })
 
 pub own_aname : OwnFields types.ANAME rdata.ANAME base.NameRecords.aname_facts
-own_aname n old new r h = ending _ _ base.NameRecords.aname_fields r h (λ h. h) tt (λ x can. record { type = refl; fields = refl; can_be_read = tt })
+own_aname n old new r h = ending _ _ base.NameRecords.aname_fields r h (λ h. h) (λ vs. tt) (λ x can. record { type = refl; fields = refl; can_be_read = tt })
 
 pub own_caa : Own types.CAA rdata.CAA caa_csync.CAA.caa_facts
-own_caa n old new r h = filling _ _ caa_csync.CAA.caa_fields r h (λ h. h) (λ e. e) (λ x can. record { type = refl; fields = refl; can_be_read = can })
+own_caa n old new r h = filling _ _ caa_csync.CAA.caa_fields r h (λ h. h) (λ e vs. e) (λ x can. record { type = refl; fields = refl; can_be_read = can })
 
 pub own_cert : Own types.CERT rdata.CERT certs.CERT.cert_facts
-own_cert n old new r h = filling _ _ certs.CERT.cert_fields r h (λ h. h) (λ e. e) (λ x can. record { type = refl; fields = refl; can_be_read = can })
+own_cert n old new r h = filling _ _ certs.CERT.cert_fields r h (λ h. h) (λ e vs. e) (λ x can. record { type = refl; fields = refl; can_be_read = can })
 
 pub own_cname : OwnFields types.CNAME rdata.CNAME base.NameRecords.cname_facts
-own_cname n old new r h = ending _ _ base.NameRecords.cname_fields r h (λ h. h) tt (λ x can. record { type = refl; fields = refl; can_be_read = tt })
+own_cname n old new r h = ending _ _ base.NameRecords.cname_fields r h (λ h. h) (λ vs. tt) (λ x can. record { type = refl; fields = refl; can_be_read = tt })
 
 pub own_csync : Own types.CSYNC rdata.CSYNC caa_csync.CSYNC.csync_facts
-own_csync n old new r h = filling _ _ caa_csync.CSYNC.csync_fields r h (λ h. h) (λ e. e) (λ x can. record { type = refl; fields = refl; can_be_read = can })
+own_csync n old new r h = filling _ _ caa_csync.CSYNC.csync_fields r h (λ h. h) (λ e vs. e) (λ x can. record { type = refl; fields = refl; can_be_read = can })
 
 pub own_hinfo : OwnFields types.HINFO rdata.HINFO base.HINFO.hinfo_facts
-own_hinfo n old new r h = ending _ _ base.HINFO.hinfo_fields r h (λ h. h) tt (λ x can. record { type = refl; fields = refl; can_be_read = tt })
+own_hinfo n old new r h = ending _ _ base.HINFO.hinfo_fields r h (λ h. h) (λ vs. tt) (λ x can. record { type = refl; fields = refl; can_be_read = tt })
 
 pub own_https : {n : ℕ} {old new : Reading} (r : Result HTTPS DecodeError)
     → Says service.HTTPS.https_facts n r old new → ReadsOwn types.HTTPS n (mapped rdata.HTTPS r) old new
@@ -94,39 +94,39 @@ own_https {n} {old} {new} r h = reads_own types.HTTPS rdata.HTTPS (λ x. service
     (λ x e. record { type = refl; fields = refl; can_be_read = (of_read _ h.after_read e).read })
 
 pub own_mx : OwnFields types.MX rdata.MX base.NameRecords.mx_facts
-own_mx n old new r h = ending _ _ base.NameRecords.mx_fields r h (λ h. h) tt (λ x can. record { type = refl; fields = refl; can_be_read = tt })
+own_mx n old new r h = ending _ _ base.NameRecords.mx_fields r h (λ h. h) (λ vs. tt) (λ x can. record { type = refl; fields = refl; can_be_read = tt })
 
 pub own_naptr : OwnFields types.NAPTR rdata.NAPTR base.NAPTR.naptr_facts
-own_naptr n old new r h = ending _ _ base.NAPTR.naptr_fields r h (λ h. h) tt (λ x can. record { type = refl; fields = refl; can_be_read = tt })
+own_naptr n old new r h = ending _ _ base.NAPTR.naptr_fields r h (λ h. h) (λ vs. tt) (λ x can. record { type = refl; fields = refl; can_be_read = tt })
 
 pub own_null : Own types.NULL rdata.NULL base.NULL.null_facts
-own_null n old new r h = filling _ _ base.NULL.null_fields r h (λ h. h) (λ e. e) (λ x can. record { type = refl; fields = refl; can_be_read = tt })
+own_null n old new r h = filling _ _ base.NULL.null_fields r h (λ h. h) (λ e vs. e) (λ x can. record { type = refl; fields = refl; can_be_read = tt })
 
 pub own_ns : OwnFields types.NS rdata.NS base.NameRecords.ns_facts
-own_ns n old new r h = ending _ _ base.NameRecords.ns_fields r h (λ h. h) tt (λ x can. record { type = refl; fields = refl; can_be_read = tt })
+own_ns n old new r h = ending _ _ base.NameRecords.ns_fields r h (λ h. h) (λ vs. tt) (λ x can. record { type = refl; fields = refl; can_be_read = tt })
 
 pub own_openpgpkey : Own types.OPENPGPKEY rdata.OPENPGPKEY base.OPENPGPKEY.openpgpkey_facts
-own_openpgpkey n old new r h = filling _ _ base.OPENPGPKEY.openpgpkey_fields r h (λ h. h) (λ e. e)
+own_openpgpkey n old new r h = filling _ _ base.OPENPGPKEY.openpgpkey_fields r h (λ h. h) (λ e vs. e)
     (λ x can. record { type = refl; fields = refl; can_be_read = tt })
 
 pub own_opt : Own types.OPT rdata.OPT options.OPT.opt_facts
-own_opt n old new r h = filling _ _ options.OPT.opt_fields r h (λ h. h) (λ e. e) (λ x can. record { type = refl; fields = refl; can_be_read = can })
+own_opt n old new r h = filling _ _ options.OPT.opt_fields r h (λ h. h) (λ e vs. e) (λ x can. record { type = refl; fields = refl; can_be_read = can })
 
 pub own_ptr : OwnFields types.PTR rdata.PTR base.NameRecords.ptr_facts
-own_ptr n old new r h = ending _ _ base.NameRecords.ptr_fields r h (λ h. h) tt (λ x can. record { type = refl; fields = refl; can_be_read = tt })
+own_ptr n old new r h = ending _ _ base.NameRecords.ptr_fields r h (λ h. h) (λ vs. tt) (λ x can. record { type = refl; fields = refl; can_be_read = tt })
 
 pub own_smimea : Own types.SMIMEA rdata.SMIMEA certs.SMIMEA.smimea_facts
-own_smimea n old new r h = filling _ _ (λ x. certs.TLSA.tlsa_fields x.0) r h (λ h. h) (λ e. e)
+own_smimea n old new r h = filling _ _ (λ x. certs.TLSA.tlsa_fields x.0) r h (λ h. h) (λ e vs. e)
     (λ x can. record { type = refl; fields = refl; can_be_read = can })
 
 pub own_soa : OwnFields types.SOA rdata.SOA base.SOA.soa_facts
-own_soa n old new r h = ending _ _ base.SOA.soa_fields r h (λ h. h) tt (λ x can. record { type = refl; fields = refl; can_be_read = can })
+own_soa n old new r h = ending _ _ base.SOA.soa_fields r h (λ h. h) (λ vs. tt) (λ x can. record { type = refl; fields = refl; can_be_read = can })
 
 pub own_srv : OwnFields types.SRV rdata.SRV base.NameRecords.srv_facts
-own_srv n old new r h = ending _ _ base.NameRecords.srv_fields r h (λ h. h) tt (λ x can. record { type = refl; fields = refl; can_be_read = tt })
+own_srv n old new r h = ending _ _ base.NameRecords.srv_fields r h (λ h. h) (λ vs. tt) (λ x can. record { type = refl; fields = refl; can_be_read = tt })
 
 pub own_sshfp : Own types.SSHFP rdata.SSHFP certs.SSHFP.sshfp_facts
-own_sshfp n old new r h = filling _ _ certs.SSHFP.sshfp_fields r h (λ h. h) (λ e. e) (λ x can. record { type = refl; fields = refl; can_be_read = can })
+own_sshfp n old new r h = filling _ _ certs.SSHFP.sshfp_fields r h (λ h. h) (λ e vs. e) (λ x can. record { type = refl; fields = refl; can_be_read = can })
 
 pub own_svcb : {n : ℕ} {old new : Reading} (r : Result SVCB DecodeError) → Says service.SVCB.svcb_facts n r old new
     → ReadsOwn types.SVCB n (mapped rdata.SVCB r) old new
@@ -136,7 +136,7 @@ own_svcb {n} {old} {new} r h = reads_own types.SVCB rdata.SVCB service.SVCB.svcb
     (λ x e. record { type = refl; fields = refl; can_be_read = (of_read _ h.after_read e).read })
 
 pub own_tlsa : Own types.TLSA rdata.TLSA certs.TLSA.tlsa_facts
-own_tlsa n old new r h = filling _ _ certs.TLSA.tlsa_fields r h (λ h. h) (λ e. e) (λ x can. record { type = refl; fields = refl; can_be_read = can })
+own_tlsa n old new r h = filling _ _ certs.TLSA.tlsa_fields r h (λ h. h) (λ e vs. e) (λ x can. record { type = refl; fields = refl; can_be_read = can })
 
 pub own_txt : {n : ℕ} {old new : Reading} (r : Result TXT DecodeError) → Says base.TXT.txt_facts n r old new
     → ReadsOwn types.TXT n (mapped rdata.TXT r) old new
@@ -153,4 +153,4 @@ pub own_unknown : {n : ℕ} {old new : Reading} (t : RecordType) → HasNoFormat
     → Says base.NULL.null_facts n r old new
     → ReadsOwn t n (mapped (λ x. rdata.Unknown t x) r) old new
 own_unknown {n} {old} {new} t none r h =
-    unknown_own t r none h.region h.refused (taken_filling types.NULL base.NULL.null_fields n old new r _ (λ e. e) h.region h.after_read)
+    unknown_own t r none h.region h.refused (taken_filling types.NULL base.NULL.null_fields n old new r _ (λ e vs. e) h.region h.after_read)

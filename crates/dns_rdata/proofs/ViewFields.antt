@@ -12,7 +12,7 @@ use Rattle.dns_rdata.specs.{declared.record_data.RData.RData, Data.Fills, Data.f
 use Rattle.dns_rdata.specs.declared.record_data.RData.TheVariants as rdata
 use Rattle.dns_rdata.specs.declared.view.RDataRef.{RDataRef}
 use Rattle.dns_rdata.specs.declared.view_fields.{Fields.Fields, Names.Names}
-use Rattle.dns_rdata.specs.ViewFields.{AreFields, AreNames, NextField, NextName}
+use Rattle.dns_rdata.specs.ViewFields.{ShowsField, AreFields, AreNames, NextField, NextName}
 
 -- ---- what is left of an index
 
@@ -33,35 +33,35 @@ left_more {A} P count i x xs here l = (omega (arith, l.0), each) where
 
 -- ---- fields
 
-shown_below : (kinds : List Kind) (vs : Values kinds) (i : ℕ) (f : FieldRef) → ShowsAt i kinds vs f → i < length kinds
-shown_below [] vs i f h = absurd h
-shown_below (k ∷ kinds) vs zero f h = omega arith
-shown_below (k ∷ kinds) vs (suc i) f h = omega (arith, shown_below kinds vs.1 i f h)
+shown_below : (m : List ℕ) (p : ℕ) (kinds : List Kind) (vs : Values kinds) (i end : ℕ) (f : FieldRef) → ShowsAt m p i kinds vs end f → i < length kinds
+shown_below m p [] vs i end f h = absurd h
+shown_below m p (k ∷ kinds) vs zero end f h = omega arith
+shown_below m p (k ∷ kinds) vs (suc i) end f h = omega (arith, shown_below m h.0 kinds vs.1 i end f h.2)
 
 fields_left : (m : List ℕ) (p n : ℕ) (t : RecordType) (v : RData) (xs : List FieldRef) (s e u : Fields) → IsViewOf m p n t s.rdata → Fills m p n t v
     → s.index ≤ length (fields_of v).kinds → Yields NextField s xs e → NextField e None u
-    → Left (λ i f. ShowsAt i (fields_of v).kinds (fields_of v).values f) (length (fields_of v).kinds) s.index xs
+    → Left (ShowsField m p n v) (length (fields_of v).kinds) s.index xs
 fields_left m p n t v [] s e u is f low y last =
     let q : NextField s None u = subst (λ (x : Fields). NextField x None u) (sym y) last in
-    left_none (λ i f. ShowsAt i (fields_of v).kinds (fields_of v).values f) (length (fields_of v).kinds) s.index low (q.shows m p n t v is f)
+    left_none (ShowsField m p n v) (length (fields_of v).kinds) s.index low (q.shows m p n t v is f)
 fields_left m p n t v (x ∷ xs) s e u is f low y last =
     let step = y.1 in
     let here = step.shows m p n t v is f in
-    let below = shown_below (fields_of v).kinds (fields_of v).values s.index x here in
+    let below = shown_below m p (fields_of v).kinds (fields_of v).values s.index (p + n) x here in
     let next : IsViewOf m p n t y.0.rdata = subst (λ (r : RDataRef). IsViewOf m p n t r) (sym step.rdata) is in
     let more = fields_left m p n t v xs y.0 e u next f (omega (arith, step.on, below)) y.2 last in
-    left_more (λ i f. ShowsAt i (fields_of v).kinds (fields_of v).values f) (length (fields_of v).kinds) s.index x xs here
-    (subst (λ (k : ℕ). Left (λ i f. ShowsAt i (fields_of v).kinds (fields_of v).values f) (length (fields_of v).kinds) k xs) step.on more)
+    left_more (ShowsField m p n v) (length (fields_of v).kinds) s.index x xs here
+    (subst (λ (k : ℕ). Left (ShowsField m p n v) (length (fields_of v).kinds) k xs) step.on more)
 
 pub all_fields : (m : List ℕ) (p n : ℕ) (t : RecordType) (v : RData) (s : Fields) → IsViewOf m p n t s.rdata → Fills m p n t v → s.index ≡ 0
-    → (xs : List FieldRef) → Drains NextField s xs → AreFields v xs
+    → (xs : List FieldRef) → Drains NextField s xs → AreFields m p n v xs
 all_fields m p n t v s is f start xs d =
     let l = fields_left m p n t v xs s d.1.0 d.0 is f (omega (arith, start)) d.1.1 d.1.2 in
     record {
       count = omega (arith, l.0, start);
       each = λ i x e.
           let on : i + s.index ≡ i = omega (arith, start) in
-          subst (λ (k : ℕ). ShowsAt k (fields_of v).kinds (fields_of v).values x) on (l.1 i x e);
+          subst (λ (k : ℕ). ShowsField m p n v k x) on (l.1 i x e);
     }
 
 -- ---- names

@@ -22,6 +22,7 @@ use Rattle.dns_rdata_base.proofs.Addresses.{octets_of-segments}
 use Rattle.dns_rdata.specs.{Data.FieldsOf, Data.fields_of, Data.type_of, Data.Fills, Laws.address_of}
 use Rattle.dns_rdata.specs.{declared.record_data.RData.RData, declared.view.RDataRef.RDataRef, Views.IsViewOf}
 use Rattle.dns_rdata.specs.declared.record_data.RData.TheVariants as rdata
+use Rattle.dns_rdata.specs.ViewFields.{ShowsField}
 use Rattle.dns_rdata.specs.ViewLists.{strings_in, options_in, parameters_in, types_in, HasWindows}
 use Rattle.dns_rdata.proofs.{Views.meets_row, Values.value_is, Values.value_for-a, Values.value_for-aaaa}
 
@@ -136,17 +137,19 @@ options_none {v = v} result is f ne none = held_nothing OptionHeld result (optio
 
 -- ---- parameters
 
-shown_parameters : (f : FieldRef) (v : Value Parameters) → IsShown f Parameters v → (s : Bor (List ℕ)) × (f ≡ shown.Parameters s)
-shown_parameters (shown.Parameters s) v h = (s, refl)
-shown_parameters f v h = absurd h
+shown_parameters : (m : List ℕ) (p : ℕ) (f : FieldRef) (v : Value Parameters) (q : ℕ) → IsShown m p f Parameters v q → (s : Bor (List ℕ)) × (f ≡ shown.Parameters s)
+shown_parameters m p (shown.Parameters s) v q h = (s, refl)
+shown_parameters m p f v q h = absurd h
 
-third_other : (kinds : List Kind) (vs : Values kinds) (f : FieldRef) → ShowsAt 2 kinds vs f → ((s : Bor (List ℕ)) → f ≡ shown.Parameters s → ⊥)
+third_other : (m : List ℕ) (p : ℕ) (kinds : List Kind) (vs : Values kinds) (end : ℕ) (f : FieldRef) → ShowsAt m p 2 kinds vs end f → ((s : Bor (List ℕ)) → f ≡ shown.Parameters s → ⊥)
     → third_parameters kinds vs ≡ []
-third_other [] vs f h ne = refl
-third_other (a ∷ []) vs f h ne = refl
-third_other (a ∷ (b ∷ [])) vs f h ne = refl
-third_other (a ∷ (b ∷ (Parameters ∷ kinds))) vs f h ne = let w = shown_parameters f vs.1.1.0 h.is in absurd (ne w.0 w.1)
-third_other (a ∷ (b ∷ (k ∷ kinds))) vs f h ne = refl
+third_other m p [] vs end f h ne = refl
+third_other m p (a ∷ []) vs end f h ne = refl
+third_other m p (a ∷ (b ∷ [])) vs end f h ne = refl
+third_other m p (a ∷ (b ∷ (Parameters ∷ kinds))) vs end f h ne =
+    let (i, first, (j, second, (q, field, rest, shows))) = h in
+    let w = shown_parameters m j f vs.1.1.0 q shows.is in absurd (ne w.0 w.1)
+third_other m p (a ∷ (b ∷ (k ∷ kinds))) vs end f h ne = refl
 
 third_missing : (kinds : List Kind) (vs : Values kinds) → length kinds ≤ 2 → third_parameters kinds vs ≡ []
 third_missing [] vs h = refl
@@ -158,26 +161,28 @@ third_missing (a ∷ (b ∷ (k ∷ kinds))) vs h = absurd (omega (arith, h))
 abbrev pub YieldsTlvs : List ℕ → List (Numbered (List ℕ)) → Type 0
 YieldsTlvs o r = (xs : List (Numbered (List ℕ))) (rest : List ℕ) → AreTlvs xs → o ≡ tlvs xs ++ rest → NoTlv rest → r ≡ xs
 
-third_shown : (kinds : List Kind) (vs : Values kinds) (s : Bor (List ℕ)) (r : List (Numbered (List ℕ))) → ShowsAt 2 kinds vs (shown.Parameters s)
-    → YieldsTlvs s.now r → AllHeld ParameterHeld r (third_parameters kinds vs)
-third_shown [] vs s r h y = absurd h
-third_shown (a ∷ []) vs s r h y = absurd h
-third_shown (a ∷ (b ∷ [])) vs s r h y = absurd h
-third_shown (a ∷ (b ∷ (Parameters ∷ kinds))) vs s r h y =
-    let c = h.is.is in
-    let e : r ≡ c.read = y c.read [] c.fit (whole_octets c.at ∙ sym (append-nil (tlvs c.read))) no_octets in
+third_shown : (m : List ℕ) (p : ℕ) (kinds : List Kind) (vs : Values kinds) (end : ℕ) (s : Bor (List ℕ)) (r : List (Numbered (List ℕ)))
+    → ShowsAt m p 2 kinds vs end (shown.Parameters s) → YieldsTlvs s.now r → AllHeld ParameterHeld r (third_parameters kinds vs)
+third_shown m p [] vs end s r h y = absurd h
+third_shown m p (a ∷ []) vs end s r h y = absurd h.2
+third_shown m p (a ∷ (b ∷ [])) vs end s r h y = absurd h.2.2
+third_shown m p (a ∷ (b ∷ (Parameters ∷ kinds))) vs end s r h y =
+    let (i, first, (j, second, (q, field, rest, shows))) = h in
+    let c = field.is in
+    let same : s.now ≡ tlvs c.read = sym (between_is shows.is) ∙ between_is c.at in
+    let e : r ≡ c.read = y c.read [] c.fit (same ∙ sym (append-nil (tlvs c.read))) no_octets in
     subst (λ (x : List (Numbered (List ℕ))). AllHeld ParameterHeld x vs.1.1.0) (sym e) c.held
-third_shown (a ∷ (b ∷ (k ∷ kinds))) vs s r h y = absurd h.is
+third_shown m p (a ∷ (b ∷ (k ∷ kinds))) vs end s r h y = let (i, first, (j, second, (q, field, rest, shows))) = h in absurd shows.is
 
-pub parameters_told : (v : RData) (s : Bor (List ℕ)) (r : List (Numbered (List ℕ))) → ShowsAt 2 (fields_of v).kinds (fields_of v).values (shown.Parameters s)
+pub parameters_told : (m : List ℕ) (p n : ℕ) (v : RData) (s : Bor (List ℕ)) (r : List (Numbered (List ℕ))) → ShowsField m p n v 2 (shown.Parameters s)
     → YieldsTlvs s.now r → AllHeld ParameterHeld r (parameters_in v)
-parameters_told v s r h y = subst (λ (ys : List (Numbered ParameterValue)). AllHeld ParameterHeld r ys) (sym (parameters_third v))
-    (third_shown (fields_of v).kinds (fields_of v).values s r h y)
+parameters_told m p n v s r h y = subst (λ (ys : List (Numbered ParameterValue)). AllHeld ParameterHeld r ys) (sym (parameters_third v))
+    (third_shown m p (fields_of v).kinds (fields_of v).values (p + n) s r h y)
 
-pub parameters_other : (v : RData) (f : FieldRef) (r : List (Numbered (List ℕ))) → ShowsAt 2 (fields_of v).kinds (fields_of v).values f
+pub parameters_other : (m : List ℕ) (p n : ℕ) (v : RData) (f : FieldRef) (r : List (Numbered (List ℕ))) → ShowsField m p n v 2 f
     → ((s : Bor (List ℕ)) → f ≡ shown.Parameters s → ⊥) → r ≡ [] → AllHeld ParameterHeld r (parameters_in v)
-parameters_other v f r h ne none =
-    held_nothing ParameterHeld r (parameters_in v) none (parameters_third v ∙ third_other (fields_of v).kinds (fields_of v).values f h ne)
+parameters_other m p n v f r h ne none = held_nothing ParameterHeld r (parameters_in v) none
+    (parameters_third v ∙ third_other m p (fields_of v).kinds (fields_of v).values (p + n) f h ne)
 
 pub parameters_missing : (v : RData) (r : List (Numbered (List ℕ))) → length (fields_of v).kinds ≤ 2 → r ≡ [] → AllHeld ParameterHeld r (parameters_in v)
 parameters_missing v r h none = held_nothing ParameterHeld r (parameters_in v) none (parameters_third v ∙ third_missing (fields_of v).kinds (fields_of v).values h)

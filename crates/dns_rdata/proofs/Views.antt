@@ -53,32 +53,34 @@ meets_row formatless vs h = tt
 
 -- ---- where a row ends
 
-last_reached : (k : Kind) (r : Rule) (n : ℕ) (old new : Reading) → Ends k r (old.index + n) new.index → Reached (k ∷ []) n old new
-last_reached (Number w) r n old new h = tt
-last_reached (Octets w) r n old new h = tt
-last_reached Name r n old new h = tt
-last_reached CharacterString r n old new h = tt
-last_reached CharacterStrings r n old new h = h
-last_reached Rest r n old new h = h
-last_reached Options r n old new h = h
-last_reached Parameters r n old new h = h
-last_reached Bitmap r n old new h = h
+last_reached : (k : Kind) (r : Rule) (n : ℕ) (v : Value k) (old new : Reading) → Ends k r (old.index + n) v new.index → Reached (k ∷ []) n (v, tt) old new
+last_reached (Number w) r n v old new h = tt
+last_reached (Octets w) r n v old new h = tt
+last_reached Name r n v old new h = tt
+last_reached CharacterString r n v old new h = tt
+last_reached CharacterStrings r n v old new h = h
+last_reached Rest r n v old new h = h
+last_reached Options r n v old new h = h
+last_reached Parameters r n v old new h = h
+last_reached Bitmap r n v old new h = h
 
-then_reached : (k l : Kind) (kinds : List Kind) (n : ℕ) (old new : Reading) → Reached (l ∷ kinds) n old new → Reached (k ∷ (l ∷ kinds)) n old new
-then_reached (Number w) l kinds n old new h = h
-then_reached (Octets w) l kinds n old new h = h
-then_reached Name l kinds n old new h = h
-then_reached CharacterString l kinds n old new h = h
-then_reached CharacterStrings l kinds n old new h = h
-then_reached Rest l kinds n old new h = h
-then_reached Options l kinds n old new h = h
-then_reached Parameters l kinds n old new h = h
-then_reached Bitmap l kinds n old new h = h
+then_reached : (k l : Kind) (kinds : List Kind) (n : ℕ) (vs : Values (k ∷ (l ∷ kinds))) (old new : Reading) → Reached (l ∷ kinds) n vs.1 old new
+    → Reached (k ∷ (l ∷ kinds)) n vs old new
+then_reached (Number w) l kinds n vs old new h = h
+then_reached (Octets w) l kinds n vs old new h = h
+then_reached Name l kinds n vs old new h = h
+then_reached CharacterString l kinds n vs old new h = h
+then_reached CharacterStrings l kinds n vs old new h = h
+then_reached Rest l kinds n vs old new h = h
+then_reached Options l kinds n vs old new h = h
+then_reached Parameters l kinds n vs old new h = h
+then_reached Bitmap l kinds n vs old new h = h
 
-row_reached : (parts : List Part) (n : ℕ) (old new : Reading) → RowReached parts (old.index + n) new.index → Reached (kinds_of parts) n old new
-row_reached [] n old new h = tt
-row_reached (p ∷ []) n old new h = last_reached p.kind p.rule n old new h
-row_reached (p ∷ (l ∷ parts)) n old new h = then_reached p.kind l.kind (kinds_of parts) n old new (row_reached (l ∷ parts) n old new h)
+row_reached : (parts : List Part) (n : ℕ) (vs : Values (kinds_of parts)) (old new : Reading) → RowReached parts (old.index + n) vs new.index
+    → Reached (kinds_of parts) n vs old new
+row_reached [] n vs old new h = tt
+row_reached (p ∷ []) n vs old new h = last_reached p.kind p.rule n vs.0 old new h
+row_reached (p ∷ (l ∷ parts)) n vs old new h = then_reached p.kind l.kind (kinds_of parts) n vs old new (row_reached (l ∷ parts) n vs.1 old new h)
 
 -- ---- no error of a row is out of memory, or that of a type that is never read
 
@@ -247,7 +249,7 @@ row_own t n old new (Ok x) read inside s = record {
   values = s.fields.values;
   took = record { message = s.behind.message; stands = s.fields.stands };
   holds = meets_rule (table t) s.fields.values read s.fields.meets;
-  reached = row_reached (parts_of (table t)) n old new s.reached;
+  reached = row_reached (parts_of (table t)) n s.fields.values old new s.reached;
 }
 row_own t n old new (Err e) read inside s = unless_all e (rejected t read n old e new inside s.error)
 

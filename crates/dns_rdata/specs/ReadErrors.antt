@@ -6,7 +6,7 @@ use Rattle.dns_types.specs.declared.record_type.RecordType.TheVariants as types
 use Rattle.dns_fields.specs.{Fields.Values, declared.Kind.Kind, declared.Kind.TheVariants.CharacterStrings}
 use Rattle.dns_fields.specs.declared.Kind.TheVariants.{Rest, Options, Parameters, Bitmap}
 use Rattle.dns_rows.specs.Table.{TypeRow, fields, formatless, unread, table, kinds_of}
-use Rattle.dns_names_wire.specs.{State.Reading, Terms.Took, Terms.UnlessMemory}
+use Rattle.dns_names_wire.specs.{State.Reading, Terms.Took, Terms.StringsReach, Terms.UnlessMemory}
 use Rattle.dns_rdata_base.specs as base
 use Rattle.dns_rdata_certs.specs as certs
 use Rattle.dns_rdata_options.specs as options
@@ -50,16 +50,16 @@ abbrev pub OwnError : RecordType → ℕ → Reading → Reading → DecodeError
 OwnError t n old new e = rejects_of t n old e new
 
 -- Where the record's own reader ends that reads a value of n octets of RDATA: after its fields, if they say themselves
--- where they end; strings reach the end of the RDATA or pass it, parameters leave at most three octets, and any other
--- last field ends with the RDATA.
-abbrev pub Reached : List Kind → ℕ → Reading → Reading → Type 0
-Reached (CharacterStrings ∷ []) n old new = old.index + n ≤ new.index
-Reached (Parameters ∷ []) n old new = (new.index ≤ old.index + n) × (old.index + n < new.index + 4)
-Reached (Rest ∷ []) n old new = new.index ≡ old.index + n
-Reached (Options ∷ []) n old new = new.index ≡ old.index + n
-Reached (Bitmap ∷ []) n old new = new.index ≡ old.index + n
-Reached (k ∷ (l ∷ kinds)) n old new = Reached (l ∷ kinds) n old new
-Reached kinds n old new = Unit {0}
+-- where they end; strings reach the end of the RDATA or pass it, and the last one begins before it; parameters leave at
+-- most three octets; and any other last field ends with the RDATA.
+abbrev pub Reached : (kinds : List Kind) → ℕ → Values kinds → Reading → Reading → Type 0
+Reached (CharacterStrings ∷ []) n vs old new = StringsReach (old.index + n) vs.0 new.index
+Reached (Parameters ∷ []) n vs old new = (new.index ≤ old.index + n) × (old.index + n < new.index + 4)
+Reached (Rest ∷ []) n vs old new = new.index ≡ old.index + n
+Reached (Options ∷ []) n vs old new = new.index ≡ old.index + n
+Reached (Bitmap ∷ []) n vs old new = new.index ≡ old.index + n
+Reached (k ∷ (l ∷ kinds)) n vs old new = Reached (l ∷ kinds) n vs.1 old new
+Reached kinds n vs old new = Unit {0}
 
 -- The record is read from the old index of the decoder to the new one, whatever n, the number of octets of RDATA, is:
 -- its fields are encoded there, each as its rule asks.
@@ -67,7 +67,7 @@ pub record IsTaken (r : TypeRow) (n : ℕ) (old new : Reading) : Type 0 where
   pub values : Values (kinds_of (parts_of r))
   pub took : Took old (kinds_of (parts_of r)) values new
   pub holds : MeetsRule r values
-  pub reached : Reached (kinds_of (parts_of r)) n old new
+  pub reached : Reached (kinds_of (parts_of r)) n values old new
 
 abbrev pub OwnTaken : RecordType → ℕ → Reading → Reading → Type 0
 OwnTaken t n old new = IsTaken (table t) n old new

@@ -6,10 +6,14 @@ use Rattle.dns_view.specs.{Shown.ShowsAt, NameFields.names_in, NameFields.ShowsN
 use Rattle.dns_rdata.specs.{declared.record_data.RData.RData, Data.Fills, Data.fields_of, Views.IsViewOf}
 use Rattle.dns_rdata.specs.declared.view_fields.{Fields.Fields, Names.Names}
 
--- as many as the value has fields, and each shows the field of its index
-pub record AreFields (v : RData) (xs : List FieldRef) : Type 0 where
+-- in the n octets of RDATA at p, the field of this index of the value
+abbrev pub ShowsField : List ℕ → ℕ → ℕ → RData → ℕ → FieldRef → Type 0
+ShowsField m p n v i f = ShowsAt m p i (fields_of v).kinds (fields_of v).values (p + n) f
+
+-- as many as the value has fields, and each shows the field of its index in the n octets of RDATA at p
+pub record AreFields (m : List ℕ) (p n : ℕ) (v : RData) (xs : List FieldRef) : Type 0 where
   pub count : length xs ≡ length (fields_of v).kinds
-  pub each : (i : ℕ) (f : FieldRef) → slice_get xs i ≡ Some f → ShowsAt i (fields_of v).kinds (fields_of v).values f
+  pub each : (i : ℕ) (f : FieldRef) → slice_get xs i ≡ Some f → ShowsField m p n v i f
 
 -- as many as the value has names, and each shows the name of its index in the RDATA at p
 pub record AreNames (m : List ℕ) (p : ℕ) (v : RData) (xs : List NameRef) : Type 0 where
@@ -21,7 +25,7 @@ pub record NextField (s : Fields) (r : Option FieldRef) (t : Fields) : Type 0 wh
   pub rdata : t.rdata ≡ s.rdata
   pub on : MatchOption r (t.index ≡ s.index) (λ f. t.index ≡ s.index + 1)
   pub shows : (m : List ℕ) (p n : ℕ) (ty : RecordType) (v : RData) → IsViewOf m p n ty s.rdata → Fills m p n ty v
-      → MatchOption r (length (fields_of v).kinds ≤ s.index) (λ f. ShowsAt s.index (fields_of v).kinds (fields_of v).values f)
+      → MatchOption r (length (fields_of v).kinds ≤ s.index) (λ f. ShowsField m p n v s.index f)
 
 -- the same of the names
 pub record NextName (s : Names) (r : Option NameRef) (t : Names) : Type 0 where

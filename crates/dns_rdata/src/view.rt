@@ -83,8 +83,8 @@ impl<'a> RDataRef<'a> {
     ghost use Rattle.dns_rdata.specs.{WholeOctets.whole_data, Data.data_octets, Equal.equal, declared.record_data.RData.RData};
     ghost use Rattle.dns_rdata.specs.Views.{ComparesAs};
     ghost use Rattle.std.specs.Prelude.{◌≤◌, MatchOption};
-    ghost use Rattle.dns_view.specs.{Shown.ShowsAt, NameFields.names_in, NameFields.ShowsNameAt};
-    ghost use Rattle.dns_rdata.specs.{Data.fields_of, Laws.address_of, ViewLists.strings_in, ViewLists.options_in, ViewLists.parameters_in, ViewLists.types_in, ViewLists.TypesInOrder};
+    ghost use Rattle.dns_view.specs.NameFields.{names_in, ShowsNameAt};
+    ghost use Rattle.dns_rdata.specs.{Data.fields_of, Laws.address_of, ViewFields.ShowsField, ViewLists.strings_in, ViewLists.options_in, ViewLists.parameters_in, ViewLists.types_in, ViewLists.TypesInOrder};
     ghost use Rattle.dns_fields.specs.Tlvs.{AllHeld, OptionHeld, ParameterHeld};
     ghost use Rattle.dns_view.specs.TypeList.{ListsTypes};
 
@@ -349,7 +349,7 @@ impl<'a> RDataRef<'a> {
     /// The field of this index, or `None` if the type has fewer fields. Allocates nothing.
     pub fn field(&self, index: usize) -> Option<FieldRef<'a>>
         ensures { (m : List ℕ) (p n : ℕ) (t : RecordType) (v : RData) → IsViewOf m p n t self.now → Fills m p n t v →
-            MatchOption result (length (fields_of v).kinds ≤ index) (λ f. ShowsAt index (fields_of v).kinds (fields_of v).values f) }
+            MatchOption result (length (fields_of v).kinds ≤ index) (λ f. ShowsField m p n v index f) }
     {
         self.view.field(index)
     }

@@ -78,7 +78,7 @@ impl<'a> RDataRef<'a> {
     #[inline]
     pub fn fields(&self) -> Fields<'a>
         ensures { (m : List ℕ) (p n : ℕ) (t : RecordType) (v : RData) → IsViewOf m p n t self.now → Fills m p n t v →
-            (xs : List FieldValue) → Drains NextField result xs → AreFields v xs }
+            (xs : List FieldValue) → Drains NextField result xs → AreFields m p n v xs }
     {
         Fields {
             rdata: *self,

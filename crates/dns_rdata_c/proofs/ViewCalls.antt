@@ -1,7 +1,8 @@
 -- What the calls give of RDATA that is looked at in the message.
-use Rattle.std.proofs.Common.{◌≡◌, ℕ, ◌<◌, ◌≤◌, inl, inr, ℤ, pos, to_z, of_z, w32, List, ◌++◌, length, drop, Some, None, refl, sym, ap, ◌∙◌, arith, subst, ◌≢◌, ◌+◌, ◌-◌, Ok, Err, IfErr}
+use Rattle.std.proofs.Common.{◌≡◌, ℕ, ◌<◌, ◌≤◌, inl, inr, ℤ, pos, to_z, of_z, w32, List, ◌++◌, length, take, drop, Some, None, refl, sym, ap, ◌∙◌, arith, subst, ◌≢◌, ◌+◌, ◌-◌, Ok, Err, IfErr}
 use Rattle.std.specs.declared.cmp.Ordering.TheVariants as orderings
 use Rattle.std.proofs.lemmas.{Cmp.nat_list_cmp_total, Cmp.tied_itself, Map.Lookups.exact_bytes}
+use Rattle.std.proofs.lemmas.{List.take_all, List.take-append-le, List.append-nil, List.drop_all, Bool.cases_lt}
 use Rattle.std.{specs.declared.cmp.Ordering.Ordering, specs.Prelude.OnOk, specs.Prelude.MatchResult, proofs.lemmas.Bool.Decides.eqb_tells}
 use Rattle.dns_types.specs.declared.record_type.RecordType.{RecordType}
 use Rattle.dns_types.specs.declared.error.DecodeError.TheVariants as decode
@@ -9,7 +10,7 @@ use Rattle.dns_fields.{specs.Labels.DomainName, specs.Names.IsNameIn, specs.decl
 use Rattle.dns_view.{specs.Putting.Put, specs.NameFields.ShowsNameAt, specs.declared.name_ref.NameRef.NameRef, proofs.Puts.put_fits}
 use Rattle.dns_rdata.specs.{declared.record_data.RData.RData, declared.view.RDataRef.RDataRef, Data.Fills, Data.fields_of, Data.data_octets, Views.IsViewOf, Views.ComparesAs}
 use Rattle.dns_rdata.proofs.{OrderReads.orders_read}
-use Rattle.dns_rdata_c.specs.{Reading.HasData, Buffers.IsPut, Buffers.IsTooMany, Names.HasName, Calls.HasOrder, Calls.HasEquality, Calls.order_number, Calls.octets_order, Reading.Own, Calls.IsNoOrigin}
+use Rattle.dns_rdata_c.specs.{Reading.HasData, Buffers.IsPut, Buffers.HoldsFirst, Buffers.IsTooMany, Names.HasName, Calls.HasOrder, Calls.HasEquality, Calls.order_number, Calls.octets_order, Reading.Own, Calls.IsNoOrigin}
 use Rattle.dns_names_wire.specs.{State.Reading, Terms.StaysBehind}
 use Rattle.dns_rdata_base.specs.Counted.{by_length}
 
@@ -24,6 +25,20 @@ pub is_put : {old new octets : List ℕ} {len count : ℕ} → Put old new 0 len
 is_put {old} {new} {octets} {len} p room told =
     let e : len ≡ length octets = omega (arith, p.ends) in
     record { fits = omega (arith, e, room); told = told ∙ e; placed = put_fits p room ∙ ap (λ (k : ℕ). octets ++ drop k old) e }
+
+-- as many as fit
+pub holds_first : {old new octets : List ℕ} {len : ℕ} → Put old new 0 len octets → HoldsFirst octets old new
+holds_first {old} {new} {octets} {len} p =
+    let e : len ≡ length octets = omega (arith, p.ends) in
+    let front = take (length old) octets in
+    record {
+      placed = elim (cases_lt (length old) len) [
+        | inl short ↦ p.written ∙ take-append-le (length old) octets (drop len old) (omega (arith, e, short)) ∙ sym (append-nil front)
+            ∙ ap (λ (s : List ℕ). front ++ s) (sym (drop_all (length octets) old (omega (arith, e, short))))
+        | inr room ↦ put_fits p room ∙ ap (λ (k : ℕ). octets ++ drop k old) e
+            ∙ ap (λ (s : List ℕ). s ++ drop (length octets) old) (sym (take_all (length old) octets (omega (arith, e, room))))
+      ];
+    }
 
 pub too_many : {old octets : List ℕ} {len count : ℕ} → len ≡ length octets → length old < len → count ≡ len → IsTooMany octets old old count
 too_many e full told = record { full = omega (arith, e, full); told = told ∙ e; same = refl }

@@ -1,5 +1,5 @@
 -- What the calls that go over the records of a message tell.
-use Rattle.std.specs.Prelude.{◌≡◌, ℕ, ◌+◌, ◌<◌, ◌≤◌, ◌⊎◌, List, Bool, false, Result, Ok}
+use Rattle.std.specs.Prelude.{◌≡◌, ℕ, ◌+◌, ◌<◌, ◌≤◌, ◌⊎◌, List, length, Bool, false, Result, Ok}
 use Rattle.dns_types.specs.{declared.error.DecodeError.DecodeError, RecordTypes.record_type_of}
 use Rattle.dns_rdata.specs.Data.{HasValue}
 use Rattle.dns_message.specs.declared.{header.Header.Header, error.Section.Section, error.RecordError.RecordError, progress.Progress.Progress, step.PassedRecord.PassedRecord}
@@ -77,14 +77,22 @@ pub record HasRejected (m : List ℕ) (r : Record) (status has_data : ℕ) : Typ
   pub told : status ≡ decode_status error
   pub why : IsRefusedAt m r.rdata r.rdlength (record_type_of r.type) error
 
+-- a walk over the records of the message can be where the cursor says, and some are left
+pub record IsWithin (m : List ℕ) (c : RecordsCursor) : Type 0 where
+  pub header : Header
+  pub is : IsHeader m header
+  pub inside : c.next ≤ length m
+  pub few : c.until ≤ record_count header
+  pub left : c.passed < c.until
+
 -- the next record is there, P holds of it, its numbers are told, and the cursor is before the one after it
 pub record Passes (m : List ℕ) (old new : RecordsCursor) (x : Told) (P : Record → Type 0) : Type 0 where
   pub header : Header
   pub is : IsHeader m header
+  pub within : IsWithin m old
   pub section : Section
   pub index : ℕ
   pub place : IsPlace header old.passed section index
-  pub left : old.passed < old.until
   pub entry : Record
   pub there : IsRecord m old.next entry new.next
   pub tells : Tells section index entry x
@@ -99,14 +107,14 @@ ended c = record { next = c.next; passed = c.passed; until = c.passed; left = c.
 
 -- no record is where the next one would be, and the walk ends
 pub record EndsAtDamage (m : List ℕ) (old new : RecordsCursor) : Type 0 where
-  pub left : old.passed < old.until
+  pub within : IsWithin m old
   pub none : NoRecord m old.next
   pub ended : new ≡ ended old
 
 -- the next record takes as many steps as are left or more, those of its owner alone or those of its
 -- RDATA with them, and the walk ends
 pub record EndsAtLimit (m : List ℕ) (old new : RecordsCursor) : Type 0 where
-  pub left : old.passed < old.until
+  pub within : IsWithin m old
   pub many : Exceeds (NameSteps m old.next) old.left ⊎ Exceeds (RecordSteps m old.next) old.left
   pub ended : new ≡ ended old
 

@@ -20,13 +20,13 @@ cause_in (parse.Proto (proto.Decode cause)) = decode_status cause
 cause_in e = 0
 
 -- so many octets from this offset on of what the error says are the name of the field that it is about; or it is about
--- none
+-- none, and both numbers are 0
 abbrev pub IsFieldAt : ParseError → ℕ × ℕ → Type 0
-IsFieldAt e span = IsAbout e (take span.1 (drop span.0 (reason_text e))) ⊎ ((span.1 ≡ 0) × ((name : List ℕ) → IsAbout e name → ⊥))
+IsFieldAt e span = IsAbout e (take span.1 (drop span.0 (reason_text e))) ⊎ ((span.0 ≡ 0) × (span.1 ≡ 0) × ((name : List ℕ) → IsAbout e name → ⊥))
 
--- the token that the error is about starts and ends at these offsets; or it is about no single token
+-- the token that the error is about starts and ends at these offsets; or it is about no single token, and both are 0
 abbrev pub IsSpan : RecordType → List ℕ → ParseError → ℕ × ℕ → Type 0
-IsSpan t text e span = IsTokenAtFault t text e span ⊎ ((span.1 ≡ 0) × ((other : ℕ × ℕ) → IsTokenAtFault t text e other → ⊥))
+IsSpan t text e span = IsTokenAtFault t text e span ⊎ ((span.0 ≡ 0) × (span.1 ≡ 0) × ((other : ℕ × ℕ) → IsTokenAtFault t text e other → ⊥))
 
 -- the numbers of the error
 pub record IsTextFault (t : RecordType) (text : List ℕ) (e : ParseError) (f : TextFault) : Type 0 where

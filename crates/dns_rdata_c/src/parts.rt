@@ -169,6 +169,10 @@ pub extern "C" fn dns_rdata_part(
     ensures short { result ≡ MISSING_OCTETS → size rdata.now.message.now < rdata.now.offset + rdata.now.length }
     ensures name { result ≡ NAME → Of rdata.now (λ m p n t. HasNoFront t (drop p (take (p + n) m))) }
     ensures damaged { result ≡ LENGTH → Of rdata.now (λ m p n t. AreNoParts t (drop p (take (p + n) m))) }
+    // Missing octets are told first, and then that no name follows the priority.
+    ensures within { result ≡ NAME → rdata.now.offset + rdata.now.length ≤ size rdata.now.message.now }
+    ensures whole { result ≡ LENGTH → rdata.now.offset + rdata.now.length ≤ size rdata.now.message.now }
+    ensures front { result ≡ LENGTH → Of rdata.now (λ m p n t. HasNoFront t (drop p (take (p + n) m)) → ⊥) }
     ensures status { (result ≡ OK) ⊎ (result ≡ ABSENT) ⊎ (result ≡ MISSING_OCTETS) ⊎ (result ≡ NAME) ⊎ (result ≡ LENGTH) }
     // For the proof: if the octets are the RDATA of a value, the parts are those of the value.
     ensures same { result ≡ OK → Of rdata.now (λ m p n t. (v : RData) → Fills m p n t v → IsPartIn m p n t v index number.new begin.new count.new) }
@@ -206,9 +210,14 @@ pub extern "C" fn dns_rdata_parts_begin(rdata: &Rdata<'_>, parts: &mut PartsCurs
     ensures ok { result ≡ OK → Of rdata.now (λ m p n t. IsBefore m p n t 0 parts.new) }
     ensures first { result ≡ OK → Of rdata.now HasFirstPart }
     ensures absent { result ≡ ABSENT → Of rdata.now (λ m p n t. LacksPart m p n t 0) }
+    ensures partless { partless_type (record_type_of rdata.now.type_number) ≡ true → result ≡ ABSENT }
     ensures short { result ≡ MISSING_OCTETS → size rdata.now.message.now < rdata.now.offset + rdata.now.length }
     ensures name { result ≡ NAME → Of rdata.now (λ m p n t. HasNoFront t (drop p (take (p + n) m))) }
     ensures damaged { result ≡ LENGTH → Of rdata.now (λ m p n t. AreNoParts t (drop p (take (p + n) m))) }
+    // Missing octets are told first, and then that no name follows the priority.
+    ensures within { result ≡ NAME → rdata.now.offset + rdata.now.length ≤ size rdata.now.message.now }
+    ensures whole { result ≡ LENGTH → rdata.now.offset + rdata.now.length ≤ size rdata.now.message.now }
+    ensures front { result ≡ LENGTH → Of rdata.now (λ m p n t. HasNoFront t (drop p (take (p + n) m)) → ⊥) }
     ensures status { (result ≡ OK) ⊎ (result ≡ ABSENT) ⊎ (result ≡ MISSING_OCTETS) ⊎ (result ≡ NAME) ⊎ (result ≡ LENGTH) }
     ensures none { result ≡ ABSENT → Of rdata.now (λ m p n t. (v : RData) → Fills m p n t v → parts_in t v ≤ 0) }
     ensures refused { REFUSED ≤ result → Of rdata.now NoValue }

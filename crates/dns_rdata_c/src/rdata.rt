@@ -2,7 +2,7 @@
 
 ghost use Rattle.std.specs.Prelude.{◌≡◌, ◌≢◌, ◌≤◌, ◌⊎◌, Err, IfOk, IfErr};
 ghost use Rattle.dns_rdata.specs.Data.{HasValue, NoValue};
-ghost use Rattle.dns_rdata_c.specs.{Reading.Of, Reading.Viewed, Reading.Rejected, Status.decode_status};
+ghost use Rattle.dns_rdata_c.specs.{Reading.Of, Reading.Viewed, Reading.Rejected, Reading.RejectedAfter, Status.decode_status};
 ghost use Rattle.dns_rdata_c.specs.Calls.{IsWhy, numbers_of, own_number, HasOrder, HasEquality, order_number, octets_order};
 
 use crate::status::{MISSING_OCTETS, OK, OTHER_TYPE, REFUSED, status_of};
@@ -134,8 +134,10 @@ pub extern "C" fn dns_rdata_compare(
     order: &mut i32,
 ) -> u32
     ensures ok { result ≡ OK → Of rdata.now (λ m p n t. Of other.now (λ l q k u. HasOrder t m p n l q k order.new)) }
-    ensures cause { REFUSED ≤ result → Rejected rdata.now result ⊎ Rejected other.now result }
+    // The types are told first, then what is wrong with the first RDATA, and then with the second.
     ensures types { result ≡ OTHER_TYPE → rdata.now.type_number ≢ other.now.type_number }
+    ensures first { rdata.now.type_number ≢ other.now.type_number → result ≡ OTHER_TYPE }
+    ensures cause { REFUSED ≤ result → Rejected rdata.now result ⊎ RejectedAfter rdata.now other.now result }
     ensures status { (result ≡ OK) ⊎ (result ≡ OTHER_TYPE) ⊎ (REFUSED ≤ result) }
     ensures untold { result ≢ OK → order.new ≡ order.old }
 {
@@ -169,8 +171,10 @@ pub extern "C" fn dns_rdata_equal(
     equal: &mut i32,
 ) -> u32
     ensures ok { result ≡ OK → Of rdata.now (λ m p n t. Of other.now (λ l q k u. HasEquality t m p n l q k equal.new)) }
-    ensures cause { REFUSED ≤ result → Rejected rdata.now result ⊎ Rejected other.now result }
+    // The types are told first, then what is wrong with the first RDATA, and then with the second.
     ensures types { result ≡ OTHER_TYPE → rdata.now.type_number ≢ other.now.type_number }
+    ensures first { rdata.now.type_number ≢ other.now.type_number → result ≡ OTHER_TYPE }
+    ensures cause { REFUSED ≤ result → Rejected rdata.now result ⊎ RejectedAfter rdata.now other.now result }
     ensures status { (result ≡ OK) ⊎ (result ≡ OTHER_TYPE) ⊎ (REFUSED ≤ result) }
     ensures untold { result ≢ OK → equal.new ≡ equal.old }
 {

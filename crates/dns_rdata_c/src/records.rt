@@ -5,7 +5,7 @@ ghost use Rattle.dns_message.specs.{Headers.HasHeader};
 ghost use Rattle.dns_rdata_c.specs.RecordWalks.{BeginsWalk, NeverBegins, Passes, HasContent, HasRejected, EndsAtDamage, EndsAtLimit, IsAtEnd};
 ghost use Rattle.dns_rdata_c.specs.RecordWalks.{cursor, told_of};
 
-use crate::status::{ABSENT, DAMAGED, HEADER, OK, LIMIT, QUESTION, RECORD, REFUSED, status_of};
+use crate::status::{ABSENT, DAMAGED, HEADER, LIMIT, OK, QUESTION, RECORD, REFUSED, status_of};
 use dns_message::{Fault, MessageRef, PassedRecord, Progress};
 
 /// Where a walk over the records of a message is. The caller holds it; any numbers in it are safe.

@@ -4,7 +4,7 @@ ghost use Rattle.std.specs.Prelude.{◌≡◌, ◌≢◌, ◌<◌, ◌≤◌, �
 ghost use Rattle.dns_types.specs.RecordTypes.{record_type_of};
 ghost use Rattle.dns_rdata.specs.{Data.data_octets, Laws.ReadsCanonical, WholeOctets.whole_data};
 ghost use Rattle.dns_rdata_zone.specs.ZoneTexts.{zone_text};
-ghost use Rattle.dns_rdata_c.specs.{Reading.Filled, Reading.Rejected, Buffers.IsPut, Buffers.IsTextPut, Buffers.IsTextTooLong, Calls.PutsWire, Calls.LacksRoomForWire};
+ghost use Rattle.dns_rdata_c.specs.{Reading.Filled, Reading.Rejected, Buffers.IsPut, Buffers.HoldsFirst, Buffers.IsTextPut, Buffers.IsTextTooLong, Calls.PutsWire, Calls.LacksRoomForWire};
 
 use crate::rdata::{Rdata, view_at};
 use crate::status::{BUFFER, MEMORY, OK, REFUSED, TOO_LONG};
@@ -90,8 +90,9 @@ pub extern "C" fn dns_rdata_canonical(
     ensures ok { result ≡ OK → Filled rdata.now
         (λ v. IsPut (data_octets v) out.old out.new count.new × ReadsCanonical (record_type_of rdata.now.type_number) v) }
     ensures buffer { result ≡ BUFFER → Filled rdata.now
-        (λ v. (size out.old < size (data_octets v)) × (count.new ≡ size (data_octets v))) }
-    ensures too_long { result ≡ TOO_LONG → Filled rdata.now (λ v. 65535 < size (data_octets v)) }
+        (λ v. (size out.old < size (data_octets v)) × (count.new ≡ size (data_octets v)) × HoldsFirst (data_octets v) out.old out.new) }
+    ensures too_long { result ≡ TOO_LONG → Filled rdata.now
+        (λ v. (65535 < size (data_octets v)) × HoldsFirst (data_octets v) out.old out.new) }
     ensures cause { REFUSED ≤ result → Rejected rdata.now result }
     ensures status { (result ≡ OK) ⊎ (result ≡ BUFFER) ⊎ (result ≡ TOO_LONG) ⊎ (REFUSED ≤ result) }
     ensures kept { result ≢ OK → result ≢ BUFFER → result ≢ TOO_LONG → out.new ≡ out.old }

@@ -12,7 +12,7 @@ use Rattle.dns_names_wire.specs.State.{Reading}
 use Rattle.dns_names_wire.proofs.FieldReads.{unless_map, unless_all, stays, took_stays, stands_inside, took_last, took_then, lacks_then, refused_then, refused_past}
 use Rattle.dns_names_wire.proofs.{RegionReads.Given, RegionReads.filled_region, Strings.at_then}
 use Rattle.dns_rdata_base.specs.FieldErrors.{FirstLack}
-use Rattle.dns_rdata_service.specs.Parameters.{Parameter, parameter_of, parameter_from, AreRead, FillTo, IsAbove, RefusedValue}
+use Rattle.dns_rdata_service.specs.Parameters.{Parameter, parameter_of, parameter_from, AreRead, FillTo, IsAbove, ParametersBefore, RefusedValue}
 use Rattle.dns_rdata_service.specs.{Parameters.IsParameterError, Parameters.IsParametersError, SvcParamValue.value_of, Hints.StandEach}
 use Rattle.dns_rows.specs.Rules.{HasText, HaveTexts}
 use Rattle.dns_rdata_service.specs.{SVCB.svcb_shape, SVCB.svcb_fields, SVCB.MeetsSvcbCondition, declared.svcb.SVCB.SVCB, SvcParamKey.key_number}
@@ -185,29 +185,42 @@ on_done le short on ne = no_fill (λ v f u.
 
 -- ---- why it is rejected
 
+abbrev before_of : {old d : Reading} {ps : List Parameter} {last : Option ℕ} {end : ℕ} → ParametersOn old ps last d → d.index + 4 ≤ end → ParametersBefore end old d
+before_of {ps = ps} on room = record { values = map parameter_of ps; took = on_taken on; texts = on.texts; room = room }
+
 pub parameter_error : {e : DecodeError} {old d b : Reading} {ps : List Parameter} {last : Option ℕ} (p n : ℕ) → ParametersOn old ps last d → d.index + 4 ≤ p + n
     → IsParameterError d e b → IsParametersError p n old e b
-parameter_error {d = d} {ps = ps} p n on room h =
-    inr (inl (record { before = map parameter_of ps; between = d; took = on_taken on; room = room; refused = h }))
+parameter_error {d = d} p n on room h = inr (inl (record { between = d; before = before_of on room; refused = h }))
 
 pub order_error : {old d b : Reading} {ps : List Parameter} {last : Option ℕ} {x : Numbered ParameterValue} (p n : ℕ) → ParametersOn old ps last d
-    → TookField d Parameters (x ∷ []) b → (IsAbove last x.0 → ⊥) → IsParametersError p n old decode.SvcParamsOutOfOrder b
-order_error {old} {d} {b} {ps} {last} {x} p n on f fails =
+    → d.index + 4 ≤ p + n → TookField d Parameters (x ∷ []) b → HasText x.0 x.1 → (IsAbove last x.0 → ⊥)
+    → IsParametersError p n old decode.SvcParamsOutOfOrder b
+order_error {d = d} {ps = ps} {last} {x} p n on room f text fails =
     inr (inr (inl (record {
-      before = map parameter_of ps;
       between = d;
-      took = on_taken on;
-      last = x;
-      then = f;
+      before = before_of on room;
+      key = x.0;
+      then = record { value = x.1; took = f; text = text };
       error = refl;
-      order =
-          fails_test (map parameter_of ps ++ x ∷ []) (risen_not last (map parameter_of ps) x [] on.risen fails);
+      order = fails_test (map parameter_of ps ++ x ∷ []) (risen_not last (map parameter_of ps) x [] on.risen fails);
     })))
 
-pub passed_error : {old d : Reading} {ps : List Parameter} {last : Option ℕ} (p n size : ℕ) → ParametersOn old ps last d → n < size → d.index ≡ p + size
-    → IsParametersError p n old (decode.IncorrectRDataLengthRead size n) d
-passed_error {ps = ps} p n size on passed index =
-    inr (inr (inr (record { taken = map parameter_of ps; size = size; took = on_taken on; error = refl; passed = passed; index = index })))
+pub passed_error : {old d b : Reading} {ps : List Parameter} {last : Option ℕ} {x : Numbered ParameterValue} {m : ℕ} (p n size : ℕ) → ParametersOn old ps last d
+    → d.index + 4 ≤ p + n → TookField d Parameters (x ∷ []) b → HasText x.0 x.1 → m ≡ x.0 → IsAbove last m → n < size → b.index ≡ p + size
+    → IsParametersError p n old (decode.IncorrectRDataLengthRead size n) b
+passed_error {d = d} {ps = ps} {last} {x} p n size on room f text number above passed index =
+    inr (inr (inr (record {
+      between = d;
+      before = before_of on room;
+      key = x.0;
+      then = record { value = x.1; took = f; text = text };
+      order = risen_rises (Some x.0) (map parameter_of ps ++ x ∷ [])
+          (risen_push last (map parameter_of ps) x on.risen (subst (IsAbove last) number above));
+      size = size;
+      error = refl;
+      passed = passed;
+      index = index;
+    })))
 
 -- ---- SVCB
 

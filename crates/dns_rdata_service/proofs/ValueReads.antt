@@ -196,6 +196,7 @@ names_truncated {old} {d} {b} {names} on some (inr l) =
       size = l.0;
       octets = drop b.index old.message;
       split = (names_front on) ∙ ap (λ (x : List ℕ). flat_map string names ++ x) left;
+      texts = (names_split IsUtf8 (λ p s q f. f.1) on).1;
       truncated = omega (arith, length-drop b.index old.message, l.2, ap length l.1.message, ap length on.behind.message, l.1.field.is.1.within);
     }
 
@@ -208,6 +209,7 @@ names_wrong {old} {d} {b} {names} {s} on f wrong =
       rest = drop b.index old.message;
       split = (names_front on)
           ∙ ap (λ (x : List ℕ). flat_map string names ++ x) (text_left on f);
+      texts = (names_split IsUtf8 (λ p s q f. f.1) on).1;
       wrong = wrong;
     }
 

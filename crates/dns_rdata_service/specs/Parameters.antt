@@ -11,7 +11,7 @@ use Rattle.dns_rdata_base.specs.FieldErrors.{FirstLack}
 use Rattle.dns_rdata_service.specs.{declared.svcb.key.SvcParamKey.SvcParamKey, declared.svcb.value.SvcParamValue.SvcParamValue}
 use Rattle.dns_rdata_service.specs.SvcParamKey.{key_number, key_variant, key_of}
 use Rattle.dns_rdata_service.specs.SvcParamValue.{value_of, value_from, value_key, IsKeyError, fits_value}
-pub use Rattle.dns_view.specs.Parameters.{IsAbove, TruncatedValue, WrongOrder, PassedParameters}
+pub use Rattle.dns_view.specs.Parameters.{IsAbove, ParametersBefore, TruncatedValue, WrongOrder, PassedParameters}
 
 -- a key and its value
 abbrev pub Parameter : Type 0
@@ -65,13 +65,12 @@ IsParameterError old e new =
 
 -- after parameters that are read, one is rejected
 pub record RefusedParameter (end : ℕ) (old : Reading) (e : DecodeError) (new : Reading) : Type 0 where
-  pub before : List (Numbered ParameterValue)
   pub between : Reading
-  pub took : TookField old Parameters before between
-  pub room : between.index + 4 ≤ end
+  pub before : ParametersBefore end old between
   pub refused : IsParameterError between e new
 
 -- parameters to the end of n octets of RDATA from p
 abbrev pub IsParametersError : ℕ → ℕ → Reading → DecodeError → Reading → Type 0
 IsParametersError p n old e new =
-    (e ≡ decode.Memory) ⊎ (RefusedParameter (p + n) old e new ⊎ (WrongOrder old e new ⊎ PassedParameters p n old e new))
+    (e ≡ decode.Memory) ⊎ (RefusedParameter (p + n) old e new
+    ⊎ (WrongOrder (p + n) old e new ⊎ PassedParameters p n old e new))

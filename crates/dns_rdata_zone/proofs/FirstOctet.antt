@@ -3,8 +3,8 @@ use Rattle.std.proofs.Common.{◌≡◌, ◌≢◌, ℕ, zero, suc, ◌<◌, Boo
 use Rattle.std.proofs.{lemmas.List.append-nil, lemmas.Bool.Decides.nat_tests, Common.arith, Common.append_assoc, Common.◌⊎◌, Common.inl, Common.inr}
 use Rattle.std.specs.Prelude.{◌==◌}
 use Rattle.dns_zone_tokens.specs.{declared.tokens_error.TokensError.TokensError, declared.tokens_error.TokensError.TheVariants.LineInQuotes}
-use Rattle.dns_zone_tokens.specs.Tokens.{Token, Spot, run, run_backslash, quotes, quotes_backslash, refused, is_line_end, ends_run, gap_on, tokens_read_from, with_token}
-use Rattle.dns_zone_tokens.proofs.{RemainingSteps.token_ok, TokenSteps.stays_refused}
+use Rattle.dns_zone_tokens.specs.Tokens.{Token, Spot, run, run_backslash, quotes, quotes_backslash, refused, is_line_end, ends_run, gap_on, tokens_read_from, seen_from, with_token}
+use Rattle.dns_zone_tokens.proofs.{RemainingSteps.token_ok, TokenSteps.stays_refused, TokenSteps.refused_seen}
 use Rattle.dns_rdata_zone.specs.{ZoneGives.AreUnmarked, ZoneFaults.HasNoMark}
 
 either_way : (b : Bool) → (b ≡ true) ⊎ (b ≡ false)
@@ -79,7 +79,56 @@ begins true false n joined front (c ∷ text) tokens e = elim (either_way (c == 
   ]
 ]
 
+-- the same of the tokens before the octet at which the text is rejected, if there are any
+abbrev SeenSoFar : Bool → List ℕ → List Token → Type 0
+SeenSoFar quoted front tokens = (tokens ≡ []) ⊎ BeginsSoFar quoted front tokens
+
+token_seen : (token : Token) (others : List Token) → SeenSoFar token.quoted token.octets (token ∷ others)
+token_seen token others =
+    inr (record { first = token; others = others; more = []; are = refl; same = sym (append-nil token.octets); quotes = refl })
+
+seen_longer : (quoted : Bool) (front : List ℕ) (c : ℕ) (tokens : List Token) → SeenSoFar quoted (front ++ c ∷ []) tokens → SeenSoFar quoted front tokens
+seen_longer quoted front c tokens (inl none) = inl none
+seen_longer quoted front c tokens (inr so) = inr (longer quoted front c tokens so)
+
+line_seen : (quoted : Bool) (front text : List ℕ) → SeenSoFar quoted front (seen_from (refused LineInQuotes) text)
+line_seen quoted front text = inl (refused_seen LineInQuotes text)
+
+seen : (quoted slash : Bool) (n : ℕ) (joined : Bool) (front text : List ℕ)
+    → SeenSoFar quoted front (seen_from (in_token quoted slash n joined front) text)
+seen false true n joined front [] = token_seen (record { octets = front; quoted = false; joined = joined }) []
+seen false false n joined front [] = token_seen (record { octets = front; quoted = false; joined = joined }) []
+seen true true n joined front [] = inl refl
+seen true false n joined front [] = inl refl
+seen false true n joined front (c ∷ text) = elim (either_way (is_line_end c)) [
+  | inl h ↦ rw h (token_seen (record { octets = front; quoted = false; joined = joined }) _)
+  | inr h ↦ rw h (seen_longer false front c _ (seen false false n joined (front ++ c ∷ []) text))
+]
+seen false false n joined front (c ∷ text) = elim (either_way (ends_run c)) [
+  | inl h ↦ rw h (token_seen (record { octets = front; quoted = false; joined = joined }) _)
+  | inr h ↦ elim (either_way (c == 92)) [
+    | inl k ↦ rw (h, k) (seen_longer false front c _ (seen false true n joined (front ++ c ∷ []) text))
+    | inr k ↦ rw (h, k) (seen_longer false front c _ (seen false false n joined (front ++ c ∷ []) text))
+  ]
+]
+seen true true n joined front (c ∷ text) = seen_longer true front c _ (seen true false n joined (front ++ c ∷ []) text)
+seen true false n joined front (c ∷ text) = elim (either_way (c == 34)) [
+  | inl h ↦ rw h (token_seen (record { octets = front; quoted = true; joined = joined }) _)
+  | inr h ↦ elim (either_way (c == 10)) [
+    | inl k ↦ rw (h, k) (line_seen true front text)
+    | inr k ↦ elim (either_way (c == 92)) [
+      | inl m ↦ rw (h, k, m) (seen_longer true front c _ (seen true true n joined (front ++ c ∷ []) text))
+      | inr m ↦ rw (h, k, m) (seen_longer true front c _ (seen true false n joined (front ++ c ∷ []) text))
+    ]
+  ]
+]
+
 -- ---- the first token is not `\#`
+
+seen_unmarked : {quoted : Bool} {front : List ℕ} (tokens : List Token) → (BeginsSoFar quoted front tokens → AreUnmarked tokens) → SeenSoFar quoted front tokens
+    → AreUnmarked tokens
+seen_unmarked tokens unmarked (inl none) = subst AreUnmarked (sym none) tt
+seen_unmarked tokens unmarked (inr so) = unmarked so
 
 quoted_unmarked : (tokens : List Token) → BeginsSoFar true [] tokens → AreUnmarked tokens
 quoted_unmarked tokens so = subst AreUnmarked (sym so.are) (λ mark. let both : true ≡ false = sym so.quotes ∙ mark.bare in absurd (cc))
@@ -94,6 +143,7 @@ pub quote_first : (text : List ℕ) → 0 < length text → get_or text 0 0 ≡ 
 quote_first [] some e = absurd (omega arith)
 quote_first (c ∷ text) some e = record {
   unmarked = λ tokens divided. quoted_unmarked tokens (begins true false zero false [] text tokens (rw e at divided));
+  seen = rw e (seen_unmarked (seen_from (quotes zero false []) text) (quoted_unmarked (seen_from (quotes zero false []) text)) (seen true false zero false [] text));
 }
 
 other_octet : (c d : ℕ) → c ≢ d → (c == d) ≡ false
@@ -118,4 +168,7 @@ unmarked_first (c ∷ text) some above other slash = record {
   unmarked = λ tokens divided. other_unmarked c tokens slash
       (begins false false zero false (c ∷ []) text tokens (subst (λ (spot : Spot). tokens_read_from spot text ≡ Ok tokens) (unmarked_spot c above other slash)
       divided));
+  seen = subst (λ (spot : Spot). AreUnmarked (seen_from spot text)) (sym (unmarked_spot c above other slash))
+      (seen_unmarked (seen_from (run zero false (c ∷ [])) text) (other_unmarked c (seen_from (run zero false (c ∷ [])) text) slash)
+      (seen false false zero false (c ∷ []) text));
 }

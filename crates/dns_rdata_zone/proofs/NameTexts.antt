@@ -1,5 +1,5 @@
 -- Names of zone files.
-use Rattle.std.proofs.Common.{◌≡◌, ◌⊎◌, ℕ, ◌+◌, List, [], ◌∷◌, ◌++◌, length, Option, Result, Ok, Err, refl, sym, ◌∙◌, ap, subst, codes}
+use Rattle.std.proofs.Common.{◌≡◌, ◌⊎◌, ℕ, false, ◌+◌, List, [], ◌∷◌, ◌++◌, length, Option, Result, Ok, Err, refl, sym, ◌∙◌, ap, subst, codes}
 use Rattle.std.proofs.lemmas.List.{append-nil}
 use Rattle.std.specs.{Result.IsErrAnd, Prelude.IfOk, Prelude.IfErr}
 use Rattle.dns_fields.specs.{Names.IsNameIn, Names.whole, Labels.DomainName, Labels.IsName, Labels.full_name, Labels.wire}
@@ -10,7 +10,7 @@ use Rattle.dns_types.specs.declared.error.ParseError.TheVariants as parse
 use Rattle.dns_tokens.specs.Reads.{UnlessParseMemory}
 use Rattle.dns_tokens.proofs.Steps.{unless_map}
 use Rattle.dns_zone_rows.specs.{Rows.RowGives, RowTexts.row_texts, RowTexts.no_more, declared.zone_row.ZoneRow.ZoneRow, RowFaults.row_value, RowFaults.RowFault}
-use Rattle.dns_zone_tokens.specs.{FieldTexts.name_called, NameTokens.IsNameToken, NameTokens.name_octets, Tokens.Token, Tokens.Cursor, Tokens.tokens_at, Tokens.zone_tokens}
+use Rattle.dns_zone_tokens.specs.{FieldTexts.name_called, NameTokens.IsNameToken, NameTokens.name_octets, Tokens.Token, Tokens.Cursor, Tokens.tokens_at, Tokens.seen_at, Tokens.seen_from, Tokens.between, Tokens.zone_tokens}
 use Rattle.dns_zone_tokens.specs.Remaining.{TookAll, NoneOfAll}
 use Rattle.dns_zone_tokens.proofs.FirstSteps.{exit_with, or_then}
 use Rattle.dns_rdata_zone.specs.NameTexts.{IsZoneName, IsNoZoneName, ZoneNameFault, name_row}
@@ -83,9 +83,9 @@ name_refused r e origin text cursor h starts none = exit_with (λ r. IfErr r (λ
 
 pub name_fault : {T : Type 0} (r : Result T ParseError) (e : ParseError) (origin : Option DomainName) (text : List ℕ) (zone_row : ZoneRow) (cursor : Cursor)
     → IsErrAnd r (λ y. y ≡ e)
-    → tokens_at cursor ≡ zone_tokens text → (e ≡ parse.Memory) ⊎ RowFault origin zone_row cursor e → row_value zone_row ≡ name_row
+    → tokens_at cursor ≡ zone_tokens text → seen_at cursor ≡ seen_from (between 0 false) text → (e ≡ parse.Memory) ⊎ RowFault origin zone_row cursor e → row_value zone_row ≡ name_row
     → row_texts zone_row ≡ name_called (codes "name") ∷ no_more ∷ []
     → IfErr r (λ e. (e ≡ parse.Memory) ⊎ ZoneNameFault origin text e)
-name_fault r e origin text zone_row cursor h starts why shape texts =
+name_fault r e origin text zone_row cursor h starts seen why shape texts =
     exit_with (λ r. IfErr r (λ e. (e ≡ parse.Memory) ⊎ ZoneNameFault origin text e)) e r h
-    (or_then (λ fault. record { zone_row = zone_row; shape = shape; texts = texts; cursor = cursor; starts = starts; has = fault }) why)
+    (or_then (λ fault. record { zone_row = zone_row; shape = shape; texts = texts; cursor = cursor; starts = starts; seen = seen; has = fault }) why)

@@ -10,7 +10,7 @@ use Rattle.dns_types.specs.declared.error.DecodeError.TheVariants as decode
 use Rattle.dns_types.specs.declared.error.ParseError.TheVariants as parse
 use Rattle.dns_tokens.specs.Reads.{UnlessParseMemory}
 use Rattle.dns_zone_rows.specs.{RowFaults.row_value, RowFaults.RowFault, RowTable.zone_row_of, RowTexts.row_texts, RowTexts.texts_of, declared.zone_row.ZoneRow.ZoneRow}
-use Rattle.dns_zone_tokens.specs.{Errors.Says, Remaining.AreUnknown, Remaining.TookAll, Tokens.Token, Tokens.Cursor, Tokens.tokens_at, Tokens.zone_tokens}
+use Rattle.dns_zone_tokens.specs.{Errors.Says, Remaining.AreUnknown, Remaining.TookAll, Tokens.Token, Tokens.Cursor, Tokens.tokens_at, Tokens.seen_at, Tokens.zone_tokens}
 use Rattle.dns_tokens.proofs.Steps.{unless_map}
 use Rattle.dns_zone_tokens.proofs.{FirstSteps.or_then, NamePuts.if_err, RemainingSteps.token_ok}
 use Rattle.dns_rdata_zone.specs.ZoneSteps.{AreNoData, UnknownIs, UnknownIsNone, RowIs, RowIsNone}
@@ -87,14 +87,15 @@ same_rows view o zone_row r e f = sym f ∙ ap (option_map view) e
 
 pub row_fault : {T : Type 0} (origin : Option DomainName) (t : RecordType) (text : List ℕ) (o : Option ZoneRow) (zone_row : ZoneRow) (cursor : Cursor) (r : Result T ParseError)
     → o ≡ Some zone_row → option_map row_value o ≡ zone_row_of t → option_map row_texts o ≡ texts_of t → tokens_at cursor ≡ zone_tokens text
-    → IfErr r (λ e. (e ≡ parse.Memory) ⊎ RowFault origin zone_row cursor e)
+    → seen_at cursor ≡ seen_at (at_start text) → IfErr r (λ e. (e ≡ parse.Memory) ⊎ RowFault origin zone_row cursor e)
     → IfErr r (λ e. (e ≡ parse.Memory) ⊎ LacksRow t e ⊎ TokensFault origin t text e)
-row_fault origin t text o zone_row cursor r e f g starts = if_err _ _ r (λ y. or_then (λ fault. inr (record {
+row_fault origin t text o zone_row cursor r e f g starts seen = if_err _ _ r (λ y. or_then (λ fault. inr (record {
   zone_row = zone_row;
   of_type = same_rows row_value o zone_row (zone_row_of t) e f;
   texts = same_rows row_texts o zone_row (texts_of t) e g;
   cursor = cursor;
   starts = starts;
+  seen = seen;
   has = fault;
 })))
 

@@ -1,10 +1,10 @@
 -- Which domain name a text of a zone file is (RFC 1035, 5.1).
-use Rattle.std.specs.Prelude.{◌≡◌, ℕ, List, [], ◌∷◌, Option, Ok, codes}
+use Rattle.std.specs.Prelude.{◌≡◌, ℕ, false, List, [], ◌∷◌, Option, Ok, codes}
 use Rattle.dns_fields.specs.Labels.{DomainName, full_name}
 use Rattle.dns_types.specs.declared.error.ParseError.{ParseError}
 use Rattle.dns_zone_rows.specs.{RowFaults.row_value, RowFaults.RowFault, RowTexts.row_texts, RowTexts.no_more, declared.zone_row.ZoneRow.ZoneRow}
 use Rattle.dns_zone_rows.specs.Rows.{Name, NoToken, RowShape}
-use Rattle.dns_zone_tokens.specs.{FieldTexts.name_called, NameTokens.IsNameToken, Tokens.Token, Tokens.Cursor, Tokens.tokens_at, Tokens.zone_tokens}
+use Rattle.dns_zone_tokens.specs.{FieldTexts.name_called, NameTokens.IsNameToken, Tokens.Token, Tokens.Cursor, Tokens.tokens_at, Tokens.seen_at, Tokens.zone_tokens}
 
 -- The text is one token, which is the name: labels that the origin completes, `@` or a dot. The name is fully
 -- qualified, also if there is no origin and the text has no dot at its end.
@@ -30,4 +30,5 @@ pub record ZoneNameFault (origin : Option DomainName) (text : List ℕ) (e : Par
   pub texts : row_texts zone_row ≡ name_called (codes "name") ∷ no_more ∷ []
   pub cursor : Cursor
   pub starts : tokens_at cursor ≡ zone_tokens text
+  pub seen : seen_at cursor ≡ seen_at (record { depth = 0; joined = false; text = text })
   pub has : RowFault origin zone_row cursor e

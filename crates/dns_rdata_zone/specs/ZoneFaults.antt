@@ -1,5 +1,5 @@
 -- Why a text of a zone file gives no RDATA, and what the error says.
-use Rattle.std.specs.Prelude.{◌≡◌, ◌⊎◌, ℕ, ◌<◌, List, length, Option, Some, None, Ok, codes}
+use Rattle.std.specs.Prelude.{◌≡◌, ◌⊎◌, ℕ, ◌<◌, List, ◌∷◌, length, Option, Some, None, Ok, codes}
 use Rattle.dns_fields.specs.Labels.{DomainName}
 use Rattle.dns_names_wire.specs.State.{Reading}
 use Rattle.dns_rdata.specs.{ReadErrors.IsReadError, declared.record_data.RData.RData}
@@ -7,7 +7,7 @@ use Rattle.dns_types.specs.{Errors.decode_error, Errors.proto_error, declared.er
 use Rattle.dns_types.specs.declared.record_type.RecordType.{RecordType}
 use Rattle.dns_types.specs.declared.error.ParseError.TheVariants as parse
 use Rattle.dns_zone_rows.specs.{RowFaults.row_value, RowFaults.RowFault, RowTable.zone_row_of, RowTexts.row_texts, RowTexts.texts_of, declared.zone_row.ZoneRow.ZoneRow}
-use Rattle.dns_zone_tokens.specs.{Errors.Says, Tokens.Token, Tokens.Cursor, Tokens.tokens_at, Tokens.with_token, Tokens.zone_tokens, ZoneReads.IsUndividedError}
+use Rattle.dns_zone_tokens.specs.{Errors.Says, Tokens.Token, Tokens.Cursor, Tokens.tokens_at, Tokens.seen_at, Tokens.with_token, Tokens.zone_tokens, ZoneReads.IsUndividedError}
 use Rattle.dns_zone_tokens.specs.Remaining.{AreUnknown, IsUnknownMark, TookAll, UnknownFault}
 use Rattle.dns_rdata_zone.specs.ZoneGives.{AreUnmarked, GiveByRow, AreDataOf, IsWhole, at_start}
 
@@ -36,6 +36,7 @@ pub record IsBehindMark (text : List ℕ) (cursor : Cursor) : Type 0 where
   pub first : Token
   pub mark : IsUnknownMark first
   pub divided : zone_tokens text ≡ with_token first (tokens_at cursor)
+  pub seen : seen_at (at_start text) ≡ first ∷ seen_at cursor
 
 -- there is a compression pointer in a name
 pub record HasPointer (octets : List ℕ) (t : RecordType) (e : ParseError) : Type 0 where
@@ -64,6 +65,7 @@ pub record MarkedFault (t : RecordType) (text : List ℕ) (e : ParseError) : Typ
 -- the first token is not `\#`
 pub record HasNoMark (text : List ℕ) : Type 0 where
   pub unmarked : (tokens : List Token) → zone_tokens text ≡ Ok tokens → AreUnmarked tokens
+  pub seen : AreUnmarked (seen_at (at_start text))
 
 -- the type has no zone row
 pub record LacksRow (t : RecordType) (e : ParseError) : Type 0 where
@@ -78,6 +80,7 @@ pub record TokensFault (origin : Option DomainName) (t : RecordType) (text : Lis
   pub texts : texts_of t ≡ Some (row_texts zone_row)
   pub cursor : Cursor
   pub starts : tokens_at cursor ≡ zone_tokens text
+  pub seen : seen_at cursor ≡ seen_at (at_start text)
   pub has : RowFault origin zone_row cursor e
 
 -- the tokens give octets by the zone row, which are no RDATA of the type
@@ -96,7 +99,7 @@ pub record UnmarkedFault (origin : Option DomainName) (t : RecordType) (text : L
 
 -- ---- the text
 
--- The text cannot be divided into tokens; the unknown-data form is not kept; or the tokens are no RDATA by the zone row
+-- The text is rejected before its first token; the unknown-data form is not kept; or the tokens are no RDATA by the zone row
 -- of the type.
 abbrev pub ZoneFault : Option DomainName → RecordType → List ℕ → ParseError → Type 0
 ZoneFault origin t text e = IsUndividedError (at_start text) e ⊎ MarkedFault t text e ⊎ UnmarkedFault origin t text e

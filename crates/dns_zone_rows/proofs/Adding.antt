@@ -5,7 +5,7 @@ use Rattle.std.proofs.lemmas.Bool.{OnTrue_at, OnTrue_from}
 use Rattle.dns_fields.specs.{Fields.Value, declared.Kind.Kind}
 use Rattle.dns_types.specs.declared.error.ParseError.{ParseError}
 use Rattle.dns_tokens.specs.Reads.{UnlessParseMemory}
-use Rattle.dns_zone_tokens.specs.{Forms.ZoneForm, Tokens.Token, Tokens.Cursor, Tokens.tokens_at, Tokens.with_token, ZoneReads.NoValueOf, ZoneReads.PutAs, ZoneReads.PutsAs}
+use Rattle.dns_zone_tokens.specs.{Forms.ZoneForm, Tokens.Token, Tokens.Cursor, Tokens.tokens_at, Tokens.seen_at, Tokens.with_token, ZoneReads.NoValueOf, ZoneReads.PutAs, ZoneReads.PutsAs}
 use Rattle.dns_tokens.proofs.Steps.{unless_map}
 use Rattle.dns_zone_tokens.proofs.{FirstSteps.exit_with, RemainingSteps.token_ok}
 use Rattle.dns_zone_rows.specs.{RowSteps.NoFirstGives, RowSteps.AddsFirst, RowSteps.GivesNone, RowSteps.PutField, RowSteps.PutsField, Rows.Gives}
@@ -32,10 +32,11 @@ near_field form written b before after token h = OnTrue_from b (PutField (Gives 
 
 -- and they are those of the first token
 pub adds_first : {T : Type 0} (gives : List ℕ → Token → Type 0) (r : Result T ParseError) (before after : List ℕ) (token : Token) (old new : Cursor)
-    → tokens_at old ≡ with_token token (tokens_at new) → PutsField gives r before after token → AddsFirst gives r before after old new
-adds_first gives (Ok x) before after token old new first h =
-    record { token = token; first = first; octets = h.octets; given = h.given; same = h.same }
-adds_first gives (Err e) before after token old new first h = unless_map e (GivesNone gives token) (NoFirstGives gives old)
+    → tokens_at old ≡ with_token token (tokens_at new) → seen_at old ≡ token ∷ seen_at new → PutsField gives r before after token
+    → AddsFirst gives r before after old new
+adds_first gives (Ok x) before after token old new first seen h =
+    record { token = token; first = first; seen = seen; octets = h.octets; given = h.given; same = h.same }
+adds_first gives (Err e) before after token old new first seen h = unless_map e (GivesNone gives token) (NoFirstGives gives old)
     (λ no. record {
       none = λ octets other tokens divided given.
           let k = token_ok token (tokens_at new) (other ∷ tokens) (sym first ∙ divided) in

@@ -7,7 +7,7 @@ use Rattle.dns_types.specs.declared.error.ParseError.{ParseError}
 use Rattle.dns_types.specs.declared.error.ParseError.TheVariants as parse
 use Rattle.dns_tokens.specs.Reads.{UnlessParseMemory}
 use Rattle.dns_zone_tokens.specs.Remaining.{TookAll, NoneOfAll, ReadsAll, PutAll}
-use Rattle.dns_zone_tokens.specs.Tokens.{Token, Cursor, tokens_at, with_token}
+use Rattle.dns_zone_tokens.specs.Tokens.{Token, Cursor, tokens_at, seen_at, with_token}
 use Rattle.dns_tokens.proofs.Steps.{unless_map}
 use Rattle.dns_zone_tokens.proofs.{FirstSteps.exit_fault, FirstSteps.exit_with, FirstSteps.or_then, RemainingSteps.token_ok}
 use Rattle.dns_zone_rows.specs.{RowSteps.AddedFirst, RowSteps.NoFirstGives, RowSteps.PutField, Rows.FieldGives, Rows.RestGives, Rows.FieldsGive, Rows.RowGives, Rows.RowShape}
@@ -65,7 +65,7 @@ field_taken origin fields field left rest old now new before after so a = record
       (sym (append_assoc before a.octets more) ∙ ap (λ (s : List ℕ). s ++ more) (sym a.same))
       (so.gives (a.octets ++ more) (first_given a at));
   only = λ all at. let k = so.only all at in others_given k.0 a k.1;
-  fault = λ e f. so.fault e (inr (record { token = a.token; behind = new; first = a.first; octets = a.octets; given = a.given; has = f }));
+  fault = λ e f. so.fault e (inr (record { token = a.token; behind = new; first = a.first; seen = a.seen; octets = a.octets; given = a.given; has = f }));
 }
 
 -- ---- by the index in the zone row
@@ -174,8 +174,8 @@ row_taken origin fields rest at old now before after result l so a e =
 -- ---- fields alone
 
 pub put_first : {gives : List ℕ → Token → Type 0} {before after : List ℕ} {token : Token} {now new : Cursor} → tokens_at now ≡ with_token token (tokens_at new)
-    → PutField gives before after token → AddedFirst gives before after now new
-put_first {token = token} first put = record { token = token; first = first; octets = put.octets; given = put.given; same = put.same }
+    → seen_at now ≡ token ∷ seen_at new → PutField gives before after token → AddedFirst gives before after now new
+put_first {token = token} first seen put = record { token = token; first = first; seen = seen; octets = put.octets; given = put.given; same = put.same }
 
 -- no token is left
 pub row_over : (origin : Option DomainName) (fields : List ZoneField) (surplus : Bor (List ℕ)) (at : ℕ) (start old now : Cursor) (octets : List ℕ)

@@ -1,5 +1,5 @@
 -- Strings in the remaining tokens.
-use Rattle.std.proofs.Common.{◌≡◌, ◌≢◌, ℕ, List, [], ◌∷◌, ◌++◌, Result, Ok, refl, sym, ◌∙◌, ap, ◌⊎◌, inr, append_assoc}
+use Rattle.std.proofs.Common.{◌≡◌, ◌≢◌, ℕ, true, false, List, [], ◌∷◌, ◌++◌, length, Result, Ok, refl, sym, ◌∙◌, ap, ◌⊎◌, inl, inr, append_assoc, arith}
 use Rattle.std.specs.{List.flat_map, Result.IsErrAnd}
 use Rattle.std.proofs.{lemmas.Grind.flat_map-append, lemmas.List.append-nil, lemmas.Slice.Zip.all_zipped_more}
 use Rattle.dns_fields.specs.Tlvs.{string as string_octets}
@@ -7,8 +7,9 @@ use Rattle.dns_types.specs.declared.error.ParseError.{ParseError}
 use Rattle.dns_types.specs.declared.error.ParseError.TheVariants as parse
 use Rattle.dns_tokens.specs.Reads.{UnlessParseMemory}
 use Rattle.dns_tokens.proofs.Steps.{unless_map}
-use Rattle.dns_zone_tokens.specs.{Forms.string, ZoneReads.LacksFirst, ZoneReads.NoValueOf, ZoneReads.PutAs, Tokens.Token, Tokens.Cursor, Tokens.tokens_at}
-use Rattle.dns_zone_tokens.specs.{Tokens.with_token, Remaining.AreStrings, Remaining.NoneOfAll, Remaining.PutAll, Remaining.PutsAll, Remaining.AmongFault}
+use Rattle.dns_zone_tokens.specs.{Forms.string, ZoneReads.LacksFirst, ZoneReads.NoValueOf, ZoneReads.PutAs, Tokens.Token, Tokens.Cursor, Tokens.tokens_at, Tokens.seen_at}
+use Rattle.dns_zone_tokens.specs.{Tokens.with_token, Remaining.AreStrings, Remaining.NoneOfAll, Remaining.PutAll, Remaining.PutsAll, Remaining.AmongFault, Remaining.NoneHas}
+use Rattle.dns_zone_tokens.specs.{Forms.StringFault, declared.field.StringField.StringField}
 use Rattle.dns_zone_tokens.proofs.FirstSteps.{exit_with, or_then}
 use Rattle.dns_zone_tokens.proofs.RemainingSteps.{TakenSoFar, all_taken, none_among, fault_among, one_of_both}
 use Rattle.dns_zone_rows.specs.Rows.{RestGives, SomeStrings}
@@ -68,6 +69,19 @@ exit_string {old = old} new token e r before after h so first none = exit_with (
 
 pub string_why : {are : List Token → Type 0} (fault : Token → ParseError → Type 0) (missing : ParseError) {old now : Cursor} (new : Cursor) (token : Token)
     (e : ParseError)
-    → TakenSoFar are old now → tokens_at now ≡ with_token token (tokens_at new) → (e ≡ parse.Memory) ⊎ fault token e
-    → (e ≡ parse.Memory) ⊎ LacksFirst missing old e ⊎ AmongFault fault old e
-string_why fault missing new token e so first = or_then (λ has. inr (fault_among so token new first has))
+    → TakenSoFar are old now → seen_at now ≡ token ∷ seen_at new → ((tokens : List Token) → are tokens → NoneHas fault tokens)
+    → (e ≡ parse.Memory) ⊎ fault token e → (e ≡ parse.Memory) ⊎ LacksFirst missing old e ⊎ AmongFault fault old e
+string_why fault missing new token e so seen before = or_then (λ has. inr (fault_among so token new seen before has))
+
+-- tokens that are strings have no fault
+string_right : (field : StringField) (token : Token) (octets : List ℕ) → string.is octets token → (e : ParseError) → StringFault field token e → ⊥
+string_right field token octets is e (inl bad) = let both : true ≡ false = sym is.0.escapes ∙ bad.1 in absurd (cc)
+string_right field token octets is e (inr long) = omega (arith, is.1, long.2, ap length is.0.value)
+
+all_right : (field : StringField) (tokens : List Token) (strings : List (List ℕ)) → AreStrings strings tokens → NoneHas (StringFault field) tokens
+all_right field [] strings are = tt
+all_right field (token ∷ tokens) [] are = absurd are
+all_right field (token ∷ tokens) (octets ∷ strings) are = (string_right field token octets are.0, all_right field tokens strings are.1)
+
+pub strings_right : {before octets : List ℕ} (field : StringField) (tokens : List Token) → ArePut before octets tokens → NoneHas (StringFault field) tokens
+strings_right field tokens put = all_right field tokens put.strings put.are

@@ -6,7 +6,7 @@ use Rattle.dns_types.specs.{declared.record_type.RecordType.RecordType, declared
 use Rattle.dns_types.specs.declared.error.ParseError.TheVariants as parse
 use Rattle.dns_tokens.specs.{Forms.ttl, Forms.ipv4, Forms.ipv6, Reads.HoldsOfNone, declared.field.Field.Field}
 use Rattle.dns_zone_tokens.specs.{Forms.bare, Forms.number, Forms.StringFault, Forms.TextFault, Forms.IsType, NameTokens.NameFault, Remaining.AmongFault, Remaining.HexFault}
-use Rattle.dns_zone_tokens.specs.{Remaining.Base64Fault, Tokens.Token, Tokens.Cursor, Tokens.tokens_at, Tokens.with_token}
+use Rattle.dns_zone_tokens.specs.{Remaining.Base64Fault, Tokens.Token, Tokens.Cursor, Tokens.tokens_at, Tokens.seen_at, Tokens.with_token}
 use Rattle.dns_zone_tokens.specs.ZoneReads.{IsUndividedError, LacksFirst, WhyFirst, WrongToken}
 use Rattle.dns_zone_parameters.specs.Faults.{ParametersFault}
 use Rattle.dns_zone_rows.specs.{declared.zone_row.ZoneField.ZoneField, declared.zone_row.ZoneRest.ZoneRest, declared.zone_row.ZoneRow.ZoneRow}
@@ -83,9 +83,10 @@ FieldFault origin field = WhyFirst (parse.MissingToken (name_of field)) (TokenFa
 abbrev pub TypeFault : Field → Token → ParseError → Type 0
 TypeFault f token e = (e ≡ parse.Message f.wrong) × HoldsOfNone (λ (t : RecordType). IsType t token)
 
--- a token is left
+-- a token is left, or the text is rejected before the next one
 abbrev pub SurplusFault : ParseError → Cursor → ParseError → Type 0
-SurplusFault surplus cursor e = (tokens_at cursor ≢ Ok []) × ((e ≡ surplus) ⊎ IsUndividedError cursor e)
+SurplusFault surplus cursor e =
+    (tokens_at cursor ≢ Ok []) × (((e ≡ surplus) × (seen_at cursor ≢ [])) ⊎ IsUndividedError cursor e)
 
 -- why the remaining tokens give no octets
 abbrev pub RestFault : ZoneRest → Cursor → ParseError → Type 0
@@ -104,6 +105,7 @@ pub record FaultBehind (gives : List ℕ → Token → Type 0) (fault : Cursor �
   pub token : Token
   pub behind : Cursor
   pub first : tokens_at cursor ≡ with_token token (tokens_at behind)
+  pub seen : seen_at cursor ≡ token ∷ seen_at behind
   pub octets : List ℕ
   pub given : gives octets token
   pub has : fault behind e

@@ -2,12 +2,13 @@
 use Rattle.std.specs.Prelude.{◌≡◌, List, ◌∷◌, ◌++◌, ℕ, Result, Ok, Err}
 use Rattle.dns_types.specs.declared.error.ParseError.{ParseError}
 use Rattle.dns_tokens.specs.Reads.{UnlessParseMemory}
-use Rattle.dns_zone_tokens.specs.Tokens.{Token, Cursor, tokens_at, with_token}
+use Rattle.dns_zone_tokens.specs.Tokens.{Token, Cursor, tokens_at, seen_at, with_token}
 
 -- the first token was taken, and the octets that it gives were appended
 pub record AddedFirst (gives : List ℕ → Token → Type 0) (before after : List ℕ) (old new : Cursor) : Type 0 where
   pub token : Token
   pub first : tokens_at old ≡ with_token token (tokens_at new)
+  pub seen : seen_at old ≡ token ∷ seen_at new
   pub octets : List ℕ
   pub given : gives octets token
   pub same : after ≡ before ++ octets

@@ -1,5 +1,5 @@
 -- Remaining tokens, one by one.
-use Rattle.std.proofs.Common.{◌≡◌, ◌⊎◌, ℕ, length, true, false, List, [], ◌∷◌, ◌++◌, Result, Ok, Err, refl, sym, ◌∙◌, ap, subst, inl, inr, codes}
+use Rattle.std.proofs.Common.{◌≡◌, ◌⊎◌, ℕ, length, true, false, List, [], ◌∷◌, ◌++◌, Result, Ok, Err, refl, sym, ◌∙◌, ap, subst, append_assoc, inl, inr, codes}
 use Rattle.std.proofs.{lemmas.List.append-nil, lemmas.Grind.flat_map-append}
 use Rattle.std.specs.List.{AllZip}
 use Rattle.dns_types.specs.declared.error.ParseError.{ParseError}
@@ -8,7 +8,7 @@ use Rattle.dns_tokens.specs.{Reads.UnlessParseMemory, declared.field.Field.Field
 use Rattle.dns_zone_tokens.specs.{FieldTexts.field_texts, FieldTexts.number_called, Forms.number, ZoneReads.FirstHas, ZoneReads.NoFirst, ZoneReads.WhyNoField}
 use Rattle.dns_zone_tokens.specs.{Errors.Says, Errors.undivided_text, Remaining.UnknownFault, declared.tokens_error.TokensError.TokensError}
 use Rattle.dns_zone_tokens.specs.Remaining.{AllBare, AmongFault, NoneHas, QuotesFault, joined, AreJoined, AreUnknown, NoneOfAll, with_tokens}
-use Rattle.dns_zone_tokens.specs.Tokens.{Token, Cursor, tokens_at, with_token}
+use Rattle.dns_zone_tokens.specs.Tokens.{Token, Cursor, tokens_at, seen_at, with_token}
 use Rattle.dns_tokens.proofs.Steps.{unless_map}
 
 -- ---- lists of tokens
@@ -55,17 +55,19 @@ pub record TakenSoFar (is : List Token → Type 0) (old new : Cursor) : Type 0 w
   pub tokens : List Token
   pub are : is tokens
   pub behind : tokens_at old ≡ with_tokens tokens (tokens_at new)
+  pub seen : seen_at old ≡ tokens ++ seen_at new
 
 pub none_taken : {is : List Token → Type 0} (cursor : Cursor) → is [] → TakenSoFar is cursor cursor
-none_taken cursor h = record { tokens = []; are = h; behind = refl }
+none_taken cursor h = record { tokens = []; are = h; behind = refl; seen = refl }
 
 module _ {is : List Token → Type 0} {old now : Cursor} (so : TakenSoFar is old now) where
   pub one_taken : {more : List Token → Type 0} (token : Token) (new : Cursor) → tokens_at now ≡ with_token token (tokens_at new)
-      → ((tokens : List Token) → is tokens → more (tokens ++ token ∷ [])) → TakenSoFar more old new
-  one_taken token new first then = record {
+      → seen_at now ≡ token ∷ seen_at new → ((tokens : List Token) → is tokens → more (tokens ++ token ∷ [])) → TakenSoFar more old new
+  one_taken token new first seen then = record {
     tokens = so.tokens ++ token ∷ [];
     are = then so.tokens so.are;
     behind = so.behind ∙ ap (with_tokens so.tokens) first ∙ sym (tokens_more so.tokens (token ∷ []) (tokens_at new));
+    seen = so.seen ∙ ap (λ (l : List Token). so.tokens ++ l) seen ∙ sym (append_assoc so.tokens (token ∷ []) (seen_at new));
   }
 
   pub all_taken : tokens_at now ≡ Ok [] → tokens_at old ≡ Ok so.tokens
@@ -79,9 +81,11 @@ module _ {is : List Token → Type 0} {old now : Cursor} (so : TakenSoFar is old
   undivided_none {e = e} end =
       record { none = λ v tokens divided _. let both : Ok tokens ≡ Err e = sym divided ∙ undivided end in absurd (cc) }
 
-  pub undivided_why : {fault : Token → ParseError → Type 0} {why : TokensError} {e : ParseError} → tokens_at now ≡ Err why → Says (undivided_text why) e
-      → AmongFault fault old e
-  undivided_why {why = why} end says = inl (why, undivided end, says)
+  pub undivided_why : {fault : Token → ParseError → Type 0} {why : TokensError} {e : ParseError} → tokens_at now ≡ Err why → seen_at now ≡ []
+      → ((tokens : List Token) → is tokens → NoneHas fault tokens) → Says (undivided_text why) e → AmongFault fault old e
+  undivided_why {fault} {why} end none before says =
+      let all : seen_at old ≡ so.tokens = so.seen ∙ ap (λ (l : List Token). so.tokens ++ l) none ∙ append-nil so.tokens in
+      inl (why, undivided end, says, subst (NoneHas fault) (sym all) (before so.tokens so.are))
 
   -- nor where there is a token that no value has
   pub none_among : {V : Type 0} {value : V → List Token → Type 0} (token : Token) (new : Cursor) → tokens_at now ≡ with_token token (tokens_at new)
@@ -92,13 +96,13 @@ module _ {is : List Token → Type 0} {old now : Cursor} (so : TakenSoFar is old
         none so.tokens m.0 v (subst (value v) m.1 given);
   }
 
-  pub fault_among : {fault : Token → ParseError → Type 0} (token : Token) (new : Cursor) {e : ParseError} → tokens_at now ≡ with_token token (tokens_at new)
+  pub fault_among : {fault : Token → ParseError → Type 0} (token : Token) (new : Cursor) {e : ParseError} → seen_at now ≡ token ∷ seen_at new
       → ((tokens : List Token) → is tokens → NoneHas fault tokens) → fault token e → AmongFault fault old e
-  fault_among token new first before has = inr (record {
+  fault_among token new seen before has = inr (record {
     front = so.tokens;
     token = token;
-    behind = tokens_at new;
-    divided = so.behind ∙ ap (with_tokens so.tokens) first;
+    others = seen_at new;
+    seen = so.seen ∙ ap (λ (l : List Token). so.tokens ++ l) seen;
     before = before so.tokens so.are;
     has = has;
   })

@@ -5,7 +5,7 @@ use Rattle.std.proofs.{Math.Seq.take-suc, Math.Seq.drop-cons, Math.Seq.drop-nil,
 use Rattle.dns_zone_tokens.specs.Tokens.{Spot, is_blank, is_line_end, begins_gap, ends_run, gap_on, run_on, on, between, run, run_backslash, quotes}
 use Rattle.dns_text.{specs.Quiet.IsQuiet, proofs.QuietSteps.AreQuiet}
 use Rattle.dns_zone_tokens.specs.{Spans.lefts_from, TokenSteps.NoGap, TokenSteps.RunTaken, TokenSteps.QuotesRefused, declared.tokens_error.TokensError.TokensError}
-use Rattle.dns_zone_tokens.specs.Tokens.{quotes_backslash, with_token, over, over_comment, refused, tokens_read_from}
+use Rattle.dns_zone_tokens.specs.Tokens.{quotes_backslash, with_token, over, over_comment, refused, tokens_read_from, seen_from}
 use Rattle.dns_zone_tokens.specs.declared.tokens_error.TokensError.TheVariants.{NoParenthesis, LineInQuotes, FurtherLine}
 use Rattle.dns_zone_tokens.proofs.LetterSteps.{from_offset}
 
@@ -18,6 +18,34 @@ stays_refused e (c ∷ text) = stays_refused e text
 pub refused_left : (e : TokensError) (text : List ℕ) → lefts_from (refused e) text ≡ []
 refused_left e [] = refl
 refused_left e (c ∷ text) = refused_left e text
+
+pub refused_seen : (e : TokensError) (text : List ℕ) → seen_from (refused e) text ≡ []
+refused_seen e [] = refl
+refused_seen e (c ∷ text) = refused_seen e text
+
+-- after the line, and in a comment there, no token is seen
+abbrev NoneSeen : List ℕ → Type 0
+NoneSeen text = (seen_from over text ≡ []) × (seen_from over_comment text ≡ [])
+
+seen_behind : (gap comments : Bool) (text : List ℕ) → NoneSeen text
+    → seen_from (if gap then over else if comments then over_comment else refused FurtherLine) text ≡ []
+seen_behind true comments text later = later.0
+seen_behind false true text later = later.1
+seen_behind false false text later = refused_seen FurtherLine text
+
+seen_comment : (ends : Bool) (text : List ℕ) → NoneSeen text → seen_from (if ends then over else over_comment) text ≡ []
+seen_comment true text later = later.0
+seen_comment false text later = later.1
+
+none_seen : (text : List ℕ) → NoneSeen text
+none_seen [] = (refl, refl)
+none_seen (c ∷ text) = (
+  seen_behind (is_blank c || is_line_end c) (eqb c 59) text (none_seen text),
+  seen_comment (is_line_end c) text (none_seen text),
+)
+
+pub over_seen : (text : List ℕ) → seen_from over text ≡ []
+over_seen text = (none_seen text).0
 
 -- after the line, and in a comment there, no token is left
 abbrev NoneOver : List ℕ → Type 0
@@ -111,6 +139,15 @@ lefts_go (run depth joined front) c text h = rw h refl
 lefts_go (run_backslash depth joined front) c text h = rw h refl
 lefts_go (quotes depth joined front) c text h = rw h refl
 lefts_go spot c text h = refl
+
+seen_go : (spot : Spot) (c : ℕ) (text : List ℕ) → stops spot c ≡ false → seen_from spot (c ∷ text) ≡ seen_from (on spot c) text
+seen_go (run depth joined front) c text h = rw h refl
+seen_go (run_backslash depth joined front) c text h = rw h refl
+seen_go (quotes depth joined front) c text h = rw h refl
+seen_go spot c text h = refl
+
+pub seen_walk : Walks seen_from
+seen_walk = record { goes = seen_go }
 
 pub tokens_walk : Walks tokens_read_from
 tokens_walk = record { goes = tokens_go }
@@ -206,6 +243,11 @@ token_ends zero joined front [] h = refl
 token_ends (suc depth) joined front [] h = refl
 token_ends depth joined front (c ∷ rest) h = rw h refl
 
+seen_ends : (depth : ℕ) (joined : Bool) (front rest : List ℕ) → EndsRun rest → seen_from (run depth joined front) rest
+    ≡ record { octets = front; quoted = false; joined = joined } ∷ seen_from (between depth true) rest
+seen_ends depth joined front [] h = refl
+seen_ends depth joined front (c ∷ rest) h = rw h refl
+
 left_ends : (depth : ℕ) (joined : Bool) (front rest : List ℕ) → EndsRun rest → lefts_from (run depth joined front) rest
     ≡ (length front + length rest, length rest) ∷ lefts_from (between depth true) rest
 left_ends depth joined front [] h = ap (λ (n : ℕ). (n, 0) ∷ []) (omega arith)
@@ -218,16 +260,18 @@ run_taken text n within quiet h =
     let ends = ends_there text n within h in
     record {
       token = λ depth joined. run_quiet tokens_walk text n within quiet depth joined ∙ token_ends depth joined (take n text) (drop n text) ends;
+      seen = λ depth joined. run_quiet seen_walk text n within quiet depth joined ∙ seen_ends depth joined (take n text) (drop n text) ends;
       left = λ depth joined.
           let whole : length (take n text) + length (drop n text) ≡ length text = omega (arith, length-take-le n text within, length-drop n text) in
           run_quiet lefts_walk text n within quiet depth joined ∙ left_ends depth joined (take n text) (drop n text) ends
           ∙ ap (λ (m : ℕ). (m, length (drop n text)) ∷ lefts_from (between depth true) (drop n text)) whole;
     }
 
-pub quotes_line : (text : List ℕ) (n : ℕ) → QuotesOn tokens_walk text n → QuotesOn lefts_walk text n → n < length text → eqb (get_or text n 0) 34 ≡ false
+pub quotes_line : (text : List ℕ) (n : ℕ) → QuotesOn tokens_walk text n → QuotesOn seen_walk text n → QuotesOn lefts_walk text n → n < length text → eqb (get_or text n 0) 34 ≡ false
     → eqb (get_or text n 0) 10 ≡ true → QuotesRefused text LineInQuotes
-quotes_line text n so left lt h k = record {
+quotes_line text n so seen left lt h k = record {
   why = λ depth joined. quotes_end tokens_walk text n so lt h k depth joined ∙ stays_refused LineInQuotes (drop (n + 1) text);
+  seen = λ depth joined. quotes_end seen_walk text n seen lt h k depth joined ∙ refused_seen LineInQuotes (drop (n + 1) text);
   left = λ depth joined. quotes_end lefts_walk text n left lt h k depth joined ∙ refused_left LineInQuotes (drop (n + 1) text);
 }
 
@@ -260,3 +304,18 @@ run_begins_left depth joined [] some gap quote = absurd (omega arith)
 run_begins_left depth joined (c ∷ text) some gap quote =
     let h : ends_run c ≡ false = rw (gap, quote) refl in
     ap (λ (spot : Spot). lefts_from spot text) (run_begins depth joined c gap quote) ∙ sym (run_goes_on depth joined c text h)
+
+run_goes_seen : (depth : ℕ) (joined : Bool) (c : ℕ) (text : List ℕ) → ends_run c ≡ false
+    → seen_from (run depth joined []) (c ∷ text) ≡ seen_from (run_on depth joined [] c) text
+run_goes_seen depth joined c text h = rw h refl
+
+pub run_begins_seen : (depth : ℕ) (joined : Bool) (text : List ℕ) → 0 < length text → NoGap text → eqb (get_or text 0 0) 34 ≡ false
+    → seen_from (between depth joined) text ≡ seen_from (run depth joined []) text
+run_begins_seen depth joined [] some gap quote = absurd (omega arith)
+run_begins_seen depth joined (c ∷ text) some gap quote =
+    let h : ends_run c ≡ false = rw (gap, quote) refl in
+    ap (λ (spot : Spot). seen_from spot text) (run_begins depth joined c gap quote) ∙ sym (run_goes_seen depth joined c text h)
+
+pub no_gap : (text : List ℕ) → begins_gap (get_or text 0 0) ≡ false → NoGap text
+no_gap [] h = tt
+no_gap (c ∷ text) h = h

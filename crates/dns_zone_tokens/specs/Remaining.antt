@@ -7,9 +7,9 @@ use Rattle.dns_types.specs.declared.error.ParseError.{ParseError}
 use Rattle.dns_types.specs.declared.error.ParseError.TheVariants as parse
 use Rattle.dns_tokens.specs.{Reads.UnlessParseMemory, declared.field.Field.Field}
 use Rattle.dns_zone_tokens.specs.FieldTexts.{field_texts, hex_texts, number_called, hex_called}
-use Rattle.dns_zone_tokens.specs.{declared.field.HexField.HexField, Forms.IsNumber, Forms.number, Forms.string, Errors.Says, Tokens.Token}
-use Rattle.dns_zone_tokens.specs.{Tokens.Cursor, Tokens.tokens_at, Tokens.with_token, declared.tokens_error.TokensError.TokensError}
-use Rattle.dns_zone_tokens.specs.ZoneReads.{IsUndividedError, TookFirst, WhyNoField}
+use Rattle.dns_zone_tokens.specs.{declared.field.HexField.HexField, Forms.IsNumber, Forms.number, Forms.string, Errors.Says, Errors.undivided_text, Tokens.Token}
+use Rattle.dns_zone_tokens.specs.{Tokens.Cursor, Tokens.tokens_at, Tokens.seen_at, Tokens.with_token, declared.tokens_error.TokensError.TokensError}
+use Rattle.dns_zone_tokens.specs.ZoneReads.{TookFirst, WhyNoField}
 
 -- tokens, and those after them
 abbrev pub with_tokens : List Token → Result (List Token) TokensError → Result (List Token) TokensError
@@ -92,14 +92,19 @@ NoneHas fault (token ∷ tokens) = ((e : ParseError) → fault token e → ⊥) 
 pub record OneFault (fault : Token → ParseError → Type 0) (cursor : Cursor) (e : ParseError) : Type 0 where
   pub front : List Token
   pub token : Token
-  pub behind : Result (List Token) TokensError
-  pub divided : tokens_at cursor ≡ with_tokens front (with_token token behind)
+  pub others : List Token
+  pub seen : seen_at cursor ≡ front ++ token ∷ others
   pub before : NoneHas fault front
   pub has : fault token e
 
--- the text cannot be divided into tokens, or the first of them with a fault has this one
+-- the text cannot be divided into tokens, and none that precedes the octet at which it is rejected has a fault
+abbrev pub UndividedFault : (Token → ParseError → Type 0) → Cursor → ParseError → Type 0
+UndividedFault fault cursor e =
+    (why : TokensError) × (tokens_at cursor ≡ Err why) × Says (undivided_text why) e × NoneHas fault (seen_at cursor)
+
+-- the first token with a fault has this one; or none has, and the text cannot be divided into tokens
 abbrev pub AmongFault : (Token → ParseError → Type 0) → Cursor → ParseError → Type 0
-AmongFault fault cursor e = IsUndividedError cursor e ⊎ OneFault fault cursor e
+AmongFault fault cursor e = UndividedFault fault cursor e ⊎ OneFault fault cursor e
 
 -- the token is in quotes
 abbrev pub QuotesFault : ParseError → Token → ParseError → Type 0

@@ -115,6 +115,32 @@ pub record Cursor : Type 0 where
 abbrev pub tokens_at : Cursor → Result (List Token) TokensError
 tokens_at cursor = tokens_read_from (between cursor.depth cursor.joined) cursor.text
 
+-- ---- the tokens before the octet at which a text is rejected
+
+-- the octet ends the token that the reader is in
+abbrev pub seen_ending : Spot → ℕ → List Token → List Token
+seen_ending (run n joined front) c tokens =
+    if ends_run c then record { octets = front; quoted = false; joined = joined } ∷ tokens else tokens
+seen_ending (run_backslash n joined front) c tokens =
+    if is_line_end c then record { octets = front; quoted = false; joined = joined } ∷ tokens else tokens
+seen_ending (quotes n joined front) c tokens =
+    if c == 34 then record { octets = front; quoted = true; joined = joined } ∷ tokens else tokens
+seen_ending spot c tokens = tokens
+
+-- the text ends here
+abbrev pub seen_at_end : Spot → List Token
+seen_at_end (run n joined front) = record { octets = front; quoted = false; joined = joined } ∷ []
+seen_at_end (run_backslash n joined front) = record { octets = front; quoted = false; joined = joined } ∷ []
+seen_at_end spot = []
+
+-- the tokens of a text from a spot on: all of them, or those before the octet at which the text is rejected
+abbrev pub seen_from : Spot → List ℕ → List Token
+seen_from spot [] = seen_at_end spot
+seen_from spot (c ∷ text) = seen_ending spot c (seen_from (on spot c) text)
+
+abbrev pub seen_at : Cursor → List Token
+seen_at cursor = seen_from (between cursor.depth cursor.joined) cursor.text
+
 -- the tokens of a text
 abbrev pub zone_tokens : List ℕ → Result (List Token) TokensError
 zone_tokens text = tokens_read_from (between zero false) text

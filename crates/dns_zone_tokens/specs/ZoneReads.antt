@@ -5,7 +5,7 @@ use Rattle.dns_types.specs.declared.error.ParseError.TheVariants as parse
 use Rattle.dns_fields.specs.{Fields.Value, declared.Kind.Kind}
 use Rattle.dns_tokens.specs.{Reads.UnlessParseMemory, declared.field.Field.Field}
 use Rattle.dns_zone_tokens.specs.{Forms.ZoneForm, Errors.Says, Errors.undivided_text, declared.tokens_error.TokensError.TokensError}
-use Rattle.dns_zone_tokens.specs.Tokens.{Token, Cursor, tokens_at, with_token}
+use Rattle.dns_zone_tokens.specs.Tokens.{Token, Cursor, tokens_at, seen_at, with_token}
 
 -- no value has this token
 pub record NoValueOf {k : Kind} (form : ZoneForm k) (token : Token) : Type 0 where
@@ -40,6 +40,7 @@ FirstHas form v (token ∷ tokens) = form.is v token
 pub record TookFirst {k : Kind} (form : ZoneForm k) (v : Value k) (old new : Cursor) : Type 0 where
   pub token : Token
   pub first : tokens_at old ≡ with_token token (tokens_at new)
+  pub seen : seen_at old ≡ token ∷ seen_at new
   pub is : form.is v token
 
 -- the text has no tokens, or the first has no value of the form
@@ -52,19 +53,20 @@ abbrev pub ReadsFirst : {T : Type 0} {k : Kind} → ZoneForm k → (T → Value 
 ReadsFirst form view (Ok x) old new = TookFirst form (view x) old new
 ReadsFirst form view (Err e) old new = UnlessParseMemory e (NoFirst form old)
 
--- the text cannot be divided into tokens, and the error says why
+-- no token precedes the octet at which the text is rejected, and the error says why it is
 abbrev pub IsUndividedError : Cursor → ParseError → Type 0
-IsUndividedError cursor e = (why : TokensError) × (tokens_at cursor ≡ Err why) × Says (undivided_text why) e
+IsUndividedError cursor e =
+    (why : TokensError) × (tokens_at cursor ≡ Err why) × Says (undivided_text why) e × (seen_at cursor ≡ [])
 
--- no token is left, which the error says, or the text cannot be divided into tokens
+-- no token is left, which the error says, or the text is rejected before the next one
 abbrev pub LacksFirst : ParseError → Cursor → ParseError → Type 0
 LacksFirst missing cursor e = ((e ≡ missing) × (tokens_at cursor ≡ Ok [])) ⊎ IsUndividedError cursor e
 
 -- the first token has a fault, and the error says which
 pub record FirstFault (fault : Token → ParseError → Type 0) (cursor : Cursor) (e : ParseError) : Type 0 where
   pub token : Token
-  pub behind : Result (List Token) TokensError
-  pub first : tokens_at cursor ≡ with_token token behind
+  pub others : List Token
+  pub seen : seen_at cursor ≡ token ∷ others
   pub has : fault token e
 
 -- there is no first token, or it has a fault

@@ -1,7 +1,7 @@
 //! Fields that are read from the next token of a text.
 
-ghost use Rattle.std.specs.Prelude.{◌≡◌, ◌≤◌, IfOk, IfErr, OnErr};
-ghost use Rattle.dns_zone_tokens.specs.{Forms.number, Views.token_value, Tokens.tokens_at, Tokens.with_token, Tokens.behind_first};
+ghost use Rattle.std.specs.Prelude.{◌≡◌, ◌≤◌, ◌∷◌, IfOk, IfErr, OnErr};
+ghost use Rattle.dns_zone_tokens.specs.{Forms.number, Views.token_value, Tokens.tokens_at, Tokens.seen_at, Tokens.with_token, Tokens.behind_first};
 ghost use Rattle.dns_zone_tokens.specs.ZoneReads.{ReadsFirst, LacksFirst, WhyNoField};
 
 use crate::numbers::number_of;
@@ -17,6 +17,7 @@ pub fn some_token<'a>(
     missing: &'static str,
 ) -> Result<ZoneToken<'a>, ParseError>
     ensures token { IfOk result (λ w. tokens_at tokens.old ≡ with_token (token_value w) (tokens_at tokens.new)) }
+    ensures seen { IfOk result (λ w. seen_at tokens.old ≡ token_value w ∷ seen_at tokens.new) }
     ensures refused { IfErr result (LacksFirst (ParseError.MissingToken missing.entry) tokens.old) }
     ensures unchanged { OnErr result (tokens.new ≡ tokens.old) }
     ensures behind { tokens_at tokens.new ≡ behind_first (tokens_at tokens.old) }

@@ -17,8 +17,9 @@ use dns_types::ParseError;
 /// Reads a name and appends its octets, uncompressed and with its case preserved (RFC 1035, section 3.1). The token is
 /// labels joined by dots, without quotes; the origin completes it if no dot ends it. `@` alone is the origin, and a dot
 /// the root. `\X` and `\DDD` are octets of their label, whatever they are. Any other token gives
-/// [`Message`](ParseError::Message) with the field's text for what is wrong: quotes, `@` without an origin, a `\` that
-/// escapes nothing, an empty label or one of more than 63 octets, or a name of more than 255 octets.
+/// [`Message`](ParseError::Message) with the field's text for the first fault: quotes; `@` without an origin; label by
+/// label a `\` that escapes nothing, an empty label, one of more than 63 octets, or one that makes a name of more than
+/// 255 octets; or too many labels with the origin's. After 63 octets of a label it is too long, whatever follows.
 pub fn put_name(
     octets: &mut Vec<u8>,
     token: ZoneToken<'_>,

@@ -3,7 +3,7 @@
 ghost use Rattle.std.specs.Prelude.{◌≡◌, ◌≢◌, ◌↔◌, ◌⊎◌, [], Ok, IsTrue, IfErr, OnOk, OnErr, IfSome, List, ℕ, drop, length, take};
 ghost use Rattle.std.specs.{Bool.OnTrue};
 ghost use Rattle.base64.specs.{Engines.standard, GeneralPurpose.decode_of as base64_of};
-ghost use Rattle.dns_zone_tokens.specs.{Forms.StringFault, Views.token_value, Tokens.tokens_at, ZoneReads.IsUndividedError};
+ghost use Rattle.dns_zone_tokens.specs.{Forms.StringFault, Views.token_value, Tokens.tokens_at, Tokens.seen_at, ZoneReads.IsUndividedError};
 ghost use Rattle.dns_zone_tokens.specs.Remaining.{AreJoined, AreHex, AreBase64, AreUnknown, AreStrings, IsUnknownMark, PutAll, PutsAll, TookAll, ReadsAll, AmongFault};
 ghost use Rattle.dns_zone_tokens.specs.TokenSteps.{PutHex};
 ghost use Rattle.dns_zone_tokens.specs.Remaining.{QuotesFault, HexFault, Base64Fault, UnknownFault};
@@ -190,7 +190,7 @@ pub fn unknown_data(alloc: Global, tokens: &mut ZoneTokens<'_>) -> Result<Octets
 pub fn no_more(tokens: &mut ZoneTokens<'_>, surplus: &'static str) -> Result<(), ParseError>
     ensures took { OnOk result (tokens_at tokens.old ≡ Ok []) }
     ensures refused { OnErr result (tokens_at tokens.old ≢ Ok []) }
-    ensures why { IfErr result (λ e. (e ≡ ParseError.Message surplus.entry) ⊎ IsUndividedError tokens.old e) }
+    ensures why { IfErr result (λ e. ((e ≡ ParseError.Message surplus.entry) × (seen_at tokens.old ≢ [])) ⊎ IsUndividedError tokens.old e) }
 {
     match tokens.next_token()? {
         Some(_) => Err(ParseError::Message(surplus)),

@@ -4,7 +4,7 @@ ghost use Rattle.std.specs.Prelude.{◌≡◌, ℕ, ◌<◌, ◌≤◌, ◌∷�
 ghost use Rattle.std.specs.Bool.{OnTrue};
 ghost use Rattle.dns_text.specs.Quiet.{IsQuiet};
 ghost use Rattle.dns_zone_tokens.specs.{Spans.lefts_at, Spans.lefts_from, Views.token_value};
-ghost use Rattle.dns_zone_tokens.specs.Tokens.{begins_gap, ends_run, between, comment, over, over_comment, tokens_read_from, tokens_at};
+ghost use Rattle.dns_zone_tokens.specs.Tokens.{begins_gap, ends_run, between, comment, over, over_comment, tokens_read_from, tokens_at, seen_from, seen_at};
 ghost use Rattle.dns_zone_tokens.specs.Tokens.{quotes, with_token, zone_tokens};
 ghost use Rattle.dns_zone_tokens.specs.TokenSteps.{NoGap, RunTaken, QuotesTaken, QuotesRefused};
 
@@ -68,6 +68,7 @@ impl<'a> ZoneTokens<'a> {
     #[inline]
     pub fn new(text: &'a [u8]) -> ZoneTokens<'a>
         ensures tokens { tokens_at result ≡ zone_tokens text.now }
+        ensures seen { seen_at result ≡ seen_from (between 0 false) text.now }
         ensures text { result.text ≡ text.now }
         ensures left { lefts_at result ≡ lefts_from (between 0 false) text.now }
     {
@@ -82,9 +83,12 @@ impl<'a> ZoneTokens<'a> {
     #[inline(always)]
     pub fn next_token(&mut self) -> Result<Option<ZoneToken<'a>>, TokensError>
         ensures token { IfOk result (λ o. IfSome o (λ w. tokens_at self.old ≡ with_token (token_value w) (tokens_at self.new))) }
+        ensures seen { IfOk result (λ o. IfSome o (λ w. seen_at self.old ≡ token_value w ∷ seen_at self.new)) }
         ensures shorter { IfOk result (λ o. IfSome o (λ _. length self.new.text < length self.old.text)) }
         ensures end { IfOk result (λ o. IfNone o (tokens_at self.old ≡ Ok [])) }
+        ensures end_seen { IfOk result (λ o. IfNone o (seen_at self.old ≡ [])) }
         ensures refused { IfErr result (λ e. tokens_at self.old ≡ Err e) }
+        ensures none_seen { OnErr result (seen_at self.old ≡ []) }
         ensures unchanged { OnErr result (self.new ≡ self.old) }
         ensures stays { IfOk result (λ o. IfNone o (self.new ≡ self.old)) }
     {
@@ -102,6 +106,7 @@ impl<'a> ZoneTokens<'a> {
     #[inline(always)]
     pub fn next_near(&mut self) -> Option<ZoneToken<'a>>
         ensures token { IfSome result (λ w. tokens_at self.old ≡ with_token (token_value w) (tokens_at self.new)) }
+        ensures seen { IfSome result (λ w. seen_at self.old ≡ token_value w ∷ seen_at self.new) }
         ensures shorter { IfSome result (λ _. length self.new.text < length self.old.text) }
         ensures stays { IfNone result (self.new ≡ self.old) }
     {
@@ -119,9 +124,12 @@ impl<'a> ZoneTokens<'a> {
     #[inline(never)]
     fn next_other(&mut self) -> Result<Option<ZoneToken<'a>>, TokensError>
         ensures token { IfOk result (λ o. IfSome o (λ w. tokens_at self.old ≡ with_token (token_value w) (tokens_at self.new))) }
+        ensures seen { IfOk result (λ o. IfSome o (λ w. seen_at self.old ≡ token_value w ∷ seen_at self.new)) }
         ensures shorter { IfOk result (λ o. IfSome o (λ _. length self.new.text < length self.old.text)) }
         ensures end { IfOk result (λ o. IfNone o (tokens_at self.old ≡ Ok [])) }
+        ensures end_seen { IfOk result (λ o. IfNone o (seen_at self.old ≡ [])) }
         ensures refused { IfErr result (λ e. tokens_at self.old ≡ Err e) }
+        ensures none_seen { OnErr result (seen_at self.old ≡ []) }
         ensures unchanged { OnErr result (self.new ≡ self.old) }
         ensures stays { IfOk result (λ o. IfNone o (self.new ≡ self.old)) }
     {
@@ -179,7 +187,8 @@ impl<'a> ZoneTokens<'a> {
     /// Returns whether no octet is left, outside of parentheses. Then no token is left; `false` says nothing.
     #[inline]
     pub fn is_over(&self) -> bool
-        ensures { OnTrue result (tokens_at self.now ≡ Ok []) }
+        ensures none { OnTrue result (tokens_at self.now ≡ Ok []) }
+        ensures none_seen { OnTrue result (seen_at self.now ≡ []) }
     {
         self.rest.len() == 0 && self.depth == 0
     }
@@ -195,7 +204,9 @@ impl<'a> ZoneTokens<'a> {
     // The remaining tokens, from the first octet of the next one on.
     fn skip_gaps(self) -> Result<ZoneTokens<'a>, TokensError>
         ensures same { IfOk result (λ w. tokens_at w ≡ tokens_at self.entry) }
+        ensures same_seen { IfOk result (λ w. seen_at w ≡ seen_at self.entry) }
         ensures same_left { IfOk result (λ w. lefts_at w ≡ lefts_at self.entry) }
+        ensures none_seen { OnErr result (seen_at self.entry ≡ []) }
         ensures none_left { OnErr result (lefts_at self.entry ≡ []) }
         ensures at { IfOk result (λ w. NoGap w.text) }
         ensures shorter { IfOk result (λ w. length w.text ≤ length self.entry.text) }
@@ -236,9 +247,11 @@ impl<'a> ZoneTokens<'a> {
         requires some { 0 < length self.text }
         requires no_gap { NoGap self.text }
         ensures token { IfOk result (λ r. tokens_at self.entry ≡ with_token (token_value r.0) (tokens_read_from (between self.entry.depth true) r.1.now)) }
+        ensures seen { IfOk result (λ r. seen_at self.entry ≡ token_value r.0 ∷ seen_from (between self.entry.depth true) r.1.now) }
         ensures left { IfOk result (λ r. lefts_at self.entry ≡ (length self.entry.text, length r.1.now) ∷ lefts_from (between self.entry.depth true) r.1.now) }
         ensures shorter { IfOk result (λ r. length r.1.now < length self.entry.text) }
         ensures refused { IfErr result (λ e. tokens_at self.entry ≡ Err e) }
+        ensures none_seen { OnErr result (seen_at self.entry ≡ []) }
         ensures none_left { OnErr result (lefts_at self.entry ≡ []) }
     {
         let rest = self.rest;
@@ -281,6 +294,7 @@ fn ends_run(octet: u8) -> bool
 #[inline]
 fn behind_comment(text: &[u8]) -> &[u8]
     ensures within { (depth : ℕ) → tokens_read_from (comment depth) text.now ≡ tokens_read_from (between depth false) result.now }
+    ensures seen { (depth : ℕ) → seen_from (comment depth) text.now ≡ seen_from (between depth false) result.now }
     ensures left { (depth : ℕ) → lefts_from (comment depth) text.now ≡ lefts_from (between depth false) result.now }
     ensures over { tokens_read_from over_comment text.now ≡ tokens_read_from over result.now }
     ensures shorter { length result.now ≤ length text.now }
@@ -296,6 +310,7 @@ fn behind_comment(text: &[u8]) -> &[u8]
 // end, say: `next_other` then finds the error.
 #[inline(always)]
 fn near_token<'a>(text: &'a [u8], joined: bool) -> Option<(ZoneToken<'a>, &'a [u8])>
+    ensures seen { IfSome result (λ r. (depth : ℕ) → seen_from (between depth joined) text.now ≡ token_value r.0 ∷ seen_from (between depth true) r.1.now) }
     ensures token { IfSome result (λ r. (depth : ℕ) → tokens_read_from (between depth joined) text.now ≡ with_token (token_value r.0) (tokens_read_from (between depth true) r.1.now)) }
     ensures shorter { IfSome result (λ r. length r.1.now < length text.now) }
 {
@@ -321,6 +336,7 @@ fn near_token<'a>(text: &'a [u8], joined: bool) -> Option<(ZoneToken<'a>, &'a [u
 // The token of the octets before the `"` that closes the quotes, and the text after it; `None` if nothing closes them.
 #[inline(always)]
 fn quoted_token<'a>(text: &'a [u8], joined: bool) -> Option<(ZoneToken<'a>, &'a [u8])>
+    ensures seen { IfSome result (λ r. (depth : ℕ) → seen_from (quotes depth joined []) text.now ≡ token_value r.0 ∷ seen_from (between depth true) r.1.now) }
     ensures token { IfSome result (λ r. (depth : ℕ) → tokens_read_from (quotes depth joined []) text.now ≡ with_token (token_value r.0) (tokens_read_from (between depth true) r.1.now)) }
     ensures shorter { IfSome result (λ r. length r.1.now < length text.now) }
 {
@@ -337,6 +353,7 @@ fn quoted_token<'a>(text: &'a [u8], joined: bool) -> Option<(ZoneToken<'a>, &'a 
 #[inline(always)]
 fn behind_blank(text: &[u8], joined: bool) -> (&[u8], bool)
     ensures same { (depth : ℕ) → tokens_read_from (between depth joined) text.now ≡ tokens_read_from (between depth result.1) result.0.now }
+    ensures same_seen { (depth : ℕ) → seen_from (between depth joined) text.now ≡ seen_from (between depth result.1) result.0.now }
     ensures shorter { length result.0.now ≤ length text.now }
 {
     if text.len() > 0 && text[0] == b' ' {
@@ -445,9 +462,10 @@ fn quiet_behind_escape(text: &[u8]) -> usize
 }
 
 // After the end of the line only blanks, line ends and comments may be left.
-#[tactic(auto, using(crate::proofs::TokenSteps::further, crate::proofs::TokenSteps::over_left))]
+#[tactic(auto, using(crate::proofs::TokenSteps::further, crate::proofs::TokenSteps::over_left, crate::proofs::TokenSteps::over_seen))]
 fn line_is_over(text: &[u8]) -> Result<(), TokensError>
     ensures ok { OnOk result (tokens_read_from over text.now ≡ Ok []) }
+    ensures none_seen { seen_from over text.now ≡ [] }
     ensures none_left { lefts_from over text.now ≡ [] }
     ensures refused { IfErr result (λ e. tokens_read_from over text.now ≡ Err e) }
 {

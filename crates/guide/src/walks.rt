@@ -1,4 +1,4 @@
-//! Walks over the records of a message that end at a limit of labels and compression pointers, or go on where another one
+//! Walks over the records of a message that end at a limit of labels and steps, or go on where another one
 //! was.
 
 use crate::response::RESPONSE;

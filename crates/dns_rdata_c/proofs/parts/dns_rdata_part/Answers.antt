@@ -26,6 +26,11 @@ returns-then-end-octets-clause-refused c = λ high.
     no_value (rw c.from-record_type.ensures.0 at (sym c.is_partless.ensures ∙ c.if-is_partless.false))
     (returns-then-end-octets-clause-damaged c (omega (arith, high, c.stub_status.ensures.status)))
 
+pub returns-then-end-octets-clause-front : goal.returns-then-end-octets-clause-front
+returns-then-end-octets-clause-front c = λ is none.
+    let some = rw (c.from-record_type.ensures.0, c.in-Some.ensures.1) at c.in-Some-front_end.ensures in
+    let both = sym none ∙ some in absurd (cc both)
+
 pub returns-in_default-found-clause-absent : goal.returns-in_default-found-clause-absent
 returns-in_default-found-clause-absent c = λ is.
     let few = c.walk_parts-found.ensures.part _ _ (parts_fill c.in-Some-front_end.ensures c.walk_parts-found.ensures.parts c.if-end-octets.false) in

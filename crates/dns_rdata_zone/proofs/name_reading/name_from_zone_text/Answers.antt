@@ -9,7 +9,7 @@ returns-in_err-octets-clause-refused c = name_refused c.from_residual.result _ (
 
 pub returns-in_err-octets-clause-why : goal.returns-in_err-octets-clause-why
 returns-in_err-octets-clause-why c = name_fault c.from_residual.result _ (option_copied c.args.origin) c.args.text.now _ c.new.result
-    c.from_residual.ensures.1 c.new.ensures.tokens c.in_err-octets.ensures.why refl refl
+    c.from_residual.ensures.1 c.new.ensures.tokens c.new.ensures.seen c.in_err-octets.ensures.why refl refl
 
 pub returns-clause-found : goal.returns-clause-found
 returns-clause-found c = name_found c.whole_name.result (option_copied c.args.origin) c.args.text.now c.in_ok-octets.octets c.as_slice.result.now c.new.result

@@ -19,11 +19,11 @@ returns-then-token-clause-reads c = none_among c.tokens.invariant (token_value c
 
 pub returns-then-token-clause-why : goal.returns-then-token-clause-why
 returns-then-token-clause-why c = inr (fault_among c.tokens.invariant (token_value c.in-Some.token) c.next_token.new.self
-    (rw c.in-Some.is at c.in_ok-token.ensures.token) (λ tokens are. none_quoted _ tokens are.bare) (refl, c.if-token.true))
+    (rw c.in-Some.is at c.in_ok-token.ensures.seen) (λ tokens are. none_quoted _ tokens are.bare) (refl, c.if-token.true))
 
 pub tokens-preserved : goal.tokens-preserved
 tokens-preserved c = one_taken c.tokens.invariant (token_value c.in-Some.token) c.next_token.new.self (rw c.in-Some.is at c.in_ok-token.ensures.token)
-    (one_joined (token_value c.in-Some.token) c.if-token.false c.in_ok-extend_from_slice-in-Some.ensures.items)
+    (rw c.in-Some.is at c.in_ok-token.ensures.seen) (one_joined (token_value c.in-Some.token) c.if-token.false c.in_ok-extend_from_slice-in-Some.ensures.items)
 
 pub returns-in-None-clause-reads : goal.returns-in-None-clause-reads
 returns-in-None-clause-reads c = record {
@@ -35,4 +35,5 @@ returns-in-None-clause-reads c = record {
 pub returns-in_err-token-clause-why : goal.returns-in_err-token-clause-why
 returns-in_err-token-clause-why c =
     exit_why (Says (undivided_text c.in_err-token.field-0.0)) _ c.from_residual-in_err-token.result c.from_residual-in_err-token.ensures.1
-    (λ e says. inr (undivided_why c.tokens.invariant c.in_err-token.ensures.refused says))
+    (λ e says. inr (undivided_why c.tokens.invariant c.in_err-token.ensures.refused c.in_err-token.ensures.none_seen
+    (λ tokens are. none_quoted _ tokens are.bare) says))

@@ -20,6 +20,7 @@ returns-in-Err-clause-kept c = hex_front c.tokens.invariant.are
 
 pub tokens-preserved : goal.tokens-preserved
 tokens-preserved c = one_taken c.tokens.invariant (token_value c.in-Ok-Some.token) c.next_token.new.self (rw c.in-Ok-Some.field-0-is at c.in-Ok-Some.ensures.token)
+    (rw c.in-Ok-Some.field-0-is at c.in-Ok-Some.ensures.seen)
     (hex_more (token_value c.in-Ok-Some.token) c.if-token.false c.if-not-put_digits.ensures.put)
 
 pub returns-in-Ok-None-clause-put : goal.returns-in-Ok-None-clause-put
