@@ -88,8 +88,8 @@ told_equal r s b is =
           (types.0 (first_so _ (pointwise ◌==◌ (octets_shown r) (octets_shown s)) e), octets.0 (second_so (record_type_eq (type_shown r) (type_shown s)) _ e)),
       λ h. is ∙ both_so (types.1 h.0) (octets.1 h.1),
     ) where
-  both_so : {a b : Bool} → a ≡ true → b ≡ true → (a && b) ≡ true
-  both_so {a} {b} p q = (λ i. p i && q i)
+      both_so : {a b : Bool} → a ≡ true → b ≡ true → (a && b) ≡ true
+      both_so {a} {b} p q = (λ i. p i && q i)
 
 -- ---- views of values that were read
 

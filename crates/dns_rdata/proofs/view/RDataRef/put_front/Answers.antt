@@ -1,5 +1,5 @@
 use Rattle.dns_rdata.proofs.ViewOrder.{put_shown}
-use Rattle.dns_rdata.proofs.view_order.RDataRef.put_front.Goals as goal
+use Rattle.dns_rdata.proofs.view.RDataRef.put_front.Goals as goal
 
 pub returns-clause-count : goal.returns-clause-count
 returns-clause-count c = (put_shown c.args.self.now 1024 c.told-out c.put_canonical.ensures).0
