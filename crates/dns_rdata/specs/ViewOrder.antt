@@ -37,7 +37,7 @@ one_list m p n row fills a b = Σ_prop_path (λ s. Π_prop (λ h. Coded-set (cod
     (∥∥₁_elim fills (Coded-set (coded_list coded_ℕ) _ _) (λ f. a.1 f.has ∙ sym (b.1 f.has)))
 
 -- those of the fields that fill n octets: fields that are encoded there are one list
-row_octets : (m : List ℕ) (p n : ℕ) (row : List Part) → ∥ FillsRow m p n row ∥₁ → is_row row ≡ true → RowOctets m p row (p + n)
+pub row_octets : (m : List ℕ) (p n : ℕ) (row : List Part) → ∥ FillsRow m p n row ∥₁ → is_row row ≡ true → RowOctets m p row (p + n)
 row_octets m p n row fills checked = ∥∥₁_elim fills (one_list m p n row fills) (λ f. (
   canonical (kinds_of row) f.has.values,
   λ h. ap (canonical (kinds_of row)) (stands_same m p (kinds_of row) f.has.values h.values (p + n) (shape_of row (row_tested row checked).ordered)
