@@ -12,6 +12,7 @@ pub mod RowErrors
 pub mod ListErrors
 pub mod OptionErrors
 pub mod Views
+pub mod ViewOrder
 pub mod OrderKeys
 pub mod ViewLists
 pub mod ViewFields

@@ -317,8 +317,14 @@ filled_as {m} {l} {p} {q} {n} {k} {parts} {others} a b c d f =
     subst (λ (x : List ℕ). FillsRow x q k others) a
     (subst (λ (x : ℕ). FillsRow m x k others) b (subst (λ (x : ℕ). FillsRow m p x others) c (subst (λ (x : List Part). FillsRow m p n x) d f)))
 
-pub view_found : (t : RecordType) (n : ℕ) (old d : Reading) (parts : List Part) (r : RowView) → d ≡ old → parts ≡ parts_of (table t) → (IsNeverRead t → ⊥)
-    → row_view.IsViewOf d n parts r × (r.record_type ≡ t) → IsViewOf old.message old.index n t (record { view = r })
+-- the row of a view is that of its type
+pub view_row : {t : RecordType} {parts : List Part} {d : Reading} {n : ℕ} {r : RowView} → parts ≡ parts_of (table t) → row_view.IsViewOf d n parts r × (r.record_type ≡ t)
+    → ∥ r.row.now ≡ parts_of (table r.record_type) ∥₁
+view_row is v = ∣ v.0.row ∙ is ∙ ap (λ (x : RecordType). parts_of (table x)) (sym v.1) ∣₁
+
+pub view_found : (t : RecordType) (n : ℕ) (old d : Reading) (parts : List Part) (r : RowView) {typed : ∥ r.row.now ≡ parts_of (table r.record_type) ∥₁} → d ≡ old
+    → parts ≡ parts_of (table t) → (IsNeverRead t → ⊥) → row_view.IsViewOf d n parts r × (r.record_type ≡ t)
+    → IsViewOf old.message old.index n t (record { view = r; row = typed })
 view_found t n old d parts r same is read v =
     let w : row_view.IsViewOf old n (parts_of (table t)) r =
     subst (λ (x : List Part). row_view.IsViewOf old n x r) is (subst (λ (x : Reading). row_view.IsViewOf x n parts r) same v.0) in

@@ -13,6 +13,7 @@ pub mod Texts
 pub mod WholeOctets
 pub mod Steps
 pub mod Views
+pub mod ViewOrder
 pub mod ViewLists
 pub mod ViewFields
 pub use Rattle.dns_fields.specs.Octets

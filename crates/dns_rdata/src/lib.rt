@@ -9,6 +9,7 @@ mod tokens;
 pub mod traits;
 pub mod view;
 pub mod view_fields;
+mod view_order;
 
 pub use canonical::CanonicalOctets;
 pub use dns_names_wire::{

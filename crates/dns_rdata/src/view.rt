@@ -24,9 +24,14 @@ use std::net::{IpAddr, Ipv4Addr, Ipv6Addr};
 ///
 /// [`read`](RDataRef::read) succeeds exactly where [`RData::read`] returns a value, and never fails for memory, since it
 /// allocates nothing. A copy is cheap.
+///
+/// `==`, `Ord` and `Hash` go by the type and the canonical octets and allocate nothing, so views can be sorted and can be the
+/// keys of sets and maps. `==` is that of the values; of two views of one type, so is the order.
 #[derive(Clone, Copy)]
 pub struct RDataRef<'a> {
-    view: RowView<'a>,
+    pub(crate) view: RowView<'a>,
+    // The row is that of the type.
+    ghost row: { ∥ view.row.now ≡ parts_of (table view.record_type) ∥₁ },
 }
 
 // The row of a type and its front; `None` if RDATA of the type is never read.

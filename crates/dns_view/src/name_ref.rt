@@ -68,6 +68,7 @@ fn plain_octets(message: &[u8], offset: usize, out: &mut [u8; 255]) -> usize
 }
 
 impl<'a> NameRef<'a> {
+    ghost use Rattle.dns_fields.specs.Comparing.{name_eq};
     ghost use Rattle.dns_view.specs.LabelList.{labels_at};
 
     /// The name at an offset of a message, where the caller knows that one is encoded. [`read`](NameRef::read) finds out.
@@ -151,6 +152,19 @@ impl<'a> NameRef<'a> {
         ensures octets { result ≡ slice_cmp nat_cmp (low_octets self.now.message.now self.now.offset) (low_octets other.now.message.now other.now.offset) }
     {
         compare_names(self.message, self.offset, other.message, other.offset)
+    }
+
+    /// Whether it is this name: `name` is fully qualified and has the same labels without ASCII case. It is `==` of the
+    /// name that [`to_name`](NameRef::to_name) makes. Allocates nothing.
+    pub fn is_name(&self, name: &Name) -> bool
+        ensures { (x : DomainName) (q : ℕ) → IsNameIn self.now.message.now self.now.offset x q → result ≡ name_eq x name.now }
+    {
+        if !name.is_fqdn() {
+            return false;
+        }
+        let mut octets = [0; NAME_OCTETS];
+        let count = plain_octets(self.message, self.offset, &mut octets);
+        octets[..count].eq_ignore_ascii_case(name.label_octets())
     }
 }
 

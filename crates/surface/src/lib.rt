@@ -13,6 +13,8 @@ use dns_rdata::{
     A, AAAA, BinDecoder, DecodeError, MX, Name, RDataRef, RecordType, RecordTypeSet, Restrict,
     SVCB, TXT,
 };
+use std::alloc::AllocError;
+use std::collections::HashSet;
 use std::net::{Ipv4Addr, Ipv6Addr};
 
 /// The numbers of the enums of 16 bits.
@@ -57,6 +59,19 @@ pub fn looked_at<'a>(
 ) -> Result<&'a [u8], DecodeError> {
     let data = RDataRef::read(decoder, record_type, Restrict::new(length))?;
     Ok(data.octets())
+}
+
+/// Sorts views by type, and of one type as their values. Allocates nothing.
+pub fn sort_views(views: &mut [RDataRef<'_>]) {
+    views.sort_unstable();
+}
+
+/// Whether no earlier view is equal. Keeps the view, and makes no value.
+pub fn is_new<'a>(
+    seen: &mut HashSet<RDataRef<'a>>,
+    view: RDataRef<'a>,
+) -> Result<bool, AllocError> {
+    Ok(seen.insert(view)?)
 }
 
 /// An IPv4 address.

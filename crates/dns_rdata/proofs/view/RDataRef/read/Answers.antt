@@ -1,5 +1,5 @@
 use Rattle.std.proofs.Common.{◌∙◌, ap, refl}
-use Rattle.dns_rdata.proofs.Views.{rows_checked, starts_at, view_found}
+use Rattle.dns_rdata.proofs.Views.{rows_checked, starts_at, view_found, view_row}
 use Rattle.dns_view.specs.Rows.{is_row}
 use Rattle.dns_rdata.proofs.view.RDataRef.read.Goals as goal
 
@@ -11,3 +11,6 @@ returns-in-Some-near-clause-found c =
     view_found c.args.record_type c.args.length c.args.decoder.now _ c.in-Some.parts.now c.in-Some-near.view
     (starts_at refl c.message.ensures c.index-start.ensures.offset) c.in-Some.ensures.some c.in-Some.ensures.read
     (rw c.unverified-len.ensures at c.in-Some-near.ensures.found)
+
+pub invariant_of-result : goal.invariant_of-result
+invariant_of-result c = record { row = view_row c.in-Some.ensures.some c.in-Some-near.ensures.found }

@@ -2,7 +2,7 @@ use Rattle.std.proofs.Common.{◌≢◌, ◌∙◌, ap, refl}
 use Rattle.dns_types.specs.declared.error.DecodeError.TheVariants as decode
 use Rattle.dns_view.specs.Rows.{is_row}
 use Rattle.dns_rdata.specs.ReadErrors.{IsReadError}
-use Rattle.dns_rdata.proofs.Views.{rows_checked, starts_at, view_found, view_none, view_why}
+use Rattle.dns_rdata.proofs.Views.{rows_checked, starts_at, view_found, view_row, view_none, view_why}
 use Rattle.dns_rdata.proofs.Steps.{never_followed, row_followed}
 use Rattle.dns_rdata.proofs.view.RDataRef.read_in.Goals as goal
 
@@ -54,3 +54,9 @@ pub returns-in-Some-near-clause-steps : goal.returns-in-Some-near-clause-steps
 returns-in-Some-near-clause-steps c =
     row_followed c.args.record_type c.in-Some.parts.now c.args.length c.args.walk.now _ _ c.in-Some.ensures.some
     (rw (c.message.ensures, c.index-start.ensures.offset, c.unverified-len.ensures) at c.in-Some-near.ensures.steps)
+
+pub invariant_of-result : goal.invariant_of-result
+invariant_of-result c = record { row = view_row c.in-Some.ensures.some c.in-Some-near.ensures.found }
+
+pub invariant_of-result-in-Ok : goal.invariant_of-result-in-Ok
+invariant_of-result-in-Ok c = record { row = view_row c.in-Some.ensures.some c.in-Ok.ensures.found }

@@ -2,7 +2,7 @@ use Rattle.std.proofs.Common.{◌≡◌, ◌≢◌, ◌∙◌, ◌-◌, ap, arit
 use Rattle.dns_types.specs.declared.error.DecodeError.TheVariants as decode
 use Rattle.dns_names_wire.specs.State.{Reading}
 use Rattle.dns_rdata.specs.ReadErrors.{IsReadError}
-use Rattle.dns_rdata.proofs.Views.{rows_checked, starts_at, moved, view_found, view_none, view_why}
+use Rattle.dns_rdata.proofs.Views.{rows_checked, starts_at, moved, view_found, view_row, view_none, view_why}
 use Rattle.dns_view.specs.Rows.{is_row}
 use Rattle.dns_rdata.proofs.view.RDataRef.read_row.Goals as goal
 
@@ -37,3 +37,6 @@ returns-in-Err-clause-why c = (why c).0
 
 pub returns-in-Err-clause-allocates_nothing : goal.returns-in-Err-clause-allocates_nothing
 returns-in-Err-clause-allocates_nothing c = (why c).1
+
+pub invariant_of-result : goal.invariant_of-result
+invariant_of-result c = record { row = view_row c.requires.parts c.in-Ok.ensures.found }
