@@ -239,9 +239,11 @@ no_labels w p before none = λ n (l : PassesLabel w p before n). none (omega (ar
 -- one label of one octet is passed, and then there is an octet that is no length of one
 one_label : (w : List ℕ) (p before : ℕ) → get_or w p 0 ≡ 1 → p + 2 < length w → before + 2 ≤ 254
     → (1 ≤ get_or w (p + 2) 0 → get_or w (p + 2) 0 ≤ 63 → ⊥) → PassesLabels 1 w p before
-one_label w p before size behind room none =
-    (1, record { size = size; some = omega arith; most = omega arith; followed = omega (arith, behind); room = omega (arith, room) },
-    no_labels w (p + 2) (before + 2) none)
+one_label w p before size behind room none = (
+  1,
+  record { size = size; some = omega arith; most = omega arith; followed = omega (arith, behind); room = omega (arith, room) },
+  no_labels w (p + 2) (before + 2) none,
+)
 
 -- `a.` at the front, which the name has after so many octets
 last_label : (behind : List ℕ) (before : ℕ) → before + 2 ≤ 254 → Follows 0 1 (0x01 ∷ 0x61 ∷ 0x00 ∷ behind) 0 before

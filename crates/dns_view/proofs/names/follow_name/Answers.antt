@@ -28,8 +28,7 @@ pub runs-preserved : goal.runs-preserved
 runs-preserved c =
     let passed = c.pass_run-passed-in-Some-next.ensures in
     let some = rw c.in-Some-run.is at passed.some in
-    let end = rw c.in-Some-run.is at passed.end in
-    (
+    let end = rw c.in-Some-run.is at passed.end in (
       going_next (rw c.in-Some-next.is at c.runs.invariant.0) (omega arith) some,
       c.runs.invariant.1,
       chased_next (rw c.in-Some-next.is at c.runs.invariant.2) _ (omega arith) some passed.labels end.1,

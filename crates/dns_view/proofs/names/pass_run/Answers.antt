@@ -22,8 +22,7 @@ returns-then-first-lt192-clause-none c = λ front stop end run room.
 
 pub labels-preserved : goal.labels-preserved
 labels-preserved c =
-    let i = c.labels.invariant in
-    (
+    let i = c.labels.invariant in (
       one_longer i.0 i.1 (omega arith) (omega arith) (omega arith) (omega (arith, i.0.so.at_is)),
       refl,
       omega arith,
