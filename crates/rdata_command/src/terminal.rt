@@ -16,13 +16,13 @@ fn line_feeds(text: &str) -> usize {
 pub fn visible(alloc: Global, written: &str) -> Result<String, AllocError> {
     let lines = line_feeds(written);
     let mut shown = String::new(alloc);
-    let mut line = 0;
+    let mut line = 0usize;
     for character in written.chars() {
         let ends = character == '\n';
         if ends {
-            line += 1;
+            line = line.saturating_add(1);
         }
-        if character.is_control() && !(ends && (line == 1 || line + 3 > lines)) {
+        if character.is_control() && !(ends && (line == 1 || line.saturating_add(3) > lines)) {
             write!(shown, "\\x{:02x}", character as u32)?;
         } else {
             shown.push(character)?;
