@@ -279,7 +279,7 @@ pub struct RecordError<'a> {
 
 impl<'a> RecordError<'a> {
     /// The error: of RDATA that is rejected that of [`Rdata::from_wire`], and otherwise one whose status is [`Status::Record`] or
-    /// [`Status::Pointers`].
+    /// [`Status::Limit`].
     #[must_use]
     pub fn error(&self) -> Error {
         self.error
