@@ -2,7 +2,8 @@
 
 Of each run the requests are counted (tests/requests.c). Then the Nth and every later one is refused, for each N: `rdata` must
 print `memory` alone, with status 3, and `zone_text` nothing, with status 1; `zone_text message` at most the beginning of its
-result. And the Nth alone is refused: the answer is the same, or, where the program asks again for less and gets that, the full
+result. What `rdata` tells beside a result, a reason or that a word is left out, is made after the result is written: if a request
+of that part is refused, the result is as it was and nothing is told. And the Nth alone is refused: the answer is the same, or, where the program asks again for less and gets that, the full
 one. `zone_text` is run on the stored texts, on the records that it prints in the gate, and on the messages of tests/messages,
 with the requests refused from the Nth on. The last line is 'N as wanted, M not'.
 
@@ -34,15 +35,21 @@ ALONE = 40
 def answer(run, **environment):
     """What a run, a program's words and its standard input, prints, and its status, with these variables.
 
-    `rdata` writes a reason to standard error if it prints `refused`, and nothing otherwise: else that is added to what it prints.
+    `rdata` may write to standard error if it prints `refused`, or a value of a text, and not otherwise: else that is added to what
+    it prints.
     """
     words, line = run
     errors = subprocess.PIPE if line is None else subprocess.DEVNULL
     source = {"stdin": subprocess.DEVNULL} if line is None else {"input": line}
     done = subprocess.run(words, stdout=subprocess.PIPE, stderr=errors, env=environment, close_fds=False, **source)
-    if line is None and bool(done.stderr) != (done.stdout == REFUSED):
+    if line is None and done.stderr and not may_tell(words, (done.stdout, done.returncode)):
         return done.stdout + b"standard error: " + done.stderr, done.returncode
     return done.stdout, done.returncode
+
+
+def may_tell(words, full):
+    """Whether `rdata` may tell something beside this result: why it rejects, or that the last word of a text changes nothing."""
+    return full[0] == REFUSED or full[1] == 0 and words[1:2] == ["parse"]
 
 
 def requests_of(counter, run):
@@ -59,11 +66,15 @@ def refusals(counter, run, kinds, refused, wanted):
     if wanted not in (None, full):
         bad.append(f"{run}: {full} in place of {wanted}")
     for kind in kinds:
+        is_written = False
         for number in range(1, count + 2):
             name = "REQUESTS_ALONE" if kind == "alone" else "REQUESTS_REFUSE"
             came = answer(run, LD_PRELOAD=counter, **{name: str(number)})
             is_begun = refused == BEGUN and came[1] == 1 and came[0] != full[0] and full[0].startswith(came[0])
-            if came == (refused if number <= count else full) or kind == "alone" and came == full or number <= count and is_begun:
+            # Once the result is written, it is so with every later request refused, too.
+            is_written = is_written or number > 1 and run[1] is None and came == full and may_tell(run[0], full)
+            wants = full if number > count or is_written else refused
+            if came == wants or kind == "alone" and came == full or number <= count and is_begun:
                 good[kind] += 1
             else:
                 bad.append(f"request {number} of {count} refused ({kind}) of {run}: {came}")
