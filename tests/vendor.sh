@@ -36,9 +36,9 @@ other() {
 upgrade() {
   mkdir -p "$to/crates/dns_gone" && echo 'crate dns_gone 0' >>"$to/crates/dns_rdata/VENDORED" || return 1
   sed -i 's/^dns_rows:.*/dns_rows: other/' "$to/crates.txt"
-  printf 'dns_gone: dns_rows\nmine: dns_rdata\n' >>"$to/crates.txt"
+  printf 'dns_gone: dns_rows\n# mine\n' >>"$to/crates.txt"
   "$top/tools/vendor.sh" "$to" zone || return 1
-  [ ! -d "$to/crates/dns_gone" ] && ! grep -q '^dns_gone:' "$to/crates.txt" && grep -q '^mine: dns_rdata$' "$to/crates.txt" &&
+  [ ! -d "$to/crates/dns_gone" ] && ! grep -q '^dns_gone:' "$to/crates.txt" && grep -q '^# mine$' "$to/crates.txt" &&
     [ "$(grep '^dns_rows:' "$to/crates.txt")" = "$(grep '^dns_rows:' "$top/crates.txt")" ]
 }
 
