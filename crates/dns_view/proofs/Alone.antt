@@ -5,7 +5,6 @@ use Rattle.std.proofs.Math.Seq.{take-add}
 use Rattle.dns_fields.specs.declared.Kind.{Kind}
 use Rattle.dns_fields.specs.declared.Kind.TheVariants.{Options, Parameters, Bitmap}
 use Rattle.dns_fields.specs.{Octets.At, Tlvs.IsTruncated, Fields.Value, Fields.IsField, Fields.Field}
-use Rattle.dns_view.specs.Putting.{IsRecoded}
 
 -- octets between two offsets
 pub between_is : {m s : List ℕ} {i p : ℕ} → At m i s p → take (p - i) (drop i m) ≡ s
@@ -72,9 +71,3 @@ options_alone v same (inr h) = inr (
     cut = subst (λ (n : ℕ). IsTruncated n h.1.stub) (size_alone h.1.at same) h.1.cut;
   },
 )
-
-pub recoded_alone : {m s : List ℕ} {i q : ℕ} (k : Kind) (v : Value k) → IsRecoded k → s ≡ take (q - i) (drop i m) → Field m i k v q → Field s 0 k v (length s)
-recoded_alone Options v r same f = record { is = options_alone v same f.is }
-recoded_alone Parameters v r same f = parameters_alone v same f
-recoded_alone Bitmap v r same f = bitmap_alone v same f
-recoded_alone k v r same f = absurd r

@@ -13,7 +13,7 @@ use Rattle.dns_rows.specs.{Table.kinds_of}
 use Rattle.dns_view.specs.Rows.{IsRow, HasRow}
 use Rattle.dns_view.specs.RowOrder.{IsPlain, ArePlain}
 use Rattle.dns_view.specs.Putting.{Put, PutName, IsRecoded, form_octets, all_form}
-use Rattle.dns_view.proofs.{RowLoop.behind_row, RowLoop.field_reaches, Puts.put_then, Puts.put_none, Alone.between_is, Alone.recoded_alone}
+use Rattle.dns_view.proofs.{RowLoop.behind_row, RowLoop.field_reaches, Puts.put_then, Puts.put_none, Alone.between_is, Recoded.recoded_alone}
 use Rattle.dns_view.proofs.{Alone.slice, Alone.slice_at, Alone.whole_slice, RowOrder.behind_first, RowOrder.none_at, RowOrder.no_more}
 
 -- ---- fields that are copied

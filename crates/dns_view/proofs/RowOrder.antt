@@ -19,7 +19,7 @@ use Rattle.dns_rows.specs.declared.row.Rule.TheVariants.{Free}
 use Rattle.dns_rows.specs.{Table.kinds_of, Rules.MeetsRow}
 use Rattle.dns_view.specs.{NameEnds.OrdersNames, Parts.Reaches, Putting.IsRecoded, Putting.Put, Rows.IsRow, Rows.HasRow}
 use Rattle.dns_view.specs.RowOrder.{IsPlain, ArePlain, Sized}
-use Rattle.dns_view.proofs.{Alone.between_is, Alone.whole_slice, Alone.recoded_alone, Asked.asks_split, Puts.put_fits, RowLoop.behind_row}
+use Rattle.dns_view.proofs.{Alone.between_is, Alone.whole_slice, Recoded.recoded_alone, Asked.asks_split, Puts.put_fits, RowLoop.behind_row}
 use Rattle.dns_view.proofs.{RowLoop.field_reaches}
 
 pub cmp_same : (s : List ℕ) → slice_cmp nat_cmp s s ≡ Equal

@@ -1,5 +1,5 @@
 -- The blocks of a bitmap of type numbers (RFC 4034, 4.1.2).
-use Rattle.std.specs.Prelude.{◌≡◌, ℕ, ◌-◌, ◌≤◌, List, ◌++◌, length, slice_index}
+use Rattle.std.specs.Prelude.{◌≡◌, ℕ, zero, suc, ◌-◌, ◌≤◌, Bool, true, false, List, ◌∷◌, [], ◌++◌, length, slice_index}
 use Rattle.std.specs.List.{flat_map, AllByRecursion}
 use Rattle.dns_fields.specs.Bitmaps.{Block, block, IsBlock}
 
@@ -28,3 +28,13 @@ pub record AreBlocks (octets : List ℕ) : Type 0 where
 -- they are not
 pub record NoBlocks (octets : List ℕ) : Type 0 where
   pub none : (blocks : List Block) → AllByRecursion IsBlock blocks → octets ≡ flat_map block blocks → ⊥
+
+-- a number before others, if it is listed
+abbrev pub with_type : Bool → ℕ → List ℕ → List ℕ
+with_type true t ts = t ∷ ts
+with_type false t ts = ts
+
+-- of the n numbers from t on those that pass the test
+abbrev pub types_from : (ℕ → Bool) → ℕ → ℕ → List ℕ
+types_from test t zero = []
+types_from test t (suc n) = with_type (test t) t (types_from test (suc t) n)

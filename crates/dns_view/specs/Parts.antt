@@ -15,17 +15,6 @@ use Rattle.dns_rows.specs.declared.row.Rule.TheVariants as rules
 use Rattle.dns_rows.specs.Rules.{AreLetters, also}
 use Rattle.dns_view.specs.{Tags.TagFault, Parameters.IsParametersError, Options.IsOptionsError}
 
--- the decoder at another offset of its message
-abbrev pub moved : Reading → ℕ → Reading
-moved d index = record { message = d.message; index = index }
-
--- some value of the kind was taken
-pub record TookSome (old : Reading) (k : Kind) (new : Reading) : Type 0 where
-  pub value : Value k
-  pub took : TookField old k value new
-
--- ---- one field
-
 -- what a rule asks of a field
 abbrev pub Asks : Rule → (k : Kind) → Value k → Type 0
 Asks rule k v = also rule k v (Unit {0})

@@ -9,7 +9,8 @@ ghost use Rattle.dns_view.specs.Parts.{Reaches};
 ghost use Rattle.dns_view.specs.{Putting.IsRecoded, Rows.IsRowChecked, Rows.IsRow, Rows.HasRow};
 ghost use Rattle.dns_view.specs.RowOrder.{IsPlain, ArePlain, Sized};
 
-use crate::coded_order::{compare_bitmaps, compare_parameters};
+use crate::coded_order::compare_bitmaps;
+use crate::parameter_order::compare_parameters;
 use crate::ends::{fields_to_visit, is_plain, plain_end};
 use crate::name_order::order_names;
 use crate::option_order::compare_options;

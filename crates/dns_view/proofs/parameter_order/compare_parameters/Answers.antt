@@ -1,6 +1,6 @@
 use Rattle.dns_view.proofs.HeldLists.{EndsAt}
 use Rattle.dns_view.proofs.ParameterOrder.{both_first, longer, shorter, both_done, heads_differ, bodies_differ, both_more}
-use Rattle.dns_view.proofs.coded_order.compare_parameters.Goals as goal
+use Rattle.dns_view.proofs.parameter_order.compare_parameters.Goals as goal
 
 pub tlvs-init : goal.tlvs-init
 tlvs-init c = both_first c.args.a.now c.args.b.now

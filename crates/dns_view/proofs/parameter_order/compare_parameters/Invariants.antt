@@ -1,6 +1,6 @@
 use Rattle.std.proofs.Common.{length, ◌-◌}
 use Rattle.dns_view.proofs.ParameterOrder.{BothAt}
-use Rattle.dns_view.proofs.coded_order.compare_parameters.Given as goal
+use Rattle.dns_view.proofs.parameter_order.compare_parameters.Given as goal
 
 abbrev pub invariant-tlvs : goal.invariant-tlvs
 invariant-tlvs l = BothAt l.a l.i l.b l.j
