@@ -3,7 +3,7 @@ use Rattle.std.proofs.Common.{◌≡◌, ℕ, ◌+◌, ◌≤◌, ◌<◌, List,
 use Rattle.dns_fields.specs.{Fields.Field, Labels.DomainName, Names.IsNameIn}
 use Rattle.dns_fields.specs.declared.Kind.{TheVariants.Number, TheVariants.Name}
 use Rattle.dns_fields.proofs.FieldLaws.{field_end, field_same}
-use Rattle.dns_view.specs.NameEnds.{NameEnds}
+use Rattle.dns_names_wire.specs.NameEnds.{NameEnds}
 use Rattle.dns_message.specs.{Entries.EndsAfterName, Questions.NoQuestion}
 use Rattle.dns_message.specs.Records.{Record, HasFields, NoRecord, LengthPasses}
 use Rattle.dns_message.specs.Readings.{IsAsked, IsFound}

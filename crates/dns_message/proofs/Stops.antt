@@ -1,7 +1,7 @@
 -- Why the walk ends at a question or a record.
 use Rattle.std.proofs.Common.{◌≡◌, ℕ, ◌+◌, ◌<◌, List, Result, Ok, Err, refl, arith}
 use Rattle.std.specs.{Result.IfErr, Result.OnOk}
-use Rattle.dns_view.specs.Steps.{NameSteps, Leaves}
+use Rattle.dns_names_wire.specs.Steps.{NameSteps, Leaves}
 use Rattle.dns_message.specs.declared.error.Fault.{Fault}
 use Rattle.dns_message.specs.declared.error.Fault.TheVariants as faults
 use Rattle.dns_message.specs.declared.{reading.Asked.Asked, reading.FixedFields.FixedFields}

@@ -8,7 +8,7 @@ use Rattle.dns_canonical.proofs.Cursors.{emittable_short}
 use Rattle.dns_rdata_base.specs as base
 use Rattle.dns_rdata_options.specs as options
 use Rattle.dns_rdata_service.specs as service
-use Rattle.dns_rdata_caa_csync.specs as caa_csync
+use Rattle.dns_rdata_policy.specs as caa_csync
 use Rattle.dns_rdata.specs.{declared.record_data.RData.RData, Data.fields_of, Data.data_octets}
 use Rattle.dns_rdata.specs.Cursor.{can_emit, data_left, data_windows, data_options, data_options_left, data_course, DataAt, DataKept}
 use Rattle.dns_rdata.specs.declared.record_data.RData.TheVariants as rdata

@@ -14,7 +14,7 @@ use Rattle.dns_rdata_base.specs.{declared.null.NULL.NULL, Counted.by_length}
 use Rattle.dns_rdata_options.proofs.OptionErrors.{opt_never}
 use Rattle.dns_rdata_service.proofs.SvcbValues.{svcb_never}
 use Rattle.dns_rdata_base.specs as base
-use Rattle.dns_rdata_caa_csync.specs as caa_csync
+use Rattle.dns_rdata_policy.specs as caa_csync
 use Rattle.dns_rdata.specs.declared.record_data.RData.{RData}
 use Rattle.dns_rdata.specs.ReadErrors.{IsReadError, OwnError, OwnTaken, rejects_of, never_read, IsTaken, Reached}
 use Rattle.dns_rows.specs.Table.{TypeRow, fields as row, unread, formatless, table, kinds_of}

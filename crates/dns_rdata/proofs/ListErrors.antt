@@ -7,10 +7,10 @@ use Rattle.dns_fields.proofs.FieldLaws.{field_inside}
 use Rattle.dns_names_wire.specs.{State.Reading, Terms.Took, Terms.TookField}
 use Rattle.dns_names_wire.proofs.FieldReads.{took_last, took_then, took_number}
 use Rattle.dns_rdata_base.specs.FieldErrors.{FirstLack}
-use Rattle.dns_rdata_caa_csync.specs as caa_csync
+use Rattle.dns_rdata_policy.specs as caa_csync
 use Rattle.dns_rdata_service.specs as service
 use Rattle.dns_rows.specs.declared.row.TheConstants as rows
-use Rattle.dns_view.specs.{Tags.IsTagError, Parameters.LacksHead, Parameters.IsParameterError, Parameters.IsParametersError, Values.IsKeyError}
+use Rattle.dns_check.specs.{Tags.IsTagError, Parameters.LacksHead, Parameters.IsParameterError, Parameters.IsParametersError, ParameterValues.IsKeyError}
 use Rattle.dns_fields.specs.Bitmaps.{BitmapAt}
 use Rattle.dns_rdata.proofs.RowErrors.{Faults, Rejects, by_faults}
 

@@ -6,8 +6,8 @@ use Rattle.dns_names_wire.specs.State.{Reading}
 use Rattle.dns_rdata_options.specs as options
 use Rattle.dns_rdata_options.proofs.{OptionValues.subnet_refused, Subnets.begun}
 use Rattle.dns_rows.specs.declared.row.TheConstants as rows
-use Rattle.dns_view.specs.Options.{IsSubnetError, IsNextError, IsOptionsError}
-use Rattle.dns_view.proofs.Subnets.{subnet_none}
+use Rattle.dns_check.specs.Options.{IsSubnetError, IsNextError, IsOptionsError}
+use Rattle.dns_check.proofs.Subnets.{subnet_none}
 use Rattle.dns_rdata.proofs.RowErrors.{Faults, Rejects, by_faults}
 
 -- octets that do not begin with a subnet hold none

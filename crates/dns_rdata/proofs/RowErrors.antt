@@ -14,7 +14,7 @@ use Rattle.dns_rdata_certs.specs.Rests.{IsRestError}
 use Rattle.dns_rows.specs.declared.row.{Part.Part}
 use Rattle.dns_rows.specs.declared.row.Rule.TheVariants as rules
 use Rattle.dns_rows.specs.declared.row.TheConstants as rows
-use Rattle.dns_view.specs.Rows.{RowFault, RowError, asked_length}
+use Rattle.dns_check.specs.Rows.{RowFault, RowError, asked_length}
 
 -- Each error of the row is one of the record.
 abbrev pub Rejects : List Part → (ℕ → Reading → DecodeError → Reading → Type 0) → Type 0

@@ -15,8 +15,8 @@ use Rattle.dns_rdata_certs.proofs.Values.{cert_from, cert_from-fields, cert_fiel
 use Rattle.dns_rdata_certs.proofs.Values.{sshfp_fields-from, sshfp_from-read, sshfp_keys-same, tlsa_from, tlsa_from-fields, tlsa_fields-from}
 use Rattle.dns_rdata_certs.proofs.Values.{tlsa_from-read, tlsa_keys-same}
 use Rattle.dns_rdata_service.proofs.SvcbValues.{svcb_from, svcb_from-fields, svcb_fields-from, svcb_from-read, svcb_equal}
-use Rattle.dns_rdata_caa_csync.proofs.CaaValues.{caa_from, caa_from-fields, caa_fields-from, caa_from-read, caa_keys-same}
-use Rattle.dns_rdata_caa_csync.proofs.CsyncValues.{csync_from, csync_from-fields, csync_fields-from, csync_from-read, csync_keys-same}
+use Rattle.dns_rdata_policy.proofs.CaaValues.{caa_from, caa_from-fields, caa_fields-from, caa_from-read, caa_keys-same}
+use Rattle.dns_rdata_policy.proofs.CsyncValues.{csync_from, csync_from-fields, csync_fields-from, csync_from-read, csync_keys-same}
 use Rattle.dns_rdata_options.proofs.Values.{opt_from-fields, opt_fields-from, opt_from-read, opt_equal}
 use Rattle.dns_rdata_base.specs.declared.null.NULL.{NULL}
 use Rattle.dns_rdata_certs.specs.declared.tlsa.TLSA.{TLSA}
@@ -25,7 +25,7 @@ use Rattle.dns_rdata_base.specs as base
 use Rattle.dns_rdata_certs.specs as certs
 use Rattle.dns_rdata_options.specs as options
 use Rattle.dns_rdata_service.specs as service
-use Rattle.dns_rdata_caa_csync.specs as caa_csync
+use Rattle.dns_rdata_policy.specs as caa_csync
 use Rattle.dns_rdata.specs.{declared.record_data.RData.RData, Equal.equal, Equal.record_type_eq}
 use Rattle.dns_rdata.specs.Data.{shape, MeetsCondition, FieldsOf, fields_of, type_of, IsUnknownType, CanBeRead, IsValue}
 use Rattle.dns_rdata.specs.declared.record_data.RData.TheVariants as rdata

@@ -5,14 +5,14 @@ use Rattle.dns_types.specs.{declared.record_type.RecordType.RecordType, declared
 use Rattle.dns_types.specs.declared.record_type.RecordType.TheVariants as types
 use Rattle.dns_types.specs.declared.error.ParseError.TheVariants as parse
 use Rattle.dns_fields.specs.{Labels.DomainName, declared.Kind.Kind, Fields.Values}
-use Rattle.dns_text.specs.TextWords.{TextWords, NoTextWords}
+use Rattle.dns_tokens.specs.TextWords.{TextWords, NoTextWords}
 use Rattle.dns_tokens.specs.{Taking.HoldsOfTokens, Reads.UnlessParseMemory, Printed.cut, Printed.IsPrintedName, Straight.straight_tokens, Straight.ArePrinted}
 use Rattle.dns_tokens.specs.Forms.{TokenRow, token, number, name, ignored}
 use Rattle.dns_rdata_service.specs.declared.svcb.SVCB.{SVCB}
 use Rattle.dns_rdata_base.specs as base
 use Rattle.dns_rdata_certs.specs as certs
 use Rattle.dns_rdata_service.specs as service
-use Rattle.dns_rdata_caa_csync.specs as caa_csync
+use Rattle.dns_rdata_policy.specs as caa_csync
 use Rattle.dns_rows.specs.Table.{TypeRow, fields, formatless, unread, table, kinds_of}
 use Rattle.dns_rdata.specs.{declared.record_data.RData.RData, Data.parts_of, Data.shape, Data.IsValue, Data.type_of, Texts.text_of}
 use Rattle.dns_rdata.specs.declared.record_data.RData.TheVariants as rdata

@@ -9,7 +9,7 @@ use Rattle.dns_rdata_base.specs.contracts as base
 use Rattle.dns_rdata_certs.specs.contracts as certs
 use Rattle.dns_rdata_options.specs.contracts as options
 use Rattle.dns_rdata_service.specs.contracts as service
-use Rattle.dns_rdata_caa_csync.specs.contracts as caa_csync
+use Rattle.dns_rdata_policy.specs.contracts as caa_csync
 use Rattle.dns_rdata.specs.{declared.record_data.RData.RData, Data.type_of, Keys.variant_keys}
 use Rattle.dns_rdata.specs.Equal.{equal, record_type_eq, types_equal}
 use Rattle.dns_rdata.specs.declared.record_data.RData.TheVariants as rdata

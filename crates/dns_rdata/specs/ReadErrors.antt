@@ -11,7 +11,7 @@ use Rattle.dns_rdata_base.specs as base
 use Rattle.dns_rdata_certs.specs as certs
 use Rattle.dns_rdata_options.specs as options
 use Rattle.dns_rdata_service.specs as service
-use Rattle.dns_rdata_caa_csync.specs as caa_csync
+use Rattle.dns_rdata_policy.specs as caa_csync
 use Rattle.dns_rdata.specs.Data.{parts_of, MeetsRule, IsNeverRead}
 
 -- the error of a type that is never read

@@ -4,7 +4,7 @@ use Rattle.dns_tokens.specs.Straight.{field_texts, spaced}
 use Rattle.dns_rdata_base.specs as base
 use Rattle.dns_rdata_certs.specs as certs
 use Rattle.dns_rdata_service.specs as service
-use Rattle.dns_rdata_caa_csync.specs as caa_csync
+use Rattle.dns_rdata_policy.specs as caa_csync
 use Rattle.dns_rdata.specs.{declared.record_data.RData.RData, Data.fields_of}
 use Rattle.dns_rdata.specs.declared.record_data.RData.TheVariants as rdata
 

@@ -13,12 +13,12 @@ use Rattle.dns_rdata_options.specs.{Order.opt_eq, Order.opt_cmp, OrderLaws.opt_t
 use Rattle.dns_rdata_options.proofs.Values.{opt_permutes}
 use Rattle.dns_rdata_service.specs.declared.svcb.SVCB.{SVCB}
 use Rattle.dns_rdata_service.proofs.OwnValues.{own_fields}
-use Rattle.dns_rdata_caa_csync.specs.CAA.{critical_number}
+use Rattle.dns_rdata_policy.specs.CAA.{critical_number}
 use Rattle.dns_rdata_base.specs as base
 use Rattle.dns_rdata_certs.specs as certs
 use Rattle.dns_rdata_options.specs as options
 use Rattle.dns_rdata_service.specs as service
-use Rattle.dns_rdata_caa_csync.specs as caa_csync
+use Rattle.dns_rdata_policy.specs as caa_csync
 use Rattle.dns_rdata.specs.{declared.record_data.RData.RData, Data.type_of, Data.octets_of, Data.data_octets, Keys.VariantKey, Keys.variant_keys}
 use Rattle.dns_rdata.specs.Equal.{equal, record_type_eq, variant_key_eq, keys_eq, types_equal}
 use Rattle.dns_rdata.specs.Order.{record_type_cmp, variant_key_cmp, keys_cmp, rdata_cmp}

@@ -8,7 +8,7 @@ use Rattle.dns_fields.specs.Bitmaps.{Block, block, IsBlock}
 use Rattle.dns_view.specs.TypeList.{block_types}
 use Rattle.dns_rdata_base.specs as base
 use Rattle.dns_rdata_options.specs as options
-use Rattle.dns_rdata_caa_csync.specs as caa_csync
+use Rattle.dns_rdata_policy.specs as caa_csync
 use Rattle.dns_rdata_service.specs as service
 use Rattle.dns_rdata.specs.declared.record_data.RData.{RData}
 use Rattle.dns_rdata.specs.declared.record_data.RData.TheVariants as rdata

@@ -15,10 +15,10 @@ use Rattle.dns_rdata_base.specs.{A.a_text, AAAA.aaaa_text, declared.a.A.A, decla
 use Rattle.dns_rdata_service.specs.{SvcParamKey.key_number, declared.svcb.key.SvcParamKey.SvcParamKey, SvcParamValue.a_octets, SvcParamValue.aaaa_octets}
 use Rattle.dns_tokens.proofs.Printed.{ipv4_back, ipv6_back}
 use Rattle.dns_zone_tokens.specs.Letters.{Letter, plain, letters, octet_of, escapes_stand}
-use Rattle.dns_zone_parameters.specs.{Values.HasOctets, Values.IsPort, Values.forbids_escapes, Values.IsValue, Laws.IsPlainItem, Laws.IsProtocolName}
-use Rattle.dns_zone_parameters.proofs.WrittenLists.{plain_items, names_read}
-use Rattle.dns_zone_parameters.specs.Lists.{items_in, IsItem, IsList, IsListedKey, IsKeyList}
-use Rattle.dns_zone_parameters.specs.declared.lists.ListItem.TheVariants as items
+use Rattle.dns_zone_rows.specs.{ParameterValues.HasOctets, ParameterValues.IsPort, ParameterValues.forbids_escapes, ParameterValues.IsValue, ParameterLaws.IsPlainItem, ParameterLaws.IsProtocolName}
+use Rattle.dns_zone_rows.proofs.WrittenLists.{plain_items, names_read}
+use Rattle.dns_zone_rows.specs.ParameterLists.{items_in, IsItem, IsList, IsListedKey, IsKeyList}
+use Rattle.dns_zone_rows.specs.declared.parameters.lists.ListItem.TheVariants as items
 use Rattle.dns_rdata_zone.specs.{Lists.commas, Spellings.escaped, Spellings.item_octet, Spellings.protocol_octet}
 use Rattle.dns_rdata_zone.specs.Parameters.{key_name, named_key, protocol, rises_from}
 use Rattle.dns_rdata_zone.proofs.{Dividing.is_run_octet, Dividing.AreRunOctets, Dividing.run_both, Letters.first_true, Letters.second_true, ParameterForms.zone_key}

@@ -9,7 +9,7 @@ use base64::DecodeAllocError;
 use base64::display::Base64Display;
 use base64::engine::general_purpose::STANDARD;
 use dns_names_wire::{Name, Octets, ParseError};
-use dns_text::parse_ttl;
+use crate::parse_ttl;
 use std::alloc::Global;
 use std::net::{Ipv4Addr, Ipv6Addr};
 use std::{fmt, str};

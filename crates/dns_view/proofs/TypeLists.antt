@@ -9,9 +9,10 @@ use Rattle.std.proofs.lemmas.Nat.Bits.{bit_at-zero}
 use Rattle.std.specs.{List.flat_map, List.list_any, List.AllByRecursion, Int.bit_at}
 use Rattle.dns_fields.specs.Bitmaps.{Block, block, IsBlock, has_type, contains, BitmapAt}
 use Rattle.dns_fields.proofs.Bitmaps.{none_great, bitmap_same}
-use Rattle.dns_view.specs.Blocks.{FitsBlock, NoFit}
-use Rattle.dns_view.specs.TypeList.{with_type, types_from, types_left, block_types, types_after, ListsTypes}
-use Rattle.dns_view.proofs.Bitmaps.{from_small, from_below, from_has}
+use Rattle.dns_check.specs.Blocks.{FitsBlock, NoFit}
+use Rattle.dns_check.specs.Blocks.{with_type, types_from}
+use Rattle.dns_view.specs.TypeList.{types_left, block_types, types_after, ListsTypes}
+use Rattle.dns_check.proofs.Bitmaps.{from_small, from_below, from_has}
 
 -- ---- one block
 

@@ -1,7 +1,7 @@
 -- The types that the blocks of a bitmap list (RFC 4034, 4.1.2).
 use Rattle.std.specs.Prelude.{◌≡◌, ℕ, zero, suc, ◌+◌, ◌-◌, ◌*◌, nat_le, ◌&&◌, Bool, true, false, if◌then◌else◌, List, [], ◌∷◌, ◌++◌, length, take}
 use Rattle.dns_fields.specs.Bitmaps.{Block, has_type, contains, Rises}
-use Rattle.dns_view.specs.Blocks.{types_from}
+use Rattle.dns_check.specs.Blocks.{types_from}
 
 -- the types of a block from bit i of its octets on, in rising order
 abbrev pub types_left : Block → ℕ → List ℕ

@@ -11,7 +11,7 @@ ghost use Rattle.dns_zone_rows.specs.Rows.{NoToken, SomeStrings, SomeHex, SomeBa
 use crate::types::add_types;
 use crate::zone_row::ZoneRest;
 use dns_types::ParseError;
-use dns_zone_parameters::put_parameters;
+use crate::parameters::put_parameters;
 use dns_zone_tokens::{
     Field, HexField, StringField, ZoneTokens, no_more, put_base64, put_hex, put_string, some_token,
 };

@@ -12,7 +12,7 @@ mod wire;
 
 use crate::shared::shown;
 use anyhow::{Result, bail};
-use dns_text::{parse_ttl, read_item, text_words};
+use dns_tokens::{parse_ttl, read_item, text_words};
 use std::alloc::Global;
 
 /// What a command with its words returns.

@@ -3,7 +3,7 @@
 use anyhow::{Result, bail};
 use dns_names_wire::{BinDecodable, BinDecoder, Name, ParseError};
 use dns_types::{Octets, RecordType, Strings};
-use dns_zone_parameters::put_parameters;
+use dns_zone_rows::parameters::put_parameters;
 use dns_zone_rows::{row_octets, token_at_fault, zone_row_of};
 use dns_zone_tokens::{
     Field, NameField, StringField, ZoneTokens, all_base64, ipv4_of, is_unknown_mark, name_field,

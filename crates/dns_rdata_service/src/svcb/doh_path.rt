@@ -9,7 +9,7 @@ use bstr::BStr;
 use dns_names_wire::{
     BinDecodable, BinDecoder, BinEncodable, BinEncoder, DecodeError, ProtoError, SmallOctets,
 };
-use dns_view::values::is_text;
+use dns_check::parameter_values::is_text;
 use std::alloc::AllocError;
 use std::fmt;
 

@@ -5,7 +5,7 @@ use anyhow::Result;
 use dns_rdata::opt::{ClientSubnet, EdnsCode, IpNet};
 use dns_rdata::svcb::SvcParamKey;
 use dns_rdata::{A, AAAA, RecordType, cert, sshfp, tlsa, verify_flags};
-use dns_text::parse_ttl;
+use dns_tokens::parse_ttl;
 
 // The numbers that a number gives, as each enum that has it.
 fn numbers_of(number: u16) -> [u16; 4] {

@@ -2,7 +2,7 @@
 
 use anyhow::Result;
 use dns_names_wire::Name;
-use dns_text::{Lexer, Token};
+use dns_tokens::{Lexer, Token};
 use dns_tokens::{Base64Text, Field, FromTokens, TokenList, next_u16, number_field};
 use replay::octets;
 use std::alloc::{AllocError, Global};
