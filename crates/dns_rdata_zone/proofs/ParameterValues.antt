@@ -195,10 +195,6 @@ comma_tested (c ∷ s) h =
 digit_item : (c : ℕ) → 48 ≤ c → c ≤ 58 → (is_run_octet c ≡ true) × (eqb c 44 ≡ false)
 digit_item c low high = (grind (arith, nat_tests), grind (arith, nat_tests))
 
-item_by_index : (s : List ℕ) → ((k : ℕ) → k < length s → (is_run_octet (get_or s k 0) ≡ true) × (eqb (get_or s k 0) 44 ≡ false)) → AreItemOctets s
-item_by_index [] h = tt
-item_by_index (c ∷ s) h = (h 0 (omega arith), item_by_index s (λ k lt. h (suc k) (omega arith)))
-
 item_both : (a b : List ℕ) → AreItemOctets a → AreItemOctets b → AreItemOctets (a ++ b)
 item_both [] b h k = k
 item_both (c ∷ a) b h k = (h.0, item_both a b h.1 k)

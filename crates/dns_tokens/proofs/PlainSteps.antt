@@ -112,9 +112,6 @@ plain_if {front} {text} more f s = by (nat_eq (length more) 0) refl
 
 -- ---- whether a plain word is here
 
-pub none_at_end : {text : List ℕ} → length text ≡ 0 → NoPlainWord text
-none_at_end l word rest p = omega (arith, plain_shorter p)
-
 pub run_here : {word text rest : List ℕ} → Span (λ c. not (ends_run c)) word text rest → length word ≢ 0 → get_or text 0 0 ≢ 34 → get_or text 0 0 ≢ 40 → Run word text rest
 run_here {word = []} s l q k = absurd (l refl)
 run_here {word = d ∷ word} s l q k =

@@ -7,7 +7,7 @@ pub mod plain;
 pub mod quiet;
 mod quoted;
 pub mod segments;
-mod spans;
+pub mod spans;
 pub mod token;
 pub mod ttl;
 pub mod words;

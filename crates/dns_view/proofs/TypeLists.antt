@@ -51,9 +51,6 @@ pub bit_clear : (k : ℕ) (w : List ℕ) (i : ℕ) → length w ≤ 32 → i < 8
     → types_left (k, w) i ≡ types_left (k, w) (i + 1)
 bit_clear k w i few inside clear = next_left k w i false few inside (ne_eqb (bit_at (get_or w (i / 8) 0) (7 - i % 8)) 1 clear)
 
-pub no_bit : (k : ℕ) (w : List ℕ) (i : ℕ) → 8 * length w ≤ i → types_left (k, w) i ≡ []
-no_bit k w i past = let none : 8 * length w - i ≡ 0 = omega (arith, past) in rw none refl
-
 -- ---- one block after the other
 
 behind : (n : ℕ) (s : List ℕ) → types_after n s ≡ types_after zero (drop n s)

@@ -20,7 +20,7 @@ use dns_rdata_service::svcb::SvcParamKey;
 use dns_rdata_service::with_named_keys;
 use dns_types::ParseError;
 use dns_zone_tokens::ZoneTokens;
-pub use key::key_of_name;
+pub use crate::parameters::key::key_of_name;
 use std::alloc::{AllocError, Global};
 
 /// Reads all remaining tokens as service parameters and appends their octets as on the wire: sorted by key, each as
