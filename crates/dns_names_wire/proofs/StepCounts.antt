@@ -200,10 +200,6 @@ chased_end {message = message} {start = start} {count = count} c =
     let t = c.so zero c.labels ((λ j. no_jump c.run j), c.passes) in
     taken message start t.0 (c.earlier + c.labels) count (omega (arith, c.sum)) t.1
 
-pub chased_none : {message : List ℕ} {start labels : ℕ} → ((front : List (List ℕ)) (stop : Option ℕ) (end : ℕ) → IsRun message start front stop end
-    → 0 + length (wire front) ≤ 254 → ⊥) → PassesLabels labels message start 0 → NameSteps message start labels
-chased_none none passes = record { pointers = 0; is = ((λ j. none j.front (Some j.target) j.end j.run j.room), passes) }
-
 -- ---- the examples
 
 pointer_run : (w : List ℕ) (p t : ℕ) (front : List (List ℕ)) (behind : List ℕ) → AreLabels front → drop p w ≡ wire front ++ (pointer t ++ behind)
