@@ -28,6 +28,8 @@ import type_lines as lines
 from type_lines import Wrong, described
 
 TOP = pathlib.Path(__file__).resolve().parent.parent
+sys.path.insert(0, str(TOP / "tests"))
+import plain_table  # noqa: E402
 TYPES = TOP / "tools/types.txt"
 
 # Where what is often moved is.
@@ -178,7 +180,7 @@ class Ranked(Entries):
 
 
 class Shifted(Place):
-    """Numbers after all ranks: the anchor is a pattern with the number as its second group."""
+    """Numbers that are one more with a new type: the anchor is a pattern with the number as its second group."""
 
     def write(self, text, kind, orders):
         text, count = re.subn(self.anchor, lambda found: f"{found[1]}{int(found[2]) + 1}{found[3]}", text)
@@ -187,7 +189,7 @@ class Shifted(Place):
         return text
 
     def check(self, text, kind):
-        return None if re.search(self.anchor, text) else "has no ranks"
+        return None if re.search(self.anchor, text) else "has no such number"
 
 
 class Words(Place):
@@ -195,7 +197,7 @@ class Words(Place):
     filled anew from the line of the new word on, up to `width`, with `turn` at the end of a line and `begin` at the beginning of one.
     `after` is a pattern of the words after which the new one is, if they have no order."""
 
-    def __init__(self, *given, between=", ", turn=",", begin=None, width=100, after=None, named=r"(\w+)$", is_exact=True, **more):
+    def __init__(self, *given, between=", ", turn=",", begin=None, width=99, after=None, named=r"(\w+)$", is_exact=True, **more):
         super().__init__(*given, **more)
         self.between, self.turn, self.begin, self.width, self.after, self.named, self.is_exact = between, turn, begin, width, after, named, is_exact
 
@@ -211,7 +213,7 @@ class Words(Place):
 
     def name_of(self, word):
         name = re.search(self.named, word)
-        return name[1].upper() if name else word
+        return word if self.order == "ascii" or not name else name[1].upper()
 
     def write(self, text, kind, orders):
         for word in self.render(kind) if isinstance(self.render(kind), list) else [self.render(kind)]:
@@ -336,6 +338,33 @@ class Data(Place):
         return None if re.search(rf"(?m)\b{kind.name}\b", text) else "has no line of it"
 
 
+class Kept(Place):
+    """Golden runs that read RDATA of the type by its number, from before it had a format: what is wanted of them now. The reference model
+    reads them."""
+
+    def write(self, text, kind, orders):
+        return "\n".join(self.rewritten(row.split("\t"), kind) for row in text.split("\n"))
+
+    def rewritten(self, columns, kind):
+        if len(columns) != 7 or columns[2] != "read" or columns[3] not in (str(kind.number), f"TYPE{kind.number}", kind.name):
+            return "\t".join(columns)
+        try:
+            message = bytes.fromhex(columns[6].replace("-", ""))
+            window = plain_table.Window(message, int(columns[4]), int(columns[5]))
+            parts, text = plain_table.numbers_and_name(*(field.octets for field in kind.numbers))(window)
+            if window.left():
+                raise plain_table.NoData
+        except plain_table.NoData:
+            return "\t".join(["1", "refused\\n", *columns[2:]])
+        if text is None:
+            raise Wrong(f"{self.path}: the text of a name in `{' '.join(columns[2:])}` has escapes, which the reference model does not know")
+        octets = plain_table.canonical(parts).hex(), plain_table.emitted(parts, kind.mode == "StandardRecord").hex()
+        return "\t".join(["0", f"type {kind.number}\\ntext {text}\\ncanonical {octets[0]}\\nemitted {octets[1]}\\n", *columns[2:]])
+
+    def check(self, text, kind):
+        return None
+
+
 class Prose(Place):
     """A list in a sentence. The anchor is a pattern whose group is the list. With `mark` the paragraph is a comment, which is filled anew up to
     `width`."""
@@ -424,6 +453,7 @@ PLACES = [
     # dns_types: number and name
     Entries("type", f"{TYPE}/src/record_type.rt", r"^    ([A-Z][A-Z0-9]*),$", lines.type_variant, types=every, order="number", lead=r"^    ///", after=r"^pub enum RecordType"),
     Words("type-list", f"{TYPE}/src/record_type.rt", r"^            ((?:\(\w+ \d+\)\s+)+)\)$", lambda k: f"({k.name} {k.number})", types=every, order="number", between=" ", turn="", named=r"^\((\w+)", width=96),
+    Shifted("type-count", f"{TYPE}/src/record_type.rt", r"(const NAMED: \[RecordType; )(\d+)(\])", None, types=every),
     Words("type-use", f"{TYPE}/specs/RecordTypes.antt", r"^use Rattle\.dns_types\.specs\.declared\.record_type\.RecordType\.TheVariants\.\{(.*)\}$", lambda k: k.name, types=every, order="number"),
     Entries("type-entry", f"{TYPE}/specs/RecordTypes.antt", r"^type_entry (\w+) = ", lines.type_entry, types=every, order="number"),
     Words("type-names", f"{TYPE}/specs/RecordTypes.antt", r"^named_types = ((?:.*\n)(?:    ∷ .*\n)*)", lambda k: k.name, types=every, order="number", between=" ∷ ", turn="", begin="∷ ", width=120),
@@ -508,6 +538,7 @@ PLACES = [
     Words("model-words-name", "tests/plain_words.py", r'^    \*\*dict\.fromkeys\(\[("ANAME", .*)\], one_name\),', lambda k: f'"{k.name}"', types=one_name, after="."),
     Entries("damaged", "tests/damaged.py", r'^    "(\w+)": \[', lines.around_name, types=with_numbers, after=r"^AROUND_NAMES = \{", is_exact=False),
     Words("damaged-name", "tests/damaged.py", r'^    \*\*dict\.fromkeys\(\[("NS", .*)\], \[\(b"", b""\)\]\),', lambda k: f'"{k.name}"', types=one_name, after="."),
+    Kept("golden-kept", f"{REPLAY}/data/real.tsv", None, None),
     Data("golden", f"{REPLAY}/data/rows.tsv", None, lines.golden_lines, counted=f"{REPLAY}/stdout"),
     Data("golden-zone", f"{ZONE_REPLAY}/data/rows.tsv", None, lines.zone_golden_lines, counted=f"{ZONE_REPLAY}/stdout"),
     Data("allocations", "tests/requests.txt", None, lines.request_lines),
@@ -518,6 +549,7 @@ PLACES = [
     Prose("readme", "README.md", r"^Types: (.*?) and ZERO", None, types=every),
     Entries("page-row", "docs/TYPES.md", r"^\| \[(\w+)\]\(#", lines.page_row, order="name"),
     Entries("page", "docs/TYPES.md", r"^## (\w+)", lines.page_section, types=with_numbers, order="name", open=True, gap=1),
+    Prose("page-name", "docs/TYPES.md", r"^((?:\w+, )+\w+ and \w+): `CNAME\(Name\)`", None, types=one_name),
     Prose("page-texts", "docs/TEXTS.md", r"^\| (MX, SRV\b.*?) \| the fields, a blank between \|", None, types=with_numbers, at_end=True),
     Prose("page-texts-name", "docs/TEXTS.md", r"^\| (ANAME, CNAME\b.*?) \| the name \|", None, types=one_name),
     Prose("page-tokens", "docs/TEXTS.md", r"^Records of numbers and names \((.*?)\) have a token", None),
@@ -556,7 +588,13 @@ def orders_of(kind):
 PLACE = {place.name: place for place in PLACES}
 
 
+# Texts of files that --check writes in memory alone.
+trial_texts = {}
+
+
 def read(path):
+    if path in trial_texts:
+        return trial_texts[path]
     file = TOP / path
     return file.read_text(encoding="utf-8") if file.is_file() else None
 
@@ -576,7 +614,7 @@ def written(kind):
     """The files with the type: path, old and new text, and what was written for each place."""
     texts, parts = {}, []
     orders = orders_of(kind)
-    named = {"type", "type-list", "type-use", "type-entry", "type-names", "c-type", "rust-type", "python-type"} if has_number(kind) else set()
+    named = {"type", "type-list", "type-count", "type-use", "type-entry", "type-names", "c-type", "rust-type", "python-type"} if has_number(kind) else set()
     for place in PLACES:
         if not place.types(kind) or place.name in named:
             continue
@@ -635,40 +673,72 @@ def write(line, is_dry):
         file.parent.mkdir(parents=True, exist_ok=True)
         file.write_text(after, encoding="utf-8")
     for script in ("tools/statement.py", "tools/api.py", "tools/counts.py"):
-        subprocess.run([sys.executable, str(TOP / script)], check=True, stdout=subprocess.DEVNULL)
+        if subprocess.run([sys.executable, str(TOP / script)], stdout=subprocess.DEVNULL).returncode:
+            print(f"{script} failed: the pages that it makes are not of these sources", file=sys.stderr)
     total = 0
     for path, (before, after) in texts.items():
         more = new_lines(before, after)
         total += more
         print(f"{more:4} {'new' if before is None else 'in'} {path}")
     print(f"{total} lines in {len(texts)} files, and docs/STATEMENT.md, docs/API.md, docs/api and the counts in pages")
+    if re.search(rf"(?m)^[^\t]*\t{kind.name}\t", read("tests/peers/octets.tsv")):
+        print(f"tests/peers/octets.tsv has octets of {kind.name}, which this library treats otherwise now: see tests/peers/README.md")
 
 
 def made(place, kind):
+    if isinstance(place, Kept):
+        return ["runs of this type's number, if there are any"]
     if place.render is None:
         return [kind.name]
     rendered = place.render(kind)
     return [rendered.rstrip("\n")] if isinstance(rendered, str) else [str(row).rstrip("\n") for row in rendered]
 
 
+def faults(kind):
+    """What is not as wanted of a type: each place, and what is wrong there."""
+    orders_of(kind)
+    for place in PLACES:
+        if not place.types(kind) or place.name in kind.own:
+            continue
+        text = read(place.path_of(kind))
+        try:
+            if text is None and not isinstance(place, NewFile):
+                raise Wrong(f"{place.path} is missing")
+            wrong = place.check(text, kind)
+        except Wrong as error:
+            wrong = str(error)
+        yield f"{kind.name}, `{place.name}`: {place.path_of(kind)} {wrong}" if wrong else None
+
+
+# Types that are written in memory, one after the other, so that a lost anchor shows before somebody needs it.
+TRIALS = [
+    "QA 65281 (RFC 1, 1): a trial; host name kept: The host; example a.example.",
+    "QB 65282 (RFC 1, 2): a trial; count u8: A count; host name lowercased: The host; example 1 b.example.",
+    "QC 65283 (RFC 1, 3): a trial; serial u32: A number; count u16: A count; host name compressed: The host; example 1 2 c.example.",
+]
+
+
+def tried():
+    """Writes each trial in memory, and looks whether all types are as wanted then."""
+    standing = list(described_types())
+    for line in TRIALS:
+        kind = described(line)
+        try:
+            texts, _ = written(kind)
+        except Wrong as error:
+            yield str(error)
+            continue
+        trial_texts.update({path: after for path, (_, after) in texts.items()})
+        standing.append(kind)
+        yield next((f"{kind.name} is written, and then: {wrong}" for other in standing for wrong in faults(other) if wrong), None)
+
+
 def check():
-    good = bad = 0
-    for kind in described_types():
-        orders_of(kind)
-        for place in PLACES:
-            if not place.types(kind) or place.name in kind.own:
-                continue
-            text = read(place.path_of(kind))
-            try:
-                if text is None and not isinstance(place, NewFile):
-                    raise Wrong(f"{place.path} is missing")
-                wrong = place.check(text, kind)
-            except Wrong as error:
-                wrong = str(error)
-            good, bad = good + (wrong is None), bad + (wrong is not None)
-            if wrong:
-                print(f"not as wanted: {kind.name}, `{place.name}`: {place.path_of(kind)} {wrong}")
-    print(f"{good} as wanted, {bad} not")
+    found = [wrong for kind in described_types() for wrong in faults(kind)] + list(tried())
+    for wrong in filter(None, found):
+        print(f"not as wanted: {wrong}")
+    bad = len(list(filter(None, found)))
+    print(f"{len(found) - bad} as wanted, {bad} not")
     return bad != 0
 
 
