@@ -197,9 +197,9 @@ class Words(Place):
     filled anew from the line of the new word on, up to `width`, with `turn` at the end of a line and `begin` at the beginning of one.
     `after` is a pattern of the words after which the new one is, if they have no order."""
 
-    def __init__(self, *given, between=", ", turn=",", begin=None, width=99, after=None, named=r"(\w+)$", is_exact=True, **more):
+    def __init__(self, *given, between=", ", turn=",", begin=None, width=99, after=None, named=r"(\w+)$", **more):
         super().__init__(*given, **more)
-        self.between, self.turn, self.begin, self.width, self.after, self.named, self.is_exact = between, turn, begin, width, after, named, is_exact
+        self.between, self.turn, self.begin, self.width, self.after, self.named = between, turn, begin, width, after, named
 
     def found(self, text):
         found = list(re.finditer(self.anchor, text, re.M))
@@ -208,19 +208,26 @@ class Words(Place):
         return found
 
     def words(self, body):
-        rows = [[word for word in re.split(re.escape(self.between.strip()) or r"(?<=\))\s+|\s+(?![^(]*\))", row.strip()) if word.strip()] for row in body.split("\n")]
-        return [[word.strip() for word in row] for row in rows if row]
+        """The words of each line."""
+        # A word in parentheses has blanks inside.
+        divider = re.escape(self.between.strip()) or r"\s+(?![^(]*\))"
+        rows = [[word.strip() for word in re.split(divider, row) if word.strip()] for row in body.split("\n")]
+        return [row for row in rows if row]
 
     def name_of(self, word):
         name = re.search(self.named, word)
         return word if self.order == "ascii" or not name else name[1].upper()
 
     def write(self, text, kind, orders):
-        for word in self.render(kind) if isinstance(self.render(kind), list) else [self.render(kind)]:
-            text = self.put(text, kind, orders, word)
+        for word in self.made(kind):
+            text = self.put(text, orders, word)
         return text
 
-    def put(self, text, kind, orders, word):
+    def made(self, kind):
+        made = self.render(kind)
+        return made if isinstance(made, list) else [made]
+
+    def put(self, text, orders, word):
         own = self.key(self.name_of(word), orders)
         best = None
         for found in self.found(text):
@@ -237,42 +244,33 @@ class Words(Place):
         _, found, at, index = best or (None, self.found(text)[0], 0, 0)
         rows = self.words(found[1])
         rows[at].insert(index, word)
-        return text[: found.start(1)] + self.joined(self.numbered(rows), at, found[1]) + text[found.end(1) :]
+        column = found.start(1) - (text.rfind("\n", 0, found.start(1)) + 1)
+        return text[: found.start(1)] + self.joined(self.numbered(rows), at, found[1], column) + text[found.end(1) :]
 
     def numbered(self, rows):
         return rows
 
-    def joined(self, rows, changed, body):
+    def joined(self, rows, changed, body, column):
+        """The list again, with the lines from the changed one on filled anew. It begins at a column of its first line."""
         if "\n" not in body:
             return self.between.join(word for row in rows for word in row)
         starts = [re.match(r"\s*", row)[0] for row in body.split("\n")]
-        indent = starts[1] if len(starts) > 1 and starts[1] else starts[0]
-        first = "" if not body.startswith((" ", "\n")) else starts[0]
-        made = [self.between.join(row) for row in rows[:changed]]
-        left = [word for row in rows[changed:] for word in row]
-        row = ""
-        taken = len(body.split("\n")[0]) + 100 if changed == 0 and not first else 0
-        for word in left:
+        first, following = starts[0], (starts[1] or starts[0]) + (self.begin or "")
+        made, row = [self.between.join(row) for row in rows[:changed]], ""
+        for word in (word for row in rows[changed:] for word in row):
             longer = row + self.between + word if row else word
-            begin = len(indent) + len(self.begin or "") + (self.lead_width if not made and not first else 0)
+            begin = len(following) if made else column + len(first)
             if row and begin + len(longer) + len(self.turn) > self.width:
                 made.append(row)
-                row = word
-            else:
-                row = longer
-        made.append(row)
+                longer = word
+            row = longer
         end = body[len(body.rstrip()) :]
-        last = self.turn if body.rstrip().endswith(self.turn) and self.turn else ""
-        return first + f"{self.turn}\n{indent}{self.begin or ''}".join(made) + last + end
-
-    lead_width = 0
+        last = self.turn if self.turn and body.rstrip().endswith(self.turn) else ""
+        return first + f"{self.turn}\n{following}".join([*made, row]) + last + end
 
     def check(self, text, kind):
         there = {word for found in self.found(text) for row in self.words(found[1]) for word in row}
-        wanted = self.render(kind) if isinstance(self.render(kind), list) else [self.render(kind)]
-        if not self.is_exact:
-            return None if {self.name_of(word) for word in wanted} <= {self.name_of(word) for word in there} else "does not have it"
-        lacking = [word for word in wanted if word not in there]
+        lacking = [word for word in self.made(kind) if word not in there]
         return f"lacks `{lacking[0]}`" if lacking else None
 
 
