@@ -742,13 +742,13 @@ def check():
 
 def main():
     words = sys.argv[1:]
-    if words == ["--check"]:
-        return check()
     if not words or words[0] in ("--help", "-h"):
         print(__doc__.strip())
         return 0
     is_dry = words[0] == "--dry"
     try:
+        if words == ["--check"]:
+            return check()
         write(" ".join(" ".join(words[is_dry:]).split()), is_dry)
     except Wrong as error:
         print(f"nothing is written: {error}", file=sys.stderr)

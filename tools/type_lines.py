@@ -5,7 +5,6 @@ type; which place, tools/new_type.py says. Two forms are told apart: a record th
 the row `NAME`; one with numbers before its name has a file and a row of its own.
 """
 import re
-import struct
 import textwrap
 
 MODES = {"compressed": "StandardRecord", "lowercased": "Canonical", "kept": "Other"}
@@ -54,7 +53,8 @@ class Type:
     def octets_of(self, text):
         """The octets of a text of the type: numbers, and a fully qualified name of letters, digits, hyphens and dots."""
         words = text.split()
-        if len(words) != len(self.fields) or not re.fullmatch(r"(?:[a-z0-9_-]+\.)+|\.", words[-1], re.I):
+        fit = all(re.fullmatch(r"\d+", word) and int(word) < 2**field.bits for word, field in zip(words, self.numbers))
+        if len(words) != len(self.fields) or not fit or not re.fullmatch(r"(?:[a-z0-9_-]{1,63}\.)+|\.", words[-1], re.I):
             raise Wrong(f"the example `{text}` is not the fields of {self.name}, numbers and a name with a dot at its end")
         octets = b"".join(int(word).to_bytes(field.octets, "big") for word, field in zip(words, self.numbers))
         labels = [label.encode() for label in words[-1].split(".") if label]
@@ -64,6 +64,13 @@ class Type:
 # ---- descriptions
 
 
+# Names of variables in the templates, words of the language, and constructors that a definition may see: no names of fields.
+TAKEN = set(
+    "alloc decoder encoder f goal head no order origin other self tokens x y yes as box break const continue data do else enum ensures "
+    "extern false first fn for ghost if impl in let loop match mod move mut next pub ref requires return static struct super trait true "
+    "type unsafe use where while"
+    .split()
+)
 LINE = re.compile(r"^([A-Z][A-Z0-9]*) (\d+) \(([^)]*)\): ([^;=]+?)(?: = ([^;]+?))?((?:; .*)?)$")
 ITEM = re.compile(r"^(\w+) (u8|u16|u32|name)(?: (compressed|lowercased|kept))?: ([^=]+?)(?: = (.+))?$")
 
@@ -86,6 +93,8 @@ def described(line):
     for item in filter(None, (part.strip() for part in re.split(r";\s+(?=\w+ (?:u8|u16|u32|name)\b.*?:|example |of |own )", rest[2:]))):
         field = ITEM.match(item)
         if field:
+            if field[1] in TAKEN or not re.fullmatch(r"[a-z][a-z0-9_]*", field[1]) or field[1] in [other.name for other in fields]:
+                raise Wrong(f"{name}: a field cannot be called `{field[1]}`")
             fields.append(Field(field[1], field[2], field[4], field[5]))
             mode = field[3] or mode
             if field[3] and field[2] != "name":
@@ -291,7 +300,14 @@ def made(kind, last):
     """The record of fields that have their names, as what a function returns."""
     if len(kind.fields) == 2:
         return f"        Ok({kind.name}::new({kind.fields[0].name}, {last}))\n"
-    return f"        Ok({kind.name} {{\n" + "".join(f"            {field.name},\n" for field in kind.fields) + "        })\n"
+    return f"        Ok({literal(kind)})\n"
+
+
+def literal(kind):
+    """The struct of variables that have the fields' names, as rt fmt lays it out."""
+    names = [field.name for field in kind.fields]
+    one = ", ".join(names)
+    return f"{kind.name} {{ {one} }}" if len(one) <= 18 else f"{kind.name} {{\n" + "".join(f"            {name},\n" for name in names) + "        }"
 
 
 def struct(kind):
@@ -315,12 +331,14 @@ def inherent(kind):
     """`new` and `from_tokens`."""
     if kind.is_name:
         return f"impl {kind.name} {{\n{from_tokens(kind)}}}\n"
-    parameters = ", ".join(f"{field.name}: {field.kind if field.is_number else 'Name'}" for field in kind.fields)
+    parameters = [f"{field.name}: {field.kind if field.is_number else 'Name'}" for field in kind.fields]
     value = "; ".join(f"{field.name} = {field.name}" for field in kind.fields)
-    fields = "".join(f"            {field.name},\n" for field in kind.fields)
+    head = f"    pub fn new({', '.join(parameters)}) -> {kind.name}"
+    if len(head) > 100:
+        head = "    pub fn new(\n" + "".join(f"        {parameter},\n" for parameter in parameters) + f"    ) -> {kind.name}"
     return (
-        f"impl {kind.name} {{\n    /// Makes a record of these fields.\n    pub fn new({parameters}) -> {kind.name}\n"
-        f"        ensures {{ result ≡ record {{ {value} }} }}\n    {{\n        {kind.name} {{\n{fields}        }}\n    }}\n\n{from_tokens(kind)}}}\n"
+        f"impl {kind.name} {{\n    /// Makes a record of these fields.\n{head}\n"
+        f"        ensures {{ result ≡ record {{ {value} }} }}\n    {{\n        {literal(kind)}\n    }}\n\n{from_tokens(kind)}}}\n"
     )
 
 
