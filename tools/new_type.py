@@ -78,7 +78,7 @@ PLACES = [
     Prose("value-target-said", f"{VALUE}/src/record_data.rt", r"that of ((?:\w+, )+\w+ and \w+), the exchange of", None, types=one_name, mark="    /// ", width=118),
     Phrase("value-target-field", f"{VALUE}/src/record_data.rt", r"the target of SRV", lambda k: f"the {k.fields[-1].words} of {k.name}", types=with_numbers, mark="    /// ", width=118),
     Entries("value-emit", f"{VALUE}/src/record_data.rt", ARM + r"return emit_whole_record", lines.emit_other_arm, types=in_a_mode),
-    Words("value-equal", f"{VALUE}/src/record_data.rt", r"^            \[(ANAME [A-Z0-9 ]+)\],$", lambda k: k.name, between=" "),
+    Words("value-equal", f"{VALUE}/src/record_data.rt", r"^            \[([A-Z0-9 ]*\bMX\b[A-Z0-9 ]*)\],$", lambda k: k.name, between=" "),
     Entries("value-step", f"{VALUE}/src/canonical.rt", ARM + r"of_value\(", lines.step_arm),
     Entries("value-tokens", f"{VALUE}/src/tokens.rt", r"^            RecordType::(\w+) => wrap\(", lines.tokens_arm),
     Entries("fields-of", f"{VALUE}/specs/Data.antt", r"^fields_of \(rdata\.(\w+) x\) = ", lines.fields_of),
@@ -140,7 +140,7 @@ PLACES = [
     Entries("page", "docs/TYPES.md", r"^## (\w+)", lines.page_section, types=with_numbers, order="name", open=True, gap=1),
     Prose("page-name", "docs/TYPES.md", r"^((?:\w+, )+\w+ and \w+): `CNAME\(Name\)`", None, types=one_name),
     Prose("page-texts", "docs/TEXTS.md", r"^\| (MX, SRV\b.*?) \| the fields, a blank between \|", None, types=with_numbers, at_end=True),
-    Prose("page-texts-name", "docs/TEXTS.md", r"^\| (ANAME, CNAME\b.*?) \| the name \|", None, types=one_name),
+    Prose("page-texts-name", "docs/TEXTS.md", r"^\| ([^|\n]*\bCNAME\b[^|\n]*) \| the name \|", None, types=one_name),
     Prose("page-tokens", "docs/TEXTS.md", r"^Records of numbers and names \((.*?)\) have a token", None),
     Prose("page-crates", "docs/dev/ARCHITECTURE.md", r"^\| `dns_rdata_base` \| (.*) \|$", None),
     Prose("page-back", "docs/GUARANTEES.md", r"reads back as the same value for (.*?) and SOA", None, at_end=True),
@@ -301,9 +301,9 @@ def faults(kind):
 
 # Types that are written in memory, one after the other, so that a lost anchor shows before somebody needs it.
 TRIALS = [
-    "QA 65281 (RFC 1, 1): a trial; host name kept: The host; example a.example.",
-    "QB 65282 (RFC 1, 2): a trial; count u8: A count; host name lowercased: The host; example 1 b.example.",
-    "QC 65283 (RFC 1, 3): a trial; serial u32: A number; count u16: A count; host name compressed: The host; example 1 2 c.example.",
+    "AAB 65281 (RFC 1, 1): a trial; host name kept: The host; example a.example.",
+    "QQ 65282 (RFC 1, 2): a trial; count u8: A count; host name lowercased: The host; example 1 b.example.",
+    "ZZZ 65283 (RFC 1, 3): a trial; serial u32: A number; count u16: A count; host name compressed: The host; example 1 2 c.example.",
 ]
 
 
