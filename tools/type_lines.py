@@ -81,8 +81,8 @@ def described(line):
         NAME NUMBER (RFC): MEANING [= MEANING OF THE STRUCT]; FIELD KIND [MODE]: SENTENCE [= WORDS BESIDE THE PICTURE]; ..; example TEXT
 
     A KIND is u8, u16, u32 or name. The name is the last field. Its MODE says how it is emitted: `compressed` (types of RFC 1035 alone:
-    RFC 3597, section 4), `lowercased` (uncompressed, and in lower case in the canonical mode of an encoder: the types of RFC 4034,
-    section 6.2) or `kept` (uncompressed, case preserved: all newer types). A standing type that is not straight has `of CRATE` in
+    RFC 3597, section 4), or uncompressed with case preserved, as `lowercased` (the types whose names DNSSEC has in lower case: RFC 4034,
+    section 6.2) or `kept` (all newer types). A standing type that is not straight has `of CRATE` in
     place of fields. `own PLACE ..` names the places where a standing type has lines of its own.
     """
     found = LINE.match(line.strip())
