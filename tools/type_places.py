@@ -50,7 +50,7 @@ class Place:
         self.name, self.path, self.anchor, self.render, self.types, self.order = name, path, anchor, render, types, order
 
     def path_of(self, kind):
-        return self.path.format(kind=kind) if kind else self.path
+        return self.path.format(kind=kind)
 
     def missing(self, what="its anchor"):
         return Wrong(f"{self.path}: {what} is missing, which tools/new_type.py (`{self.name}`) looks for: {self.anchor}")
@@ -60,13 +60,13 @@ class Place:
 
 
 class Entries(Place):
-    """Lines of each type one after the other. The anchor is a pattern of an entry's first line, with the type's name as its group `name`
-    or its only one. An entry has the comment lines above it (`lead`), and goes on with lines that are indented more or up to its closing
-    bracket; with `open` it goes on up to the next entry."""
+    """Lines of each type one after the other. The anchor is a pattern of an entry's first line, whose first group is the type's name. The
+    entries begin after the line `after`, if there is one. An entry has the comment lines above it (`lead`), and goes on with lines that are
+    indented more or up to its closing bracket; with `open` it goes on up to the next entry. `gap` is how many empty lines are between."""
 
-    def __init__(self, *given, lead=None, after=None, open=False, gap=0, is_exact=True, group=1, **more):
+    def __init__(self, *given, lead=None, after=None, open=False, gap=0, is_exact=True, **more):
         super().__init__(*given, **more)
-        self.lead, self.after, self.open, self.gap, self.is_exact, self.group = lead, after, open, gap, is_exact, group
+        self.lead, self.after, self.open, self.gap, self.is_exact = lead, after, open, gap, is_exact
 
     def entries(self, text):
         """The name and the first and last line of each entry."""
@@ -79,7 +79,7 @@ class Entries(Place):
         while at < len(rows):
             head = re.search(self.anchor, rows[at])
             if head:
-                heads.append((head[self.group].upper() if self.order != "module" else head[self.group], at))
+                heads.append((head[1] if self.order == "module" else head[1].upper(), at))
             elif self.after and heads and re.match(r"^[^\s/#-]", rows[at]):
                 break
             at += 1
