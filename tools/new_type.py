@@ -49,7 +49,7 @@ PLACES = [
     # dns_rows: the row
     Entries("row", f"{ROWS}/src/row.rt", r"^pub static (\w+): \[Part; \d+\] = ", lines.row_static, types=with_numbers, order="name", lead="^///", gap=1),
     Entries("row-of", f"{ROWS}/src/row.rt", r"^        RecordType::(\w+) => ", lines.row_arm, order="name"),
-    Entries("table", f"{ROWS}/specs/Table.antt", r"^table types\.(\w+) = ", lines.table_entry, order="name"),
+    Entries("table", f"{ROWS}/specs/Table.antt", r"^table types\.(\w+) = ", lines.table_entry, types=every, order="name"),
     Entries("written", f"{ROWS}/specs/Written.antt", r"^  pub (\w+) : rows\.\w+ ≡ ", lines.written_row, types=with_numbers, order="name", lead="^  --"),
     # dns_rdata_base: the record
     Words("facts-use", f"{BASE}/specs/NameRecords.antt", r"^use Rattle\.dns_rdata_base\.specs\.\{(declared\.\w+\.\w+\.\w+, .*)\}$", lambda k: f"declared.{k.lower}.{k.name}.{k.name}", types=with_numbers, after="."),
@@ -81,7 +81,7 @@ PLACES = [
     Words("value-equal", f"{VALUE}/src/record_data.rt", r"^            \[([A-Z0-9 ]*\bMX\b[A-Z0-9 ]*)\],$", lambda k: k.name, between=" "),
     Entries("value-step", f"{VALUE}/src/canonical.rt", ARM + r"of_value\(", lines.step_arm),
     Entries("value-tokens", f"{VALUE}/src/tokens.rt", r"^            RecordType::(\w+) => wrap\(", lines.tokens_arm),
-    Entries("fields-of", f"{VALUE}/specs/Data.antt", r"^fields_of \(rdata\.(\w+) x\) = ", lines.fields_of),
+    Entries("fields-of", f"{VALUE}/specs/Data.antt", r"^fields_of \(rdata\.(\w+) x\) = ", lines.fields_of, types=every),
     Entries("type-of", f"{VALUE}/specs/Data.antt", r"^type_of \(rdata\.(\w+) x\) = ", lines.type_of, types=every),
     Entries("mode-for", f"{VALUE}/specs/Data.antt", r"^mode_for own \(rdata\.(\w+) x\) = ", lines.mode_for),
     Ranked("rank", f"{VALUE}/specs/Order.antt", r"^rank \(rdata\.(\w+) x\) = ", lines.rank, types=every),

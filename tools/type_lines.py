@@ -633,6 +633,8 @@ def tokens_arm(kind):
 
 def values_of(kind):
     """The fields of a value x, as specs of dns_rdata name them."""
+    if not kind.is_straight:
+        return f"{kind.crate}.{kind.name}.{kind.lower}_fields x"
     return "base.NameRecords.name_fields x.0" if kind.is_name else f"base.NameRecords.{kind.lower}_fields x"
 
 
