@@ -14,7 +14,7 @@ use Rattle.dns_rdata_base.specs.{declared.null.NULL.NULL, Counted.by_length}
 use Rattle.dns_rdata_options.proofs.OptionErrors.{opt_never}
 use Rattle.dns_rdata_service.proofs.SvcbValues.{svcb_never}
 use Rattle.dns_rdata_base.specs as base
-use Rattle.dns_rdata_policy.specs as caa_csync
+use Rattle.dns_rdata_policy.specs as policy
 use Rattle.dns_rdata.specs.declared.record_data.RData.{RData}
 use Rattle.dns_rdata.specs.ReadErrors.{IsReadError, OwnError, OwnTaken, rejects_of, never_read, IsTaken, Reached}
 use Rattle.dns_rows.specs.Table.{TypeRow, fields as row, unread, formatless, table, kinds_of}
@@ -155,13 +155,13 @@ lack_never : (kinds : List Kind) (old new : Reading) (k : ℕ) → base.FieldErr
 lack_never kinds old new k (inl e) = cc e
 lack_never kinds old new k (inr h) = first_never kinds old new k h
 
-tag_never : (n t : ℕ) (old new : Reading) (k : ℕ) → caa_csync.CAA.IsTagError n t old (decode.UnknownRecordTypeValue k) new → ⊥
+tag_never : (n t : ℕ) (old new : Reading) (k : ℕ) → policy.CAA.IsTagError n t old (decode.UnknownRecordTypeValue k) new → ⊥
 tag_never n t old new k h = grind arith
 
 either_never : (k : ℕ) {P : Type 0} → (decode.UnknownRecordTypeValue k ≡ decode.Memory) ⊎ ((decode.UnknownRecordTypeValue k ≡ decode.InsufficientBytes) × P) → ⊥
 either_never k h = grind arith
 
-bitmap_never : (n : ℕ) (old new : Reading) (k : ℕ) → caa_csync.RecordTypeSet.IsBitmapError n old (decode.UnknownRecordTypeValue k) new → ⊥
+bitmap_never : (n : ℕ) (old new : Reading) (k : ℕ) → policy.RecordTypeSet.IsBitmapError n old (decode.UnknownRecordTypeValue k) new → ⊥
 bitmap_never n old new k h = grind arith
 
 -- the error with a type number is that of types that are never read

@@ -7,7 +7,7 @@ use Rattle.dns_fields.proofs.FieldLaws.{field_inside}
 use Rattle.dns_names_wire.specs.{State.Reading, Terms.Took, Terms.TookField}
 use Rattle.dns_names_wire.proofs.FieldReads.{took_last, took_then, took_number}
 use Rattle.dns_rdata_base.specs.FieldErrors.{FirstLack}
-use Rattle.dns_rdata_policy.specs as caa_csync
+use Rattle.dns_rdata_policy.specs as policy
 use Rattle.dns_rdata_service.specs as service
 use Rattle.dns_rows.specs.declared.row.TheConstants as rows
 use Rattle.dns_check.specs.{Tags.IsTagError, Parameters.LacksHead, Parameters.IsParameterError, Parameters.IsParametersError, ParameterValues.IsKeyError}
@@ -16,7 +16,7 @@ use Rattle.dns_rdata.proofs.RowErrors.{Faults, Rejects, by_faults}
 
 -- ---- CAA
 
-tag_error : (used n t : ℕ) (d : Reading) (e : DecodeError) (new : Reading) → used ≡ 2 → IsTagError used n t d e new → caa_csync.CAA.IsTagError n t d e new
+tag_error : (used n t : ℕ) (d : Reading) (e : DecodeError) (new : Reading) → used ≡ 2 → IsTagError used n t d e new → policy.CAA.IsTagError n t d e new
 tag_error used n t d e new two (inl r) = inl (record {
   error = r.error ∙ ap (λ (u : ℕ). decode.IncorrectRDataLengthRead n (t + u)) two;
   passed = omega (arith, two, r.passed);
@@ -45,7 +45,7 @@ tag_error used n t d e new two (inr (inr (inr r))) = inr (inr (inr (record {
   index = r.index;
 })))
 
-caa_fault : Faults rows.CAA caa_csync.CAA.caa_facts.rejects
+caa_fault : Faults rows.CAA policy.CAA.caa_facts.rejects
 caa_fault n old e new at (inl f) =
     inl (record { error = f.0; lacks = omega (arith, f.1); index = omega (arith, f.1, at, ap (λ (r : Reading). r.index) f.2) })
 caa_fault n old e new at (inr (flags, one, took, free, ends, inl (inl f))) =
@@ -79,18 +79,18 @@ caa_fault n old e new at (inr (flags, one, took, free, ends, inr (tag, two, seco
     }))
 caa_fault n old e new at (inr (flags, one, took, free, ends, inr (tag, two, second, asked, within, inr f))) = absurd f.5
 
-pub caa_rejects : Rejects rows.CAA caa_csync.CAA.caa_facts.rejects
-caa_rejects = by_faults rows.CAA caa_csync.CAA.caa_facts.rejects refl caa_fault
+pub caa_rejects : Rejects rows.CAA policy.CAA.caa_facts.rejects
+caa_rejects = by_faults rows.CAA policy.CAA.caa_facts.rejects refl caa_fault
 
 -- ---- CSYNC
 
 -- serial and flags were taken
 took_flags : {old one two : Reading} {serial flags : ℕ} → TookField old (Number 4) serial one → TookField one (Number 2) flags two
-    → caa_csync.CSYNC.TookFlags old flags two
+    → policy.CSYNC.TookFlags old flags two
 took_flags {serial = serial} f g =
     record { serial = serial; took = took_then f (took_then g (took_last _)); index = omega (arith, took_number f, took_number g) }
 
-csync_fault : Faults rows.CSYNC caa_csync.CSYNC.csync_facts.rejects
+csync_fault : Faults rows.CSYNC policy.CSYNC.csync_facts.rejects
 csync_fault n old e new at (inl f) = inl (inl f)
 csync_fault n old e new at (inr (serial, one, took, free, ends, inl (inl f))) = inl (inr (serial, one, took, inl f))
 csync_fault n old e new at (inr (serial, one, took, free, ends, inl (inr r))) =
@@ -102,7 +102,7 @@ csync_fault n old e new at (inr (serial, one, took, free, ends, inr (flags, two,
       error = f.0 ∙ ap (λ (x : ℕ). decode.IncorrectRDataLengthRead x n) (omega (arith, six));
       known = known.0;
       passed = omega (arith, six, f.1);
-      taken = subst (λ (r : Reading). caa_csync.CSYNC.TookFlags old flags r) (sym kept) (took_flags took second);
+      taken = subst (λ (r : Reading). policy.CSYNC.TookFlags old flags r) (sym kept) (took_flags took second);
     })))
 csync_fault n old e new at (inr (serial, one, took, free, ends, inr (flags, two, second, known, any, inl (inl (kept, inr f))))) =
     let six : two.index ≡ old.index + 6 = omega (arith, took_number took, took_number second) in
@@ -134,8 +134,8 @@ csync_fault n old e new at (inr (serial, one, took, free, ends, inr (flags, two,
     })))
 csync_fault n old e new at (inr (serial, one, took, free, ends, inr (flags, two, second, known, any, inr f))) = absurd f.5
 
-pub csync_rejects : Rejects rows.CSYNC caa_csync.CSYNC.csync_facts.rejects
-csync_rejects = by_faults rows.CSYNC caa_csync.CSYNC.csync_facts.rejects refl csync_fault
+pub csync_rejects : Rejects rows.CSYNC policy.CSYNC.csync_facts.rejects
+csync_rejects = by_faults rows.CSYNC policy.CSYNC.csync_facts.rejects refl csync_fault
 
 -- ---- SVCB
 

@@ -11,7 +11,7 @@ use Rattle.dns_rdata_base.specs as base
 use Rattle.dns_rdata_certs.specs as certs
 use Rattle.dns_rdata_options.specs as options
 use Rattle.dns_rdata_service.specs as service
-use Rattle.dns_rdata_policy.specs as caa_csync
+use Rattle.dns_rdata_policy.specs as policy
 use Rattle.dns_rdata.specs.declared.record_data.RData.{RData}
 use Rattle.dns_rdata.specs.declared.record_data.RData.TheVariants as rdata
 use Rattle.dns_rdata.specs.{ReadErrors.OwnError, ReadErrors.Reached, Data.IsNeverRead, Data.IsValue, Data.MeetsCondition, Data.shape}
@@ -70,8 +70,8 @@ own_aaaa n old new r h = ending _ _ base.AAAA.aaaa_fields r h (λ h. h) (λ vs. 
 pub own_aname : OwnFields types.ANAME rdata.ANAME base.NameRecords.aname_facts
 own_aname n old new r h = ending _ _ base.NameRecords.aname_fields r h (λ h. h) (λ vs. tt) (λ x can. record { type = refl; fields = refl; can_be_read = tt })
 
-pub own_caa : Own types.CAA rdata.CAA caa_csync.CAA.caa_facts
-own_caa n old new r h = filling _ _ caa_csync.CAA.caa_fields r h (λ h. h) (λ e vs. e) (λ x can. record { type = refl; fields = refl; can_be_read = can })
+pub own_caa : Own types.CAA rdata.CAA policy.CAA.caa_facts
+own_caa n old new r h = filling _ _ policy.CAA.caa_fields r h (λ h. h) (λ e vs. e) (λ x can. record { type = refl; fields = refl; can_be_read = can })
 
 pub own_cert : Own types.CERT rdata.CERT certs.CERT.cert_facts
 own_cert n old new r h = filling _ _ certs.CERT.cert_fields r h (λ h. h) (λ e vs. e) (λ x can. record { type = refl; fields = refl; can_be_read = can })
@@ -79,8 +79,8 @@ own_cert n old new r h = filling _ _ certs.CERT.cert_fields r h (λ h. h) (λ e 
 pub own_cname : OwnFields types.CNAME rdata.CNAME base.NameRecords.cname_facts
 own_cname n old new r h = ending _ _ base.NameRecords.cname_fields r h (λ h. h) (λ vs. tt) (λ x can. record { type = refl; fields = refl; can_be_read = tt })
 
-pub own_csync : Own types.CSYNC rdata.CSYNC caa_csync.CSYNC.csync_facts
-own_csync n old new r h = filling _ _ caa_csync.CSYNC.csync_fields r h (λ h. h) (λ e vs. e) (λ x can. record { type = refl; fields = refl; can_be_read = can })
+pub own_csync : Own types.CSYNC rdata.CSYNC policy.CSYNC.csync_facts
+own_csync n old new r h = filling _ _ policy.CSYNC.csync_fields r h (λ h. h) (λ e vs. e) (λ x can. record { type = refl; fields = refl; can_be_read = can })
 
 pub own_hinfo : OwnFields types.HINFO rdata.HINFO base.HINFO.hinfo_facts
 own_hinfo n old new r h = ending _ _ base.HINFO.hinfo_fields r h (λ h. h) (λ vs. tt) (λ x can. record { type = refl; fields = refl; can_be_read = tt })

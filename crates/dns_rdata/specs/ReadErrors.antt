@@ -11,7 +11,7 @@ use Rattle.dns_rdata_base.specs as base
 use Rattle.dns_rdata_certs.specs as certs
 use Rattle.dns_rdata_options.specs as options
 use Rattle.dns_rdata_service.specs as service
-use Rattle.dns_rdata_policy.specs as caa_csync
+use Rattle.dns_rdata_policy.specs as policy
 use Rattle.dns_rdata.specs.Data.{parts_of, MeetsRule, IsNeverRead}
 
 -- the error of a type that is never read
@@ -29,9 +29,9 @@ row_rejects t unread n = never_read t n
 abbrev pub rejects_of : RecordType → ℕ → Reading → DecodeError → Reading → Type 0
 rejects_of types.A = base.A.a_facts.rejects
 rejects_of types.AAAA = base.AAAA.aaaa_facts.rejects
-rejects_of types.CAA = caa_csync.CAA.caa_facts.rejects
+rejects_of types.CAA = policy.CAA.caa_facts.rejects
 rejects_of types.CERT = certs.CERT.cert_facts.rejects
-rejects_of types.CSYNC = caa_csync.CSYNC.csync_facts.rejects
+rejects_of types.CSYNC = policy.CSYNC.csync_facts.rejects
 rejects_of types.HINFO = base.HINFO.hinfo_facts.rejects
 rejects_of types.HTTPS = service.HTTPS.https_facts.rejects
 rejects_of types.NAPTR = base.NAPTR.naptr_facts.rejects

@@ -105,8 +105,7 @@ pub returns-in_err-by_length-in-HTTPS : goal.returns-in_err-by_length-in-HTTPS
 returns-in_err-by_length-in-HTTPS c = fails c.from_residual-in_err-by_length-in-HTTPS.result c.in-HTTPS.is c.from_residual-in_err-by_length-in-HTTPS.ensures.1 (counted_own types.HTTPS rdata.HTTPS _ c.index-start.ensures.offset c.in_err-by_length-in-HTTPS.ensures (own_https _ c.read_data-data-in-HTTPS.ensures))
 
 pub returns-in-MX : goal.returns-in-MX
-returns-in-MX c =
-    gives c.in-MX.is (counted_own types.MX rdata.MX _ c.index-start.ensures.offset c.in_ok-by_length-in-MX.ensures (own_mx _ _ _ _ c.read_data-data-in-MX.ensures))
+returns-in-MX c = gives c.in-MX.is (counted_own types.MX rdata.MX _ c.index-start.ensures.offset c.in_ok-by_length-in-MX.ensures (own_mx _ _ _ _ c.read_data-data-in-MX.ensures))
 
 pub returns-in_err-by_length-in-MX : goal.returns-in_err-by_length-in-MX
 returns-in_err-by_length-in-MX c = fails c.from_residual-in_err-by_length-in-MX.result c.in-MX.is c.from_residual-in_err-by_length-in-MX.ensures.1 (counted_own types.MX rdata.MX _ c.index-start.ensures.offset c.in_err-by_length-in-MX.ensures (own_mx _ _ _ _ c.read_data-data-in-MX.ensures))
@@ -124,8 +123,7 @@ pub returns-in_err-by_length-in-NULL : goal.returns-in_err-by_length-in-NULL
 returns-in_err-by_length-in-NULL c = fails c.from_residual-in_err-by_length-in-NULL.result c.in-NULL.is c.from_residual-in_err-by_length-in-NULL.ensures.1 (counted_own types.NULL rdata.NULL _ c.index-start.ensures.offset c.in_err-by_length-in-NULL.ensures (own_null _ _ _ _ c.read_data-data-in-NULL.ensures))
 
 pub returns-in-NS : goal.returns-in-NS
-returns-in-NS c =
-    gives c.in-NS.is (counted_own types.NS rdata.NS _ c.index-start.ensures.offset c.in_ok-by_length-in-NS.ensures (own_ns _ _ _ _ c.read_data-data-in-NS.ensures))
+returns-in-NS c = gives c.in-NS.is (counted_own types.NS rdata.NS _ c.index-start.ensures.offset c.in_ok-by_length-in-NS.ensures (own_ns _ _ _ _ c.read_data-data-in-NS.ensures))
 
 pub returns-in_err-by_length-in-NS : goal.returns-in_err-by_length-in-NS
 returns-in_err-by_length-in-NS c = fails c.from_residual-in_err-by_length-in-NS.result c.in-NS.is c.from_residual-in_err-by_length-in-NS.ensures.1 (counted_own types.NS rdata.NS _ c.index-start.ensures.offset c.in_err-by_length-in-NS.ensures (own_ns _ _ _ _ c.read_data-data-in-NS.ensures))
