@@ -12,11 +12,11 @@ ghost use Rattle.dns_names_wire.specs.{NameEnds.NameEnds, Steps.NameSteps, Steps
 ghost use Rattle.dns_check.specs.RowSteps.{FieldSteps, NearRow, RowSteps};
 
 use crate::bitmap::check_blocks;
-use dns_names_wire::name_ends::near_name;
 use crate::options::{options_end, skip_options};
 use crate::parameters::skip_parameters;
-use dns_names_wire::walk::Walk;
 use dns_fields::Kind;
+use dns_names_wire::name_ends::near_name;
+use dns_names_wire::walk::Walk;
 use dns_rows::{Front, Part, Rule};
 use dns_types::DecodeError;
 

@@ -12,10 +12,10 @@ use crate::edns::{Edns, edns_of};
 use crate::error::{Fault, RecordError, Section};
 use crate::reading::{FixedFields, read_record};
 use crate::sections::Position;
+use dns_names_wire::Walk;
 use dns_rdata::RDataRef;
 use dns_types::{DecodeError, RecordType, Restrict};
 use dns_view::NameRef;
-use dns_names_wire::Walk;
 
 // The classes of records of UPDATE that have no data (RFC 2136, sections 2.4 and 2.5).
 const NONE: u16 = 254;

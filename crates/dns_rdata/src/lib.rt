@@ -21,12 +21,11 @@ pub use dns_rdata_base::{
     A, AAAA, ANAME, CNAME, HINFO, MX, NAPTR, NS, NULL, OPENPGPKEY, PTR, RecordDataDecodable, SOA,
     SRV, TXT, TakesOctet, a, aaaa, mx, null, openpgpkey, srv, verify_flags,
 };
-pub use dns_rdata_policy::{CAA, CSYNC, RecordTypeSet, record_type_set};
 pub use dns_rdata_certs::{CERT, HEX, SMIMEA, SSHFP, TLSA, cert, smimea, sshfp, tlsa};
 pub use dns_rdata_options::{OPT, opt};
+pub use dns_rdata_policy::{CAA, CSYNC, RecordTypeSet, record_type_set};
 pub use dns_rdata_service::{HTTPS, Items, SVCB, https, items, svcb};
-pub use dns_tokens::{Lexer, Token};
-pub use dns_tokens::{FromTokens, TokenList};
+pub use dns_tokens::{FromTokens, Lexer, Token, TokenList};
 pub use dns_types::Strings;
 pub use dns_view::{FieldRef, Labels, NameRef, StringsRef, Tlv, Tlvs, TypesRef};
 pub use record_data::RData;

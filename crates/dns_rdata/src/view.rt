@@ -11,12 +11,11 @@ ghost use Rattle.dns_names_wire.specs.Steps.{Leaves};
 ghost use Rattle.dns_rdata.specs.Steps.{RDataSteps};
 
 use crate::record_data::RData;
-use dns_names_wire::{BinDecoder, DecodeError, RecordType, Restrict};
+use dns_check::fields::{is_near, skip_row};
+use dns_names_wire::{BinDecoder, DecodeError, RecordType, Restrict, Walk};
 use dns_rows::row::NULL;
 use dns_rows::{Front, Part, Row, row_of};
-use dns_check::fields::{is_near, skip_row};
 use dns_view::{FieldRef, NameRef, RowView, StringsRef, Tlvs, TypesRef};
-use dns_names_wire::Walk;
 use std::alloc::{AllocError, Global};
 use std::cmp::Ordering;
 use std::net::{IpAddr, Ipv4Addr, Ipv6Addr};

@@ -17,9 +17,9 @@ use crate::status::{
     REFUSED, status_of_text,
 };
 use crate::writing::put_text;
+use dns_names_wire::name_ends::skip_name;
 use dns_rdata::{BinDecodable, BinDecoder, DecodeError, Name, RecordType};
 use dns_rdata_zone::{ZoneName, name_from_zone_text, type_named};
-use dns_names_wire::name_ends::skip_name;
 use std::alloc::Global;
 
 /// Writes a name of the RDATA to a buffer, uncompressed and case preserved, and sets the number of octets and the

@@ -13,6 +13,7 @@ ghost use Rattle.dns_zone_tokens.specs.Remaining.{PutsAll};
 ghost use Rattle.dns_zone_rows.specs.{Parameters.AreParameters, ParameterSteps.ReadsParameters, ParameterViews.parameter_value};
 ghost use Rattle.dns_zone_rows.specs.ParameterFaults.{FaultBehind, ParametersFault, twice_text};
 
+pub use crate::parameters::key::key_of_name;
 use crate::parameters::lists::first_fall;
 use crate::parameters::parameter::Parameter;
 use crate::parameters::written::next_parameter;
@@ -20,7 +21,6 @@ use dns_rdata_service::svcb::SvcParamKey;
 use dns_rdata_service::with_named_keys;
 use dns_types::ParseError;
 use dns_zone_tokens::ZoneTokens;
-pub use crate::parameters::key::key_of_name;
 use std::alloc::{AllocError, Global};
 
 /// Reads all remaining tokens as service parameters and appends their octets as on the wire: sorted by key, each as

@@ -47,4 +47,3 @@ pub fn compare_bitmaps(a: &[u8], b: &[u8]) -> Ordering
         },
     }
 }
-

@@ -9,9 +9,9 @@ ghost use Rattle.dns_view.specs.{Putting.Put, Putting.name_form, LabelList.low_o
 
 use crate::name::labels::Labels;
 use crate::name::order::compare_names;
-use dns_names_wire::name_ends::skip_name;
 use crate::put::put_name;
 use dns_labels::text::NameText;
+use dns_names_wire::name_ends::skip_name;
 use dns_names_wire::{BinDecodable, BinDecoder, Name};
 use std::alloc::{AllocError, Global};
 use std::cmp::Ordering;

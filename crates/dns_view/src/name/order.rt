@@ -5,10 +5,10 @@ ghost use Rattle.std.specs.{Cmp.Lexicographic.slice_cmp, Ordering.nat_cmp};
 ghost use Rattle.dns_fields.specs.{Labels.DomainName, Labels.lowname, Names.IsNameIn};
 ghost use Rattle.dns_names_wire.specs.NameEnds.{SkipsRun, OrdersNames};
 
-use dns_names_wire::name_ends::skip_run;
 use crate::put::put_name;
 use dns_canonical::order::octets_cmp;
 use dns_labels::comparing::compare_lowered;
+use dns_names_wire::name_ends::skip_run;
 use dns_types::comparing::same_octets;
 use std::cmp::Ordering;
 

@@ -6,7 +6,9 @@ ghost use Rattle.dns_fields.specs.{Fields.Value, Fields.Field, Fields.field_octe
 ghost use Rattle.dns_view.specs.OptionOctets.{own_at};
 
 use crate::options::parts::compare_at;
-use crate::options::put::{FEW, FEW_OCTETS, FEWEST, FEWEST_OCTETS, MOST, SOME, SOME_OCTETS, list_options, sort_options};
+use crate::options::put::{
+    FEW, FEW_OCTETS, FEWEST, FEWEST_OCTETS, MOST, SOME, SOME_OCTETS, list_options, sort_options,
+};
 use std::cmp::Ordering;
 
 // Compares options one by one, by their canonical octets; a list that ends first comes first.

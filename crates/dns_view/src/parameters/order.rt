@@ -7,8 +7,8 @@ ghost use Rattle.dns_fields.specs.declared.Kind.TheVariants.{Parameters};
 ghost use Rattle.dns_fields.specs.Tlvs.{ParameterValue, ParameterHeld, IsTlv, tlv, parameter_octets};
 
 use crate::parameters::put::has_surplus;
-use dns_check::tlvs::end_of;
 use dns_canonical::order::octets_cmp;
+use dns_check::tlvs::end_of;
 use std::cmp::Ordering;
 
 // Key and length of a parameter as its canonical octets have them.

@@ -6,11 +6,11 @@ ghost use Rattle.dns_fields.specs.Fields.{Value, Field};
 ghost use Rattle.dns_check.specs.Rows.{IsRowChecked, HasRow};
 ghost use Rattle.dns_view.specs.Putting.{IsRecoded, Put, form_octets, all_form};
 
-use crate::row::ends::{fields_to_visit, is_plain, plain_end};
-use crate::put::{put_name, put_octets};
 use crate::bitmap::put::put_bitmap;
 use crate::options::put::put_options;
 use crate::parameters::put::put_parameters;
+use crate::put::{put_name, put_octets};
+use crate::row::ends::{fields_to_visit, is_plain, plain_end};
 use dns_fields::Kind;
 use dns_rows::Part;
 

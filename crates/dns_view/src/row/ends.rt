@@ -6,8 +6,8 @@ ghost use Rattle.dns_names_wire.specs.NameEnds.{IsNamed};
 ghost use Rattle.dns_check.specs.Parts.{Reaches};
 ghost use Rattle.dns_view.specs.RowOrder.{IsPlain, ArePlain, Sized};
 
-use dns_names_wire::name_ends::skip_name;
 use dns_fields::Kind;
+use dns_names_wire::name_ends::skip_name;
 use dns_rows::Part;
 
 // Returns whether the octets of a field are canonical as they are encoded.

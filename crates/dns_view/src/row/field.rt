@@ -9,10 +9,10 @@ ghost use Rattle.dns_check.specs.{Parts.IsCovered, Parts.IsWidth, Rows.IsRowChec
 ghost use Rattle.dns_view.specs.Shown.{Shows, ShowsAt};
 ghost use Rattle.dns_view.specs.NameFields.{names_in, ShowsNameAt};
 
-use crate::row::ends::part_end;
 use crate::name::name_ref::NameRef;
-use dns_names_wire::walk::Walk;
+use crate::row::ends::part_end;
 use dns_fields::Kind;
+use dns_names_wire::walk::Walk;
 use dns_rows::{Part, Rule};
 
 /// A field of RDATA, lent from the message.

@@ -11,10 +11,10 @@ ghost use Rattle.dns_check.specs.Rows.{IsRowChecked, IsRow, HasRow};
 ghost use Rattle.dns_view.specs.RowOrder.{IsPlain, ArePlain, Sized};
 
 use crate::bitmap::order::compare_bitmaps;
-use crate::parameters::order::compare_parameters;
-use crate::row::ends::{fields_to_visit, is_plain, plain_end};
 use crate::name::order::order_names;
 use crate::options::order::compare_options;
+use crate::parameters::order::compare_parameters;
+use crate::row::ends::{fields_to_visit, is_plain, plain_end};
 use dns_canonical::order::octets_cmp;
 use dns_fields::Kind;
 use dns_rows::Part;

@@ -10,11 +10,11 @@ ghost use Rattle.dns_check.specs.Checks.{FillsRow, NoFill, IsRowError};
 ghost use Rattle.dns_names_wire.specs.Steps.{Leaves};
 ghost use Rattle.dns_check.specs.RowSteps.{RowSteps};
 
-use crate::row::canonical::put_row;
-use dns_check::check::check_data;
-use crate::row::field::{FieldRef, field_of, name_field_of};
 use crate::name::name_ref::NameRef;
+use crate::row::canonical::put_row;
+use crate::row::field::{FieldRef, field_of, name_field_of};
 use crate::row::order::compare_rows;
+use dns_check::check::check_data;
 use dns_check::fields::is_near;
 use dns_names_wire::walk::Walk;
 use dns_rows::{Front, Part};
