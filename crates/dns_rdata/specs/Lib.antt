@@ -9,6 +9,7 @@ pub mod QuickOrders
 pub mod Order
 pub mod Ties
 pub mod ReadErrors
+pub mod ReadFailures
 pub mod Texts
 pub mod WholeOctets
 pub mod Steps

@@ -30,7 +30,7 @@ why c =
     (behind.message ∙ ap (λ (r : Reading). r.message) same)
     (omega (arith, c.index.ensures.offset, offset, behind.index, ap (λ (r : Reading). r.index) same)) c.index.ensures.inside slice.ensures.taken slice.ensures.lacking in
     view_why c.args.record_type c.args.length old c.at-walk.result walk slice.new.self c.in-Err.e c.args.parts.now same c.requires.parts c.requires.read
-    c.index-start.ensures.inside there c.in-Err.ensures.why
+    there c.in-Err.ensures.why
 
 pub returns-in-Err-clause-why : goal.returns-in-Err-clause-why
 returns-in-Err-clause-why c = (why c).0
