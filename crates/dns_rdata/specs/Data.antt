@@ -190,16 +190,3 @@ unfoldable pub EmitsData : RDataEncoding → RData → Result (Unit {0}) ProtoEr
 EmitsData mode v r old new = EmitsAs mode (fields_of v).kinds (fields_of v).values r old new
 
 -- ---- what a reader returns that may stop elsewhere than at the end of the region
-
-pub record TookData (old : Reading) (t : RecordType) (n : ℕ) (v : RData) (new : Reading) : Type 0 where
-  pub behind : StaysBehind old new
-  pub here : new.index ≡ old.index + n → Fills old.message old.index n t v
-  pub elsewhere : new.index ≢ old.index + n → NoRegion old.message old.index n (shape t) (MeetsCondition t)
-
-pub record RefusedData (e : DecodeError) (old : Reading) (t : RecordType) (n : ℕ) (new : Reading) : Type 0 where
-  pub behind : StaysBehind old new
-  pub none : UnlessMemory e (NoRegion old.message old.index n (shape t) (MeetsCondition t))
-
-abbrev pub ReadsData : RecordType → ℕ → Result RData DecodeError → Reading → Reading → Type 0
-ReadsData t n (Ok v) old new = TookData old t n v new
-ReadsData t n (Err e) old new = RefusedData e old t n new

@@ -1,4 +1,4 @@
--- Why RDATA is rejected. An error is defined once, by the row of the type: `RowError` of `dns_view` says which error comes,
+-- Why RDATA is rejected. An error is defined once, by the row of the type: `RowError` of `dns_check` says which error comes,
 -- with which numbers, and where the decoder is then.
 use Rattle.std.specs.Prelude.{◌≡◌, ℕ, Result, Err}
 use Rattle.dns_types.specs.{declared.error.DecodeError.DecodeError, declared.record_type.RecordType.RecordType, RecordTypes.number_of}
