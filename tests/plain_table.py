@@ -203,12 +203,6 @@ def one_name(window):
     return [name], name.text()
 
 
-def mail_exchange(window):
-    """MX: a preference and a name (RFC 1035, 3.3.9)."""
-    preference, name = window.octets(2), window.name()
-    return [preference, name], joined(number(preference), name.text())
-
-
 def number(octets):
     """The number whose octets these are."""
     return int.from_bytes(octets, "big")
@@ -221,10 +215,14 @@ def start_of_authority(window):
     return [*names, octets], joined(*(name.text() for name in names), *words)
 
 
-def server(window):
-    """SRV: priority, weight, port and a name (RFC 2782)."""
-    numbers, name = window.octets(6), window.name()
-    return [numbers, name], joined(*(number(numbers[i : i + 2]) for i in (0, 2, 4)), name.text())
+def numbers_and_name(*sizes):
+    """MX (RFC 1035, 3.3.9), SRV (RFC 2782) and the like: numbers of so many octets each, and a name."""
+
+    def recognize(window):
+        numbers, name = [window.octets(size) for size in sizes], window.name()
+        return [*numbers, name], joined(*map(number, numbers), name.text())
+
+    return recognize
 
 
 def naming_authority(window):
@@ -430,10 +428,10 @@ TYPES = [
     (10, "NULL", any_octets, False),
     (12, "PTR", one_name, True),
     (13, "HINFO", host_information, False),
-    (15, "MX", mail_exchange, True),
+    (15, "MX", numbers_and_name(2), True),
     (16, "TXT", strings_to_the_end, False),
     (28, "AAAA", long_address, False),
-    (33, "SRV", server, False),
+    (33, "SRV", numbers_and_name(2, 2, 2), False),
     (35, "NAPTR", naming_authority, False),
     (37, "CERT", certificate, False),
     (41, "OPT", options, False),

@@ -8,10 +8,10 @@ use Rattle.dns_fields.specs.Tlvs.{form_for, ParameterForm, Keys, Names, Nothing,
 use Rattle.dns_names_wire.specs.State.{Reading}
 use Rattle.dns_rows.specs.{declared.row.Part.Part, declared.row.Rule.Rule}
 use Rattle.dns_rows.specs.declared.row.Rule.TheVariants as rules
-use Rattle.dns_view.specs.{Checks.IsRowError, Rows.RowFault, Rows.RowError}
-use Rattle.dns_view.specs.Parts.{KindFault, NumberFault, StringFault, EndFault, RestFault}
-use Rattle.dns_view.specs.{Tags.IsTagError, Values.IsFormError, Values.IsKeyError, Parameters.IsParametersError}
-use Rattle.dns_view.specs.{Options.IsSubnetError, Options.IsTlvError, Options.IsNextError, Parameters.IsParameterError}
+use Rattle.dns_check.specs.{Checks.IsRowError, Rows.RowFault, Rows.RowError}
+use Rattle.dns_check.specs.Parts.{KindFault, NumberFault, StringFault, EndFault, RestFault}
+use Rattle.dns_check.specs.{Tags.IsTagError, ParameterValues.IsFormError, ParameterValues.IsKeyError, Parameters.IsParametersError}
+use Rattle.dns_check.specs.{Options.IsSubnetError, Options.IsTlvError, Options.IsNextError, Parameters.IsParameterError}
 
 abbrev pub Known : DecodeError → Type 0
 Known e = (e ≢ decode.Memory) × ((k : ℕ) → e ≢ decode.UnknownRecordTypeValue k)

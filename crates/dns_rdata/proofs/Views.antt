@@ -10,15 +10,16 @@ use Rattle.dns_fields.specs.declared.Kind.TheVariants.{Octets, Name}
 use Rattle.dns_names_wire.specs.{State.Reading, Terms.TookField, Terms.LacksOctets, Terms.StaysBehind}
 use Rattle.dns_rows.specs.{declared.row.Part.Part, Rules.MeetsRow}
 use Rattle.dns_rows.specs.Table.{TypeRow, fields as row, unread, formatless, table, kinds_of}
-use Rattle.dns_view.specs.{Checks.FillsRow, Checks.NoFill, Checks.IsRowError, Rows.SkipsRow, Rows.is_row}
+use Rattle.dns_check.specs.{Checks.FillsRow, Checks.NoFill, Checks.IsRowError, Rows.SkipsRow, Rows.is_row}
 use Rattle.dns_view.specs.ViewOf as row_view
-use Rattle.dns_view.specs.declared.view.RowView.{RowView}
+use Rattle.dns_view.specs.declared.row.view.RowView.{RowView}
 use Rattle.dns_rdata.specs.Views.{IsViewOf}
 use Rattle.dns_rdata.specs.{Data.data_octets, Data.type_of, Equal.equal, Equal.types_equal, Keys.variant_keys, Order.rdata_cmp, Ties.rdata_ties}
 use Rattle.dns_rdata.proofs.OrderReads.{orders_read}
 use Rattle.dns_types.proofs.RecordTypeLaws.{code_of-Decides}
 use Rattle.std.proofs.lemmas.Bool.{cases_Bool}
-use Rattle.dns_view.specs.{Putting.form_octets, Putting.all_form, Rows.HasRow}
+use Rattle.dns_view.specs.Putting.{form_octets, all_form}
+use Rattle.dns_check.specs.Rows.{HasRow}
 use Rattle.dns_rdata.specs.WholeOctets.{whole_octets, all_whole, whole_data}
 use Rattle.dns_rdata.specs.{declared.record_data.RData.RData, declared.view.RDataRef.RDataRef}
 use Rattle.dns_rdata.specs.Data.{parts_of, MeetsRule, IsNever, IsNeverRead, HasValue, NoValue, FieldsOf, Fills, shape}

@@ -1,11 +1,11 @@
--- Why RDATA is rejected. An error is defined once, by the row of the type: `RowError` of `dns_view` says which error comes,
+-- Why RDATA is rejected. An error is defined once, by the row of the type: `RowError` of `dns_check` says which error comes,
 -- with which numbers, and where the decoder is then.
 use Rattle.std.specs.Prelude.{◌≡◌, ℕ, Result, Err}
 use Rattle.dns_types.specs.{declared.error.DecodeError.DecodeError, declared.record_type.RecordType.RecordType, RecordTypes.number_of}
 use Rattle.dns_types.specs.declared.error.DecodeError.TheVariants as decode
 use Rattle.dns_rows.specs.Table.{table}
 use Rattle.dns_names_wire.specs.State.{Reading}
-use Rattle.dns_view.specs.{Checks.IsRowError, Rows.SkipsRow}
+use Rattle.dns_check.specs.{Checks.IsRowError, Rows.SkipsRow}
 use Rattle.dns_rdata.specs.Data.{parts_of, IsNeverRead}
 
 -- the type is never read: the error has its number, and nothing is taken

@@ -1,4 +1,4 @@
--- Records that a name ends: CNAME, NS, PTR, MX (RFC 1035, 3.3.1, 3.3.11, 3.3.12 and 3.3.9), ANAME and SRV (RFC 2782).
+-- Straight records: numbers, and a name as the last field.
 use Rattle.std.specs.Prelude.{List, [], ◌∷◌}
 use Rattle.dns_fields.specs.{declared.Kind.Kind, declared.Kind.TheVariants.Number, declared.Kind.TheVariants.Name}
 use Rattle.dns_fields.specs.{Fields.Values, Labels.DomainName}

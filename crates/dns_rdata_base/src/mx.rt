@@ -19,13 +19,13 @@ use std::fmt;
 
 /// MX RDATA (RFC 1035, section 3.3.9): a host that receives mail for the owner.
 ///
-///     +--+--+----------+
-///     |PREFERENCE      |   u16, lower is tried first
-///     +--+--+----------+
-///     /    EXCHANGE    /   a domain name, compressed on emit
-///     +--+--+----------+
+///     +--+--+--+--+--+--+--+--+
+///     |      PREFERENCE       |   u16, lower is tried first
+///     +--+--+--+--+--+--+--+--+
+///     /       EXCHANGE        /   a domain name, compressed on emit
+///     +--+--+--+--+--+--+--+--+
 ///
-/// The RDATA `0100014e00` is `256 N.`.
+/// The RDATA `000a046d61696c076578616d706c6503636f6d00` is `10 mail.example.com.`.
 #[derive(Clone, Debug, Drop, Eq, Hash, PartialEq)]
 pub struct MX {
     /// Lower values are tried first; 16 bits.
@@ -51,8 +51,8 @@ impl MX {
     /// # Errors
     ///
     /// - [`MissingToken`](ParseError::MissingToken): a token is missing.
-    /// - [`Message`](ParseError::Message): the first token is no such number.
-    /// - [`Proto`](ParseError::Proto): the second token is no name.
+    /// - [`Message`](ParseError::Message): the token of preference is no such number.
+    /// - [`Proto`](ParseError::Proto): the token of exchange is no name.
     /// - [`Memory`](ParseError::Memory): an allocation failed.
     pub fn from_tokens<S: AsStr + Drop, I: Iterator<Item = S>>(
         alloc: Global,

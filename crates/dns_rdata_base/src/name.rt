@@ -36,12 +36,18 @@ pub fn name_step<'a>(name: &'a Name, step: usize, head: &mut Head) -> Option<Ste
 ///
 ///     /   CNAME   /   a domain name, compressed on emit
 ///
-/// The RDATA `0377777700` is `www.`.
+/// The RDATA `03777777076578616d706c6503636f6d00` is `www.example.com.`.
 #[derive(Clone, Debug, Drop, Eq, Hash, PartialEq)]
 pub struct CNAME(pub Name);
 
 impl CNAME {
-    /// Reads one token, the name, as [`ANAME::from_tokens`].
+    /// Reads one token, the text of a name; a relative name is completed with the origin. Further tokens are not read.
+    ///
+    /// # Errors
+    ///
+    /// - [`MissingToken`](ParseError::MissingToken): there is no token.
+    /// - [`Proto`](ParseError::Proto): the token is no name.
+    /// - [`Memory`](ParseError::Memory): an allocation failed.
     pub fn from_tokens<S: AsStr + Drop, I: Iterator<Item = S>>(
         alloc: Global,
         mut tokens: I,
@@ -112,12 +118,18 @@ impl fmt::Display for CNAME {
 ///
 ///     /   NSDNAME   /   a domain name, compressed on emit
 ///
-/// The RDATA `036e733100` is `ns1.`.
+/// The RDATA `036e7331076578616d706c6503636f6d00` is `ns1.example.com.`.
 #[derive(Clone, Debug, Drop, Eq, Hash, PartialEq)]
 pub struct NS(pub Name);
 
 impl NS {
-    /// Reads one token, the name, as [`ANAME::from_tokens`].
+    /// Reads one token, the text of a name; a relative name is completed with the origin. Further tokens are not read.
+    ///
+    /// # Errors
+    ///
+    /// - [`MissingToken`](ParseError::MissingToken): there is no token.
+    /// - [`Proto`](ParseError::Proto): the token is no name.
+    /// - [`Memory`](ParseError::Memory): an allocation failed.
     pub fn from_tokens<S: AsStr + Drop, I: Iterator<Item = S>>(
         alloc: Global,
         mut tokens: I,
@@ -188,12 +200,18 @@ impl fmt::Display for NS {
 ///
 ///     /   PTRDNAME   /   a domain name, compressed on emit
 ///
-/// The RDATA `04686f737400` is `host.`.
+/// The RDATA `04686f7374076578616d706c6503636f6d00` is `host.example.com.`.
 #[derive(Clone, Debug, Drop, Eq, Hash, PartialEq)]
 pub struct PTR(pub Name);
 
 impl PTR {
-    /// Reads one token, the name, as [`ANAME::from_tokens`].
+    /// Reads one token, the text of a name; a relative name is completed with the origin. Further tokens are not read.
+    ///
+    /// # Errors
+    ///
+    /// - [`MissingToken`](ParseError::MissingToken): there is no token.
+    /// - [`Proto`](ParseError::Proto): the token is no name.
+    /// - [`Memory`](ParseError::Memory): an allocation failed.
     pub fn from_tokens<S: AsStr + Drop, I: Iterator<Item = S>>(
         alloc: Global,
         mut tokens: I,
@@ -264,7 +282,7 @@ impl fmt::Display for PTR {
 ///
 ///     /   TARGET   /   a domain name, uncompressed on emit
 ///
-/// The RDATA `0377777700` is `www.`.
+/// The RDATA `03777777076578616d706c6503636f6d00` is `www.example.com.`.
 #[derive(Clone, Debug, Drop, Eq, Hash, PartialEq)]
 pub struct ANAME(pub Name);
 

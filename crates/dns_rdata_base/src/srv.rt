@@ -20,18 +20,24 @@ use std::fmt;
 
 /// SRV RDATA (RFC 2782): a host and a port of a service.
 ///
-///     +----+----+----+----+----+----+--------+
-///     |PRIORITY | WEIGHT  |  PORT   / TARGET /   three u16, and a domain name, uncompressed on emit
-///     +----+----+----+----+----+----+--------+
+///     +--+--+--+--+--+--+--+--+
+///     |       PRIORITY        |   u16, lower is tried first
+///     +--+--+--+--+--+--+--+--+
+///     |        WEIGHT         |   u16
+///     +--+--+--+--+--+--+--+--+
+///     |         PORT          |   u16
+///     +--+--+--+--+--+--+--+--+
+///     /        TARGET         /   a domain name, uncompressed on emit
+///     +--+--+--+--+--+--+--+--+
 ///
-/// The RDATA `000100020003016100` is `1 2 3 a.`.
+/// The RDATA `0000000513c403736970076578616d706c6503636f6d00` is `0 5 5060 sip.example.com.`.
 #[derive(Clone, Debug, Drop, Eq, Hash, PartialEq)]
 pub struct SRV {
     /// Lower values are tried first; 16 bits.
     pub priority: u16,
     /// The share among those of one priority; 16 bits.
     pub weight: u16,
-    /// The port, of 16 bits, in the protocol that the owner names.
+    /// The port in the protocol that the owner names; 16 bits.
     pub port: u16,
     /// The host; the root where the service is not offered.
     pub target: Name,
@@ -50,8 +56,15 @@ impl SRV {
         }
     }
 
-    /// Reads four tokens: priority, weight and port, decimal numbers of 16 bits, and target, a name. Further tokens are
-    /// not read. Fails as `MX::from_tokens`.
+    /// Reads four tokens: priority, weight and port, decimal numbers of 16 bits, and target, a name, which is completed
+    /// with the origin if it is relative. Further tokens are not read.
+    ///
+    /// # Errors
+    ///
+    /// - [`MissingToken`](ParseError::MissingToken): a token is missing.
+    /// - [`Message`](ParseError::Message): the token of priority, weight or port is no such number.
+    /// - [`Proto`](ParseError::Proto): the token of target is no name.
+    /// - [`Memory`](ParseError::Memory): an allocation failed.
     pub fn from_tokens<S: AsStr + Drop, I: Iterator<Item = S>>(
         alloc: Global,
         mut tokens: I,

@@ -1,7 +1,7 @@
 use Rattle.std.proofs.Common.{refl}
 use Rattle.dns_types.specs.declared.record_type.RecordType.TheVariants as types
 use Rattle.dns_rdata_base.specs as base
-use Rattle.dns_rdata_caa_csync.specs as caa_csync
+use Rattle.dns_rdata_policy.specs as policy
 use Rattle.dns_rdata_certs.specs as certs
 use Rattle.dns_rdata_options.specs as options
 use Rattle.dns_rdata_service.specs as service
@@ -28,10 +28,10 @@ pub returns-in_err-of_length-in-ANAME : goal.returns-in_err-of_length-in-ANAME
 returns-in_err-of_length-in-ANAME c = fails c.from_residual-in_err-of_length-in-ANAME.result c.in-ANAME.is c.from_residual-in_err-of_length-in-ANAME.ensures.1 (λ h. h) c.index-start.ensures.offset c.index-start.ensures.inside (region_behind types.ANAME base.NameRecords.aname_fields _ _ _ _ c.read_data-data-in-ANAME.ensures.region) c.in_err-of_length-in-ANAME.ensures.error
 
 pub returns-in-CAA : goal.returns-in-CAA
-returns-in-CAA c = gives c.in-CAA.is (has_read types.CAA rdata.CAA caa_csync.CAA.caa_fields _ _ c.index-start.ensures.offset c.read_data-data-in-CAA.ensures.region c.in_ok-of_length-in-CAA.ensures.whole (record { type = refl; fields = refl; can_be_read = (of_read _ c.read_data-data-in-CAA.ensures.after_read c.in_ok-of_length-in-CAA.ensures.whole.0).0 }))
+returns-in-CAA c = gives c.in-CAA.is (has_read types.CAA rdata.CAA policy.CAA.caa_fields _ _ c.index-start.ensures.offset c.read_data-data-in-CAA.ensures.region c.in_ok-of_length-in-CAA.ensures.whole (record { type = refl; fields = refl; can_be_read = (of_read _ c.read_data-data-in-CAA.ensures.after_read c.in_ok-of_length-in-CAA.ensures.whole.0).0 }))
 
 pub returns-in_err-of_length-in-CAA : goal.returns-in_err-of_length-in-CAA
-returns-in_err-of_length-in-CAA c = fails c.from_residual-in_err-of_length-in-CAA.result c.in-CAA.is c.from_residual-in_err-of_length-in-CAA.ensures.1 (λ h. h) c.index-start.ensures.offset c.index-start.ensures.inside (region_behind types.CAA caa_csync.CAA.caa_fields _ _ _ _ c.read_data-data-in-CAA.ensures.region) c.in_err-of_length-in-CAA.ensures.error
+returns-in_err-of_length-in-CAA c = fails c.from_residual-in_err-of_length-in-CAA.result c.in-CAA.is c.from_residual-in_err-of_length-in-CAA.ensures.1 (λ h. h) c.index-start.ensures.offset c.index-start.ensures.inside (region_behind types.CAA policy.CAA.caa_fields _ _ _ _ c.read_data-data-in-CAA.ensures.region) c.in_err-of_length-in-CAA.ensures.error
 
 pub returns-in-CERT : goal.returns-in-CERT
 returns-in-CERT c = gives c.in-CERT.is (has_read types.CERT rdata.CERT certs.CERT.cert_fields _ _ c.index-start.ensures.offset c.read_data-data-in-CERT.ensures.region c.in_ok-of_length-in-CERT.ensures.whole (record { type = refl; fields = refl; can_be_read = (of_read _ c.read_data-data-in-CERT.ensures.after_read c.in_ok-of_length-in-CERT.ensures.whole.0).0 }))
@@ -46,10 +46,10 @@ pub returns-in_err-of_length-in-CNAME : goal.returns-in_err-of_length-in-CNAME
 returns-in_err-of_length-in-CNAME c = fails c.from_residual-in_err-of_length-in-CNAME.result c.in-CNAME.is c.from_residual-in_err-of_length-in-CNAME.ensures.1 (λ h. h) c.index-start.ensures.offset c.index-start.ensures.inside (region_behind types.CNAME base.NameRecords.cname_fields _ _ _ _ c.read_data-data-in-CNAME.ensures.region) c.in_err-of_length-in-CNAME.ensures.error
 
 pub returns-in-CSYNC : goal.returns-in-CSYNC
-returns-in-CSYNC c = gives c.in-CSYNC.is (has_read types.CSYNC rdata.CSYNC caa_csync.CSYNC.csync_fields _ _ c.index-start.ensures.offset c.read_data-data-in-CSYNC.ensures.region c.in_ok-of_length-in-CSYNC.ensures.whole (record { type = refl; fields = refl; can_be_read = (of_read _ c.read_data-data-in-CSYNC.ensures.after_read c.in_ok-of_length-in-CSYNC.ensures.whole.0).0 }))
+returns-in-CSYNC c = gives c.in-CSYNC.is (has_read types.CSYNC rdata.CSYNC policy.CSYNC.csync_fields _ _ c.index-start.ensures.offset c.read_data-data-in-CSYNC.ensures.region c.in_ok-of_length-in-CSYNC.ensures.whole (record { type = refl; fields = refl; can_be_read = (of_read _ c.read_data-data-in-CSYNC.ensures.after_read c.in_ok-of_length-in-CSYNC.ensures.whole.0).0 }))
 
 pub returns-in_err-of_length-in-CSYNC : goal.returns-in_err-of_length-in-CSYNC
-returns-in_err-of_length-in-CSYNC c = fails c.from_residual-in_err-of_length-in-CSYNC.result c.in-CSYNC.is c.from_residual-in_err-of_length-in-CSYNC.ensures.1 (λ h. h) c.index-start.ensures.offset c.index-start.ensures.inside (region_behind types.CSYNC caa_csync.CSYNC.csync_fields _ _ _ _ c.read_data-data-in-CSYNC.ensures.region) c.in_err-of_length-in-CSYNC.ensures.error
+returns-in_err-of_length-in-CSYNC c = fails c.from_residual-in_err-of_length-in-CSYNC.result c.in-CSYNC.is c.from_residual-in_err-of_length-in-CSYNC.ensures.1 (λ h. h) c.index-start.ensures.offset c.index-start.ensures.inside (region_behind types.CSYNC policy.CSYNC.csync_fields _ _ _ _ c.read_data-data-in-CSYNC.ensures.region) c.in_err-of_length-in-CSYNC.ensures.error
 
 pub returns-in-HINFO : goal.returns-in-HINFO
 returns-in-HINFO c = gives c.in-HINFO.is (has_read types.HINFO rdata.HINFO base.HINFO.hinfo_fields _ _ c.index-start.ensures.offset c.read_data-data-in-HINFO.ensures.region c.in_ok-of_length-in-HINFO.ensures.whole (record { type = refl; fields = refl; can_be_read = tt }))

@@ -1,7 +1,7 @@
 use Rattle.std.proofs.Common.{◌≡◌, ◌≤◌, ◌∙◌, ◌+◌, ◌-◌, ap, refl, arith, length, Bor, List, ℕ, Ok}
 use Rattle.dns_names_wire.specs.State.{Reading}
-use Rattle.dns_view.specs.Rows.{is_row}
-use Rattle.dns_view.proofs.RowTests.{row_tested}
+use Rattle.dns_check.specs.Rows.{is_row}
+use Rattle.dns_check.proofs.RowTests.{row_tested}
 use Rattle.dns_rdata.proofs.Views.{RowGives, rows_checked, starts_at, moved, walked, row_as, row_own, row_whole, row_elsewhere, row_refused, row_no_memory}
 use Rattle.dns_rdata.proofs.view.RDataRef.own_result.Goals as goal
 

@@ -1,6 +1,6 @@
 use Rattle.std.proofs.Common.{◌≢◌, ◌∙◌, ap, refl}
 use Rattle.dns_types.specs.declared.error.DecodeError.TheVariants as decode
-use Rattle.dns_view.specs.Rows.{is_row}
+use Rattle.dns_check.specs.Rows.{is_row}
 use Rattle.dns_rdata.specs.ReadErrors.{IsReadError}
 use Rattle.dns_rdata.proofs.Views.{rows_checked, starts_at, view_found, view_row, view_none, view_why}
 use Rattle.dns_rdata.proofs.Steps.{never_followed, row_followed}

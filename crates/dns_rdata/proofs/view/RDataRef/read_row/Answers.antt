@@ -3,7 +3,7 @@ use Rattle.dns_types.specs.declared.error.DecodeError.TheVariants as decode
 use Rattle.dns_names_wire.specs.State.{Reading}
 use Rattle.dns_rdata.specs.ReadErrors.{IsReadError}
 use Rattle.dns_rdata.proofs.Views.{rows_checked, starts_at, moved, view_found, view_row, view_none, view_why}
-use Rattle.dns_view.specs.Rows.{is_row}
+use Rattle.dns_check.specs.Rows.{is_row}
 use Rattle.dns_rdata.proofs.view.RDataRef.read_row.Goals as goal
 
 pub read-outcome-requires : goal.read-outcome-requires
