@@ -151,20 +151,20 @@ gives {t} {u} {n} {v} {old} {new} is h =
     }
 
 -- the view's error is that of the octets that the reader went over
-pub view_fails : {t : RecordType} {n start : ℕ} {e : DecodeError} {old stopped new : Reading} → start ≡ old.index → old.index ≤ length old.message
-    → StaysBehind old stopped → IsErrorFrom t n start e stopped new → Clauses t n (Err e) old new
-view_fails {t} {n} {start} {e} {old} {stopped} {new} starts inside b h =
+view_fails : {t : RecordType} {n start : ℕ} {e : DecodeError} {old stopped new : Reading} → (IsNeverRead t → ⊥) → start ≡ old.index
+    → old.index ≤ length old.message → StaysBehind old stopped → IsErrorFrom t n start e stopped new → Clauses t n (Err e) old new
+view_fails {t} {n} {start} {e} {old} {stopped} {new} read starts inside b h =
     let same : record { message = stopped.message; index = start } ≡ old =
     ap (λ (m : List ℕ). record { message = m; index = start }) b.message ∙ ap (λ (i : ℕ). record { message = old.message; index = i }) starts in
     let there : IsViewError t n e old new =
-    subst (λ (d : Reading). IsViewError t n e d new) same (h (omega (arith, starts, inside, ap length b.message))) in
+    subst (λ (d : Reading). IsViewError t n e d new) same (h read (omega (arith, starts, inside, ap length b.message))) in
     record {
       found = tt;
       after = tt;
       kind = tt;
       refused = there.refused;
       why = there.why;
-      never = λ never. let x = there.never never in (x.0, ap (λ (y : DecodeError). Err y) x.1);
+      never = λ never. absurd (read never);
       behind = there.behind;
       canonical = tt;
       emittable = tt;
@@ -185,18 +185,17 @@ memory_fails t n {e} {old} {new} read b is = rw is (record {
   emittable = tt;
 })
 
-error_fails : {t u : RecordType} {n start : ℕ} {e : DecodeError} {old stopped new : Reading} → t ≡ u → (IsNeverRead u → ⊥) → start ≡ old.index
+error_fails : {t : RecordType} {n start : ℕ} {e : DecodeError} {old stopped new : Reading} → (IsNeverRead t → ⊥) → start ≡ old.index
     → old.index ≤ length old.message → StaysBehind old stopped → FailsFrom t n start e stopped new → Clauses t n (Err e) old new
-error_fails {t} {n = n} {old = old} is read starts inside b (inl h) =
-    memory_fails t n (λ never. read (subst IsNeverRead is never)) (subst (λ (d : Reading). StaysBehind old d) (sym h.1) b) h.0
-error_fails is read starts inside b (inr h) = view_fails starts inside b h
+error_fails {t} {n = n} {old = old} read starts inside b (inl h) = memory_fails t n read (subst (λ (d : Reading). StaysBehind old d) (sym h.1) b) h.0
+error_fails read starts inside b (inr h) = view_fails read starts inside b h
 
 -- where an arm gives no value
 pub fails : {t u : RecordType} {n start : ℕ} {e : DecodeError} {old stopped new : Reading} (r : Result RData DecodeError) → t ≡ u → IsErrAnd r (λ y. y ≡ e)
     → (IsNeverRead u → ⊥) → start ≡ old.index → old.index ≤ length old.message → StaysBehind old stopped → FailsFrom u n start e stopped new
     → Clauses t n r old new
 fails {t} {u} r is err read starts inside b h =
-    let p = err_from_is_err_and r err in rw (is, p.1, p.2) (error_fails {t = u} refl read starts inside b h)
+    let p = err_from_is_err_and r err in rw (is, p.1, p.2) (error_fails {t = u} read starts inside b h)
 
 unread_type : {t : RecordType} → (t ≡ types.ANY) ⊎ ((t ≡ types.AXFR) ⊎ (t ≡ types.IXFR)) → IsNeverRead t
 unread_type (inl e) = rw e tt
@@ -236,4 +235,4 @@ pub zero_clauses : {t : RecordType} (n : ℕ) {start : ℕ} {old new : Reading} 
     → Clauses t n r old new
 zero_clauses n (Ok v) is starts inside octets whole error =
     zero_ok v is starts inside octets (sym (ap value_or_zero whole.0)) whole.1 whole.2
-zero_clauses n {old = old} (Err e) is starts inside octets whole error = error_fails is (λ h. h) starts inside (stays old) error
+zero_clauses n {old = old} (Err e) is starts inside octets whole error = error_fails (λ never. subst IsNeverRead is never) starts inside (stays old) error

@@ -3,7 +3,7 @@
 ghost use Rattle.std.specs.Prelude.{◌≡◌, ◌-◌, IfOk, IfErr, Ok};
 ghost use Rattle.dns_rdata.specs.ReadFailures.{FailsFrom, IsErrorFrom};
 
-use crate::view::RDataRef;
+use crate::view::{RDataRef, parts_of_type};
 use dns_names_wire::{BinDecoder, DecodeError, RecordType, Restrict};
 
 /// The value that a reader returned that began at this offset, if it took exactly RDLENGTH octets.
@@ -35,7 +35,7 @@ pub(crate) fn of_length<T: Drop>(
 }
 
 /// Why no value of the type is in the RDLENGTH octets from this offset: the error of the view of them, so that no error is
-/// defined twice. The decoder is then where that leaves it. It is never inlined, so that reading a value keeps nothing for it.
+/// defined twice. The decoder is then where that leaves it. It is never inlined, so that reading a value keeps little for it.
 #[cold]
 #[inline(never)]
 pub(crate) fn read_error(
@@ -46,11 +46,16 @@ pub(crate) fn read_error(
 ) -> DecodeError
     ensures { IsErrorFrom record_type length start result decoder.old decoder.new }
 {
+    let Some((parts, _)) = parts_of_type(record_type) else {
+        // Unreachable: the type is one that is read.
+        return DecodeError::Memory;
+    };
     let Ok(mut again) = decoder.clone(start) else {
         // Unreachable: the offset is in the message.
         return DecodeError::Memory;
     };
-    let outcome = RDataRef::read(&mut again, record_type, length);
+    // The quick way of a view is left out: it would only say that it does not know.
+    let outcome = RDataRef::read_row(&mut again, record_type, parts, length);
     *decoder = again;
     match outcome {
         // Unreachable: the record's reader found no value in the same octets.

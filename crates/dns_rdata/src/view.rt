@@ -36,7 +36,7 @@ pub struct RDataRef<'a> {
 
 // The row of a type and its front; `None` if RDATA of the type is never read.
 #[inline]
-fn parts_of_type(record_type: RecordType) -> Option<(&'static [Part], Front)>
+pub(crate) fn parts_of_type(record_type: RecordType) -> Option<(&'static [Part], Front)>
     ensures some { IfSome result (λ r. r.0.now ≡ parts_of (table record_type)) }
     ensures front { IfSome result (λ r. IsFront r.0.now r.1) }
     ensures read { IfSome result (λ r. IsNeverRead record_type → ⊥) }
@@ -135,7 +135,7 @@ impl<'a> RDataRef<'a> {
     // The same by the row of the type, with the error of RDATA that is damaged. What it keeps is apart from `read`, which
     // clears no room for it then.
     #[inline(always)]
-    fn read_row(
+    pub(crate) fn read_row(
         decoder: &mut BinDecoder<'a>,
         record_type: RecordType,
         parts: &'static [Part],
