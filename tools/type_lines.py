@@ -520,11 +520,6 @@ def proof_reads(kind):
 
     name = kind.fields[-1].name
     text = put(f"""
-        use Rattle.std.proofs.Common.{{[], ◌∷◌}}
-        use Rattle.dns_fields.specs.declared.Kind.{{TheVariants.Number, TheVariants.Name}}
-        use Rattle.dns_rdata_base.proofs.Lacking.{{exit_lack, is_lack_far, is_lack_here, is_lack_then, is_lack_name}}
-        use Rattle.dns_rdata_base.proofs.{kind.lower}.{kind.name}DecodesFields.read_fields.Goals as goal
-
         pub returns-in_err-{name}-clause-refused : goal.returns-in_err-{name}-clause-refused
         returns-in_err-{name}-clause-refused c = exit_lack _ _ _ c.from_residual-in_err-{name}.ensures.1
         """)
@@ -539,7 +534,15 @@ def proof_reads(kind):
             """)
         rest = " ∷ ".join(kinds[at + 1 :] + ["[]"])
         text += after(at, f"is_lack_here ({kinds[at]}) ({rest}) _ _ _ (l.lacking.0, l.lacking.1, l.unchanged)")
-    return text
+    variants = [f"TheVariants.{variant}" for variant in ("Number", "Name") if variant in text]
+    lemmas = [lemma for lemma in ("exit_lack", "is_lack_far", "is_lack_here", "is_lack_then", "is_lack_name") if lemma in text]
+    return put(f"""
+        use Rattle.std.proofs.Common.{{[], ◌∷◌}}
+        use Rattle.dns_fields.specs.declared.Kind.{{{', '.join(variants)}}}
+        use Rattle.dns_rdata_base.proofs.Lacking.{{{', '.join(lemmas)}}}
+        use Rattle.dns_rdata_base.proofs.{kind.lower}.{kind.name}DecodesFields.read_fields.Goals as goal
+
+        """) + text
 
 
 def proof_emits(kind):
@@ -563,11 +566,13 @@ def proof_numbers(kind):
     fits = nested(["omega arith"] * len(kind.numbers))
     then = "refl"
     for field in reversed(kind.numbers):
-        then = f"number_then {field.octets} _ _ _ {then if then == 'refl' else f'({then})'}"
+        first = f"number_then {field.octets} _ _ _" if field.octets > 1 else "octet_then _ _ _ (omega arith)"
+        then = f"{first} {then if then == 'refl' else f'({then})'}"
+    lemmas = [lemma for lemma in ("emits_nameless", "number_then", "octet_then") if lemma == "emits_nameless" or lemma in then]
     return put(f"""
         use Rattle.std.proofs.Common.{{arith, refl}}
         use Rattle.dns_fields.specs.Fields.{{field_octets}}
-        use Rattle.dns_names_wire.proofs.NamelessWrites.{{emits_nameless, number_then}}
+        use Rattle.dns_names_wire.proofs.NamelessWrites.{{{', '.join(lemmas)}}}
         use Rattle.dns_rdata_base.specs.NameRecords.{{{kind.lower}_numbers_shape, {kind.lower}_numbers}}
         use Rattle.dns_rdata_base.proofs.{kind.lower}.{kind.name}.emit_numbers.Goals as goal
 
