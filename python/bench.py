@@ -1,4 +1,4 @@
-"""Microseconds of one call over the samples of crates/rdata_bench, the least of seven parts, and of dnspython where it is installed.
+"""Microseconds of one call over the samples of tests/programs/rdata_bench, the least of seven parts, and of dnspython where it is installed.
 
     DNS_RDATA_LIBRARY=../c/out/libdns_rdata.so.0 PYTHONPATH=src python3 bench.py [ROUNDS]
 """
@@ -19,7 +19,7 @@ PARTS = 7
 
 
 def samples():
-    path = pathlib.Path(__file__).resolve().parents[1] / "crates/rdata_bench/data/samples.txt"
+    path = pathlib.Path(__file__).resolve().parents[1] / "tests/programs/rdata_bench/data/samples.txt"
     for line in path.read_text().splitlines():
         name, _, _, octets = line.split()
         yield RdataType.from_text(name), bytes.fromhex("" if octets == "-" else octets)

@@ -1,7 +1,7 @@
 """Makes calls of the library one by one, with requests for memory refused and with too little space.
 
 The calls are those of tests/calls.txt, on the data of all replayed runs and on words of their own. The program
-(crates/rdata_replay) makes each between two marks, and tests/requests.c counts and refuses what is asked for between them:
+(`rdata_replay` of tests/programs) makes each between two marks, and tests/requests.c counts and refuses what is asked for between them:
 
 1. Each request of a call and all later ones are refused, and each alone, until a run meets no refusal. The call answers want
    of memory, and what it was given stands; refused alone it may also give its full answer.
@@ -396,12 +396,11 @@ def usable(machine, samples):
 
 
 def built(folder):
-    """The program and the counter of requests. The program was proved and built by `rt ci`, where nothing has changed since."""
-    program, counter = TOP / "crates/rdata_replay/out/rdata_replay", pathlib.Path(folder, "requests.so")
+    """The program and the counter of requests. """
+    counter = pathlib.Path(folder, "requests.so")
     subprocess.run(["cc", "-shared", "-fPIC", "-O1", "-o", counter, TOP / "tests/requests.c", "-ldl"], check=True)
-    test = 'top=$1; . "$top/tests/build.sh"; is_built "$2" rdata_replay || (cd "$top/crates/rdata_replay" && rt run -- answers </dev/null >/dev/null)'
-    subprocess.run(["bash", "-c", test, "bash", TOP, program], check=True)
-    return program, counter
+    built = subprocess.run([TOP / "tests/programs/build.sh", "rdata_replay"], stdout=subprocess.PIPE, text=True, check=True)
+    return built.stdout.strip(), counter
 
 
 def main(program, counter):

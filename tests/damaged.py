@@ -1,12 +1,14 @@
 """Runs the program on damaged messages and words, and compares each answer with what a plain table wants.
 
-The messages are those of the replayed runs (crates/rdata_replay/data): each with other lengths, cut, with an octet changed or one
+The messages are those of the replayed runs (tests/programs/rdata_replay/data): each with other lengths, cut, with an octet changed or one
 more behind it. The messages of rejected runs are among them. Beside them stand pointers in the data of every type with a name, edges of
 the lists in records, records as long as they can be, and texts truncated after each word. tests/plain_table.py says which
 octets are data and what is printed of them, and tests/plain_words.py which texts are.
 
-All runs go through one program: the built crates/rdata_replay where it is up to date, else a quick build (`rt try`), in which
-nothing is proved. The number of runs of each kind is printed. The last line is 'N as wanted, M not'.
+All runs go through one program, `rdata_replay` of tests/programs. With --checked it has the checks of `rt try`, which is for sources that
+were not proved, and makes some of the runs. The number of runs of each kind is printed. The last line is 'N as wanted, M not'.
+
+    tests/damaged.py [--checked]
 """
 
 import collections
@@ -14,14 +16,13 @@ import pathlib
 import re
 import subprocess
 import sys
-import tempfile
 
 import counted
 import plain_table
 import plain_words
 
 TOP = pathlib.Path(__file__).resolve().parent.parent
-ROWS = TOP / "crates/rdata_replay"
+ROWS = TOP / "tests/programs/rdata_replay"
 # How many of the cuts of one message are taken in front of its record and behind it, within it, and within a great one.
 FEW, MANY, OF_GREAT = 8, 1000, 5
 
@@ -246,56 +247,19 @@ def wrong_lines():
     yield Run("line", "read A 4 0 01020304".split(), REFUSED)
 
 
-def built_program():
-    """The built program that replays rows, where no source is newer."""
-    program = ROWS / "out/rdata_replay"
-    test = 'top=$1; . "$top/tests/build.sh"; is_built "$2" rdata_replay'
-    done = subprocess.run(["bash", "-c", test, "bash", str(TOP), str(program)], stdout=subprocess.DEVNULL)
-    return program if done.returncode == 0 else None
-
-
 def line_of(run):
     """The line that asks for a run."""
     return "\t".join(map(escaped, run.words)) + "\n"
 
 
-def by_program(program, runs):
-    """The answers of a built program."""
+def answers_to(runs, flags):
+    """The answers of the program to runs, nothing if it is not built."""
+    built = subprocess.run([TOP / "tests/programs/build.sh", *flags, "rdata_replay"], stdout=subprocess.PIPE, text=True)
+    if built.returncode != 0:
+        return []
     given = "".join(map(line_of, runs)).encode()
-    done = subprocess.run([program, "answers"], input=given, stdout=subprocess.PIPE, timeout=3600)
+    done = subprocess.run([built.stdout.strip(), "answers"], input=given, stdout=subprocess.PIPE, timeout=3600)
     return done.stdout.decode().split("\n")[:-1]
-
-
-def room_of(run):
-    """More octets than a run and its answer have."""
-    asked = 100 + 2 * sum(map(len, run.words))
-    return asked + 10 * (len(run.words[-1]) * (run.status == ACCEPTED) if run.data is None else len(run.data[0]))
-
-
-def parts(runs):
-    """The runs in parts that stay below the output and the seconds that a quick build may take."""
-    part, room = [], 0
-    for run in runs:
-        if part and room + room_of(run) > 1_000_000:
-            yield part
-            part, room = [], 0
-        part.append(run)
-        room += room_of(run)
-    yield part
-
-
-def by_quick_build(runs):
-    """The answers of a quick build, which reads the runs from one file for each part; nothing for those of a part that fails."""
-    with tempfile.TemporaryDirectory() as folder:
-        for number, part in enumerate(parts(runs)):
-            pathlib.Path(folder, f"{number:04}").write_text("".join(map(line_of, part)))
-        done = subprocess.run(["rt", "try", "--seconds", "1200", "--cases", folder, "--", "answers"], cwd=ROWS, stdout=subprocess.PIPE)
-    printed = dict(re.findall(r"^== (\d+)\n((?:\d\t.*\n)*)", done.stdout.decode(), re.MULTILINE))
-    answers = []
-    for number, part in enumerate(parts(runs)):
-        lines = printed.get(f"{number:04}", "").split("\n")[:-1]
-        answers += (lines + [""] * len(part))[: len(part)]
-    return answers
 
 
 def hexadecimal(octets):
@@ -335,13 +299,13 @@ def is_wanted(run, answer):
 
 
 SOURCES = damaged_messages, pointers, circles, edges, greatest, cut_texts, wrong_texts, wrong_lines
-# A quick build takes about a millisecond for a run, and longer where its message is: so many of each kind, and a great
+# A program with checks takes about a millisecond for a run, and longer where its message is: so many of each kind, and a great
 # message once, which is emitted nowhere since its target has no room.
 QUICK, SHORT = 300, 20_000
 
 
 def quick_runs(runs):
-    """The runs of each kind thinned out for a quick build."""
+    """The runs of each kind thinned out for a program with checks."""
     kinds = collections.defaultdict(list)
     for run in runs:
         if len(run.words[-1]) <= SHORT or run.data is not None and run.data[1] is None and run.words[1] == "SVCB":
@@ -349,16 +313,15 @@ def quick_runs(runs):
     return [some[i] for some in kinds.values() for i in thin(range(len(some)), QUICK)]
 
 
-def main(program):
-    """Asks for all runs, or by a quick build for some, and prints what is not as wanted and the number of each kind."""
+def main(flags):
+    """Asks for all runs, or with --checked for some, and prints what is not as wanted and the number of each kind."""
     runs = [run for source in SOURCES for run in source()]
-    program = program or built_program()
-    runs = runs if program else quick_runs(runs)
-    answers = by_program(program, runs) if program else by_quick_build(runs)
+    runs = quick_runs(runs) if flags else runs
+    answers = answers_to(runs, flags)
     kinds = collections.Counter(run.kind for run in runs)
     answers += [""] * (len(runs) - len(answers))
     wrong = [(run, answer) for run, answer in zip(runs, answers) if not is_wanted(run, answer)]
-    if program:
+    if not flags:
         counted.note("damaged", len(runs))
     for run, answer in wrong[:20]:
         print(f"not as wanted: {' '.join(run.words)[:300]}: {answer[:300]}")
@@ -367,4 +330,4 @@ def main(program):
 
 
 if __name__ == "__main__":
-    main(sys.argv[1] if len(sys.argv) > 1 else None)
+    main(sys.argv[1:])

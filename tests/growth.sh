@@ -5,12 +5,12 @@
 # of them, and all of them copied. A line with more than 10 ms says so. Then large RDATA that is looked at in the message: nanoseconds
 # an octet of reading a view, its canonical octets, and the order of it and a next one. At last texts of 4,000 to 65,000 octets: the nanoseconds
 # an octet of the text of reading them by `try_from_str` (where the type is read so) and by `from_zone_text`. It runs the built
-# benchmark (crates/rdata_bench, after `rt run` there). At the end: the microseconds of a walk in C over the worst messages that are
+# benchmark (`tests/programs/build.sh rdata_bench` makes it). At the end: the microseconds of a walk in C over the worst messages that are
 # known (c/bench/worst.c), over the archive that `make -C c` has left, or another one.
 #   tests/growth.sh [BENCHMARK [ARCHIVE]]
 set -u
 top=$(cd "$(dirname "$0")/.." && pwd)
-bench="${1:-$top/crates/rdata_bench/out/rdata_bench}"
+bench="${1:-$top/out/programs/rdata_bench}"
 archive="${2:-$top/c/out/libdns_rdata.a}"
 sample() { # TYPE COUNT: codes or keys from 100 on
   awk -v kind="$1" -v count="$2" 'BEGIN {

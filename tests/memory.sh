@@ -13,15 +13,14 @@ good=0 bad=0
 want() { if [ "$2" = "$3" ]; then good=$((good + 1)); else bad=$((bad + 1)); echo "not as wanted: $1: $3 in place of $2"; fi; }
 
 rdata="$top/crates/rdata/out/rdata"
-bench="$top/crates/rdata_bench/out/rdata_bench"
+bench="$top/out/programs/rdata_bench"
 zone_text="$top/crates/zone_text/out/zone_text"
-# All were proved and built by `rt ci`, where nothing has changed since.
+# Two were proved and built by `rt ci`, where nothing has changed since. Nothing of the benchmark is proved.
 if ! is_built "$rdata" rdata; then "$top/prove" 2>&1; fi
-for name in rdata_bench zone_text; do
-  if ! is_built "$top/crates/$name/out/$name" "$name"; then
-    (cd "$top/crates/$name" && rt run </dev/null >/dev/null 2>"$dir/$name.log") || cat "$dir/$name.log"
-  fi
-done
+if ! is_built "$zone_text" zone_text; then
+  (cd "$top/crates/zone_text" && rt run </dev/null >/dev/null 2>"$dir/zone_text.log") || cat "$dir/zone_text.log"
+fi
+"$top/tests/programs/build.sh" rdata_bench >/dev/null
 cc -shared -fPIC -O1 -o "$dir/requests.so" "$top/tests/requests.c" -ldl || { echo "0 as wanted, 1 not"; exit 1; }
 
 counted() { # ROUNDS CALL SAMPLE

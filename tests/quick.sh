@@ -1,6 +1,6 @@
 #!/usr/bin/env bash
-# Runs each program that has a stored output and each crate's tests by quick builds (`rt try`), in which nothing is
-# proved. The last line is 'N as wanted, M not': a program's output is one, and so is each test.
+# Runs each program that has a stored output and each crate's tests by quick builds (`rt try`), and golden tests (tests/golden.py) by
+# such builds that are kept. Nothing is proved. The last line is 'N as wanted, M not': a program's output is one, and so is each test.
 set -u
 top=$(cd "$(dirname "$0")/.." && pwd)
 . "$top/tests/build.sh"
@@ -47,7 +47,17 @@ tests() { # CRATE
   case "$counts" in ''|*' '[1-9]*) cp "$dir/$1.tests.log" "$dir/$1.why" ;; esac
 }
 
+golden() {
+  local counts
+  python3 "$top/tests/golden.py" --checked >"$dir/golden.log" 2>&1
+  counts=$(tail -n 1 "$dir/golden.log" | sed -nE 's/^([0-9]+) as wanted, ([0-9]+) not$/\1 \2/p')
+  counts=${counts:-0 1}
+  count golden.tests "${counts% *}" "${counts#* }" 'golden tests'
+  case "$counts" in *' '[1-9]*) cp "$dir/golden.log" "$dir/golden.why" ;; esac
+}
+
 lanes=$(lanes_of 2)
+golden &
 for crate in $(sed -n 's/^\([a-z_0-9]*\):.*/\1/p' "$top/crates.txt"); do
   for part in program tests; do
     if [ "$part" = program ] && [ ! -f "$top/crates/$crate/stdout" ]; then continue; fi

@@ -21,7 +21,7 @@ while IFS= read -r line; do
     bad=$((bad + 1))
     echo "not as wanted: ${words[*]:0:3}"
   fi
-done < <(grep -v '^#' "$top/crates/rdata_replay/data/rows.tsv")
+done < <(grep -v '^#' "$top/tests/programs/rdata_replay/data/rows.tsv")
 
 # A copy of the tree without built programs, in which `rdata` and `zone_text` are ready-made scripts that print their words, and
 # `rt` is a command that fails. Its path has a blank.

@@ -29,7 +29,7 @@ PLACES = [
 
 def golden():
     """How many lines of golden tests the program `rdata_replay` has: runs of the program, and calls."""
-    text = (TOP / "crates/rdata_replay/stdout").read_text(encoding="utf-8")
+    text = (TOP / "tests/programs/rdata_replay/stdout").read_text(encoding="utf-8")
     lines = {name: int(number) for name, number in re.findall(r"(?m)^(\w+)\.tsv: (\d+) as wanted$", text)}
     return lines["rows"] + lines["real"], lines["calls"] + lines["wire"]
 

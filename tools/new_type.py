@@ -35,7 +35,7 @@ TYPES = TOP / "tools/types.txt"
 # Where what is often moved is.
 BASE, VALUE, ROWS, TYPE = "crates/dns_rdata_base", "crates/dns_rdata", "crates/dns_rows", "crates/dns_types"
 ZONE_ROWS, ZONE = "crates/dns_zone_rows", "crates/dns_rdata_zone"
-REPLAY, ZONE_REPLAY, BENCH = "crates/rdata_replay", "crates/zone_replay", "crates/rdata_bench"
+REPLAY, ZONE_REPLAY, BENCH = "tests/programs/rdata_replay", "tests/programs/rdata_replay", "tests/programs/rdata_bench"
 
 ARM = r"^            RData::(\w+)\(x\) => "
 PLACES = [
@@ -91,18 +91,14 @@ PLACES = [
     Entries("fed-same", f"{VALUE}/specs/Hashing.antt", r"^record_fed_same \(rdata\.(\w+) x\)", lines.fed_same),
     Entries("same-octets", f"{VALUE}/specs/Ties.antt", r"^same_octets \(rdata\.(\w+) x\)", lines.same_octets),
     Entries("target-of", f"{VALUE}/specs/Laws.antt", r"^target_of \(rdata\.(\w+) x\) = ", lines.target_of),
-    Words("read-use", f"{VALUE}/proofs/record_data/RData/read/Answers.antt", r"^use Rattle\.dns_rdata\.proofs\.OwnReads\.\{(.*)\}$", lambda k: f"own_{k.lower}", types=every, named=r"^own_(\w+)$"),
-    Entries("read-goals", f"{VALUE}/proofs/record_data/RData/read/Answers.antt", r"^pub returns-in-(\w+) : ", lines.read_goals, types=every, open=True, gap=1),
+    Entries("read-goals", f"{VALUE}/proofs/record_data/RData/read/Answers.antt", r"^pub returns-in-(\w+) : ", lines.read_goals, open=True, gap=1),
     Entries("tokens-goal", f"{VALUE}/proofs/record_data/RData/read_tokens/Answers.antt", r"^pub returns-in-(\w+) : ", lines.tokens_goal, open=True, gap=1),
-    Entries("own-reads", f"{VALUE}/proofs/OwnReads.antt", r"^pub own_(\w+) : ", lines.own_reads, open=True, gap=1),
     Words("tokens-use", f"{VALUE}/proofs/DataTokens.antt", r"^use Rattle\.dns_rdata_base\.specs\.\{(NameRecords\.name_shape, .*)\}$", lambda k: f"NameRecords.{k.lower}_facts", types=with_numbers, after=r"^NameRecords\."),
     Words("tokens-types", f"{VALUE}/proofs/DataTokens.antt", r"^token_types =\n((?:    .*\n)+)", lambda k: f"types.{k.name}", between=" ∷ ", turn="", begin="∷ ", width=160, named=r"^types\.(\w+)$"),
     Entries("tokens-back", f"{VALUE}/proofs/DataTokens.antt", r"^back_of origin \(rdata\.(\w+) x\)", lines.back_of),
     Words("reads-types", f"{VALUE}/proofs/DataReads.antt", r"^known_types =\n((?:    .*\n)+)", lambda k: f"types.{k.name}", types=every, between=" ∷ ", turn="", begin="∷ ", width=160, named=r"^types\.(\w+)$"),
-    Entries("reads-never", f"{VALUE}/proofs/DataReads.antt", r"^own_never types\.(\w+) n old new k h = absurd \(lack_never", lines.own_never),
     Entries("values", f"{VALUE}/proofs/Values.antt", r"^value_for types\.(\w+) vs = ", lines.value_for),
     Entries("ranks", f"{VALUE}/proofs/Ranks.antt", r"^by_rank \(rdata\.(\w+) x\)", lines.by_rank, types=every),
-    Entries("views", f"{VALUE}/proofs/Views.antt", r"^rejected types\.(\w+) read = ", lines.rejected),
     # zone text
     Entries("zone-row", f"{ZONE_ROWS}/src/table.rt", r"^static (\w+): \[ZoneField; \d+\] = ", lines.zone_static, order="name", lead="^//", gap=1),
     Entries("zone-row-of", f"{ZONE_ROWS}/src/table.rt", r"^            RecordType::(\w+) => \$fields\(", lines.zone_arm, order="name"),
@@ -129,7 +125,7 @@ PLACES = [
     Words("damaged-name", "tests/damaged.py", r'^    \*\*dict\.fromkeys\(\[("NS", .*)\], \[\(b"", b""\)\]\),', lambda k: f'"{k.name}"', types=one_name, after="."),
     Kept("golden-kept", f"{REPLAY}/data/real.tsv", None, None),
     Data("golden", f"{REPLAY}/data/rows.tsv", None, lines.golden_lines, counted=f"{REPLAY}/stdout"),
-    Data("golden-zone", f"{ZONE_REPLAY}/data/rows.tsv", None, lines.zone_golden_lines, counted=f"{ZONE_REPLAY}/stdout"),
+    Data("golden-zone", f"{ZONE_REPLAY}/data/zone.tsv", None, lines.zone_golden_lines, counted=f"{ZONE_REPLAY}/stdout"),
     Data("allocations", "tests/requests.txt", None, lines.request_lines),
     Entries("sample", f"{BENCH}/data/samples.txt", r"^(\w+) \d+ \d+ ", lines.sample, is_exact=False),
     Data("sample-text", f"{BENCH}/data/texts.txt", None, lambda k: [lines.text_sample(k).rstrip()]),

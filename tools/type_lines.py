@@ -703,16 +703,16 @@ READ = "c.in-{name}.is"
 
 def read_goals(kind):
     """The proofs of the two exits of `RData::read`."""
-    name, own = kind.name, f"own_{kind.lower} _ _ _ _ c.read_data-data-in-{kind.name}.ensures"
-    call = f"by_length-in-{name}"
-    counted = f"counted_own types.{name} rdata.{name} _ c.index-start.ensures.offset"
+    name, fields = kind.name, f"base.NameRecords.{kind.lower}_fields"
+    call, region = f"of_length-in-{name}", f"c.read_data-data-in-{name}.ensures.region"
     failed = f"c.from_residual-in_err-{call}"
+    start = "c.index-start.ensures.offset"
     return put(f"""
         pub returns-in-{name} : goal.returns-in-{name}
-        returns-in-{name} c = gives c.in-{name}.is ({counted} c.in_ok-{call}.ensures ({own}))
+        returns-in-{name} c = gives c.in-{name}.is (has_read types.{name} rdata.{name} {fields} _ _ {start} {region} c.in_ok-{call}.ensures.whole (record {{ type = refl; fields = refl; can_be_read = tt }}))
 
         pub returns-in_err-{call} : goal.returns-in_err-{call}
-        returns-in_err-{call} c = fails {failed}.result c.in-{name}.is {failed}.ensures.1 ({counted} c.in_err-{call}.ensures ({own}))
+        returns-in_err-{call} c = fails {failed}.result c.in-{name}.is {failed}.ensures.1 (λ h. h) {start} c.index-start.ensures.inside (region_behind types.{name} {fields} _ _ _ _ {region}) c.in_err-{call}.ensures.error
         """)
 
 
@@ -721,14 +721,6 @@ def tokens_goal(kind):
     return put(f"""
         pub returns-in-{name} : goal.returns-in-{name}
         returns-in-{name} g c = rw c.in-{name}.is (by_token_row _ types.{name} _ (λ x. rdata.{name} x) _ (λ h. h) (λ v tokens. (λ is. is, λ is. is)) c.from_tokens-in-{name}.ensures (λ x _. record {{ type = refl; fields = refl; can_be_read = tt }}) c.wrap-in-{name}.ensures)
-        """)
-
-
-def own_reads(kind):
-    lower, fields = kind.lower, f"base.NameRecords.{kind.lower}_fields"
-    return put(f"""
-        pub own_{lower} : OwnFields types.{kind.name} rdata.{kind.name} base.NameRecords.{lower}_facts
-        own_{lower} n old new r h = ending _ _ {fields} r h (λ h. h) (λ vs. tt) (λ x can. record {{ type = refl; fields = refl; can_be_read = tt }})
         """)
 
 
@@ -741,11 +733,6 @@ def back_of(kind):
     )
 
 
-def own_never(kind):
-    kinds = "base.NameRecords.name_shape" if kind.is_name else f"base.NameRecords.{kind.lower}_facts.kinds"
-    return f"own_never types.{kind.name} n old new k h = absurd (lack_never {kinds} old new k h)\n"
-
-
 def value_for(kind):
     fields = "; ".join(f"{'0' if kind.is_name else field.name} = {value}" for field, value in zip(kind.fields, held_in(kind)))
     return f"value_for types.{kind.name} vs = rdata.{kind.name} (record {{ {fields} }})\n"
@@ -753,13 +740,6 @@ def value_for(kind):
 
 def by_rank(kind):
     return f"by_rank (rdata.{kind.name} x) (rdata.{kind.name} y) d = absurd (true≢false (sym d))\n"
-
-
-def rejected(kind):
-    return f"rejected types.{kind.name} read = straight_rejects ({kind.kinds}) tt refl\n"
-
-
-# ---- zone text
 
 
 def zone_fields(kind):

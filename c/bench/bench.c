@@ -1,6 +1,6 @@
 /*
  * Nanoseconds of one call over samples of record data, by turns: this library, ldns, libknot (run.sh builds and runs it). Standard
- * input has lines `TYPE PLACE LENGTH OCTETS` (crates/rdata_bench/data/samples.txt). Each figure is the least of PARTS parts.
+ * input has lines `TYPE PLACE LENGTH OCTETS` (tests/programs/rdata_bench/data/samples.txt). Each figure is the least of PARTS parts.
  * Each job begins with the octets of a message and ends with nothing held: what ldns and libknot make of them is freed.
  *
  *   check      octets -> whether they are data of the type

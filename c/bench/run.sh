@@ -1,5 +1,5 @@
 #!/usr/bin/env bash
-# Nanoseconds of the calls over the samples of crates/rdata_bench, beside ldns and libknot where these are installed (Debian:
+# Nanoseconds of the calls over the samples of tests/programs/rdata_bench, beside ldns and libknot where these are installed (Debian:
 # libldns-dev, libknot-dev). `make -C c` first. The last lines compare the means over all samples that both sides take, and the walk
 # over a message of 20 records with a plain C loop that checks the same (walk.c).
 #   c/bench/run.sh [ROUNDS]    rounds of each part, 20000 where left out
@@ -19,5 +19,5 @@ for peer in LDNS:ldns KNOT:libknot; do
 done
 cc -std=gnu11 -O2 -I"$top/c/include" -o "$dir/bench" "$top/c/bench/bench.c" "$top/c/out/libdns_rdata.a" "${flags[@]}"
 cc -std=gnu11 -O2 -I"$top/c/include" -o "$dir/walk" "$top/c/bench/walk.c" "$top/c/out/libdns_rdata.a"
-"$dir/bench" "${1:-20000}" <"$top/crates/rdata_bench/data/samples.txt"
+"$dir/bench" "${1:-20000}" <"$top/tests/programs/rdata_bench/data/samples.txt"
 "$dir/walk"

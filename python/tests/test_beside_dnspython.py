@@ -14,7 +14,7 @@ try:
 except ImportError:
     dns = None
 
-CRATES = pathlib.Path(__file__).resolve().parents[2] / "crates"
+PROGRAMS = pathlib.Path(__file__).resolve().parents[2] / "tests/programs"
 
 
 def read_by_peer(number, message, offset, length):
@@ -23,7 +23,7 @@ def read_by_peer(number, message, offset, length):
 
 def samples():
     """The samples of the benchmark: type, message, offset, RDLENGTH."""
-    path = CRATES / "rdata_bench/data/samples.txt"
+    path = PROGRAMS / "rdata_bench/data/samples.txt"
     for line in path.read_text().splitlines() if path.exists() else []:
         name, offset, length, octets = line.split()
         yield RdataType.from_text(name), bytes.fromhex("" if octets == "-" else octets), int(offset), int(length)
@@ -32,7 +32,7 @@ def samples():
 def golden_reads():
     """The reads of the golden tests: type, message, offset, RDLENGTH, and whether they are accepted."""
     for name in ("real.tsv", "rows.tsv"):
-        path = CRATES / "rdata_replay/data" / name
+        path = PROGRAMS / "rdata_replay/data" / name
         for line in path.read_text(encoding="utf-8").splitlines() if path.exists() else []:
             words = line.split("\t")
             if len(words) == 7 and words[2] == "read" and words[0] in "01":

@@ -15,7 +15,7 @@ A, SOA, MX, TXT, OPT = 1, 6, 15, 16, 41
 
 def samples():
     """The samples of the benchmark, if the repository is there: the number of a type, and octets."""
-    path = pathlib.Path(__file__).resolve().parents[2] / "crates/rdata_bench/data/samples.txt"
+    path = pathlib.Path(__file__).resolve().parents[2] / "tests/programs/rdata_bench/data/samples.txt"
     for line in path.read_text().split("\n") if path.exists() else []:
         words = line.split()
         if len(words) == 4:

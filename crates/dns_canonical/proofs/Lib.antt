@@ -3,3 +3,4 @@ pub mod Fronts
 pub mod Cursors
 pub mod Sharing
 pub mod Copying
+pub mod Sorting

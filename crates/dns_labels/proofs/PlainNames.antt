@@ -15,15 +15,6 @@ pub record PlainSoFar (text : List ℕ) (at : ℕ) (octets : List ℕ) : Type 0 
   pub size : length old ≡ at
   pub read : NameSoFar text at old
 
-pub plain_none : {text begun octets : List ℕ} → begun ≡ [] → octets ≡ (begun ++ 0 ∷ []) ++ text → PlainSoFar text 0 octets
-plain_none {text} {begun} {octets} e is = record {
-  old = [];
-  place = 0;
-  is = is ∙ ap (λ (o : List ℕ). (o ++ 0 ∷ []) ++ text) e;
-  size = refl;
-  read = name_none refl;
-}
-
 -- a label whose length was put before it
 record Placed (text : List ℕ) (at count : ℕ) (old octets : List ℕ) : Type 0 where
   new : List ℕ

@@ -1,7 +1,7 @@
 -- What a walk over questions gives, from what each call of `next` gives.
 use Rattle.std.proofs.Common.{◌≡◌, ℕ, suc, ◌+◌, ◌-◌, ◌≤◌, ◌<◌, ◌⊎◌, inl, inr, List, [], ◌∷◌, length, None, Ok, Err, refl, sym, ap, subst, arith}
 use Rattle.std.specs.Iterator.{Drains, Yields}
-use Rattle.dns_view.specs.Steps.{NameSteps}
+use Rattle.dns_names_wire.specs.Steps.{NameSteps}
 use Rattle.dns_message.specs.{State.Asking, Steps.SumOf, Steps.OfQuestion}
 use Rattle.dns_message.specs.Asks.{AskedItem, NextQuestion, PassesQuestion, StopsAtQuestion, ShowsAll, EndsAsking, AsksGive}
 

@@ -10,8 +10,9 @@ use Rattle.dns_names_wire.specs.{State.Reading, Terms.TookField}
 use Rattle.dns_rows.specs.declared.row.{Part.Part}
 use Rattle.dns_rows.specs.declared.row.Rule.TheVariants as rules
 use Rattle.dns_rows.specs.{Table.table, Written.asked, Written.free}
-use Rattle.dns_view.specs.{NameEnds.NameEnds, Steps.NameSteps, Steps.Leaves, Checks.FillsRow, RowSteps.RowSteps, Parts.TookSome}
-use Rattle.dns_view.proofs.Skips.{number_taken, skipped_itself}
+use Rattle.dns_names_wire.specs.{NameEnds.NameEnds, Steps.NameSteps, Steps.Leaves, Terms.TookSome}
+use Rattle.dns_check.specs.{Checks.FillsRow, RowSteps.RowSteps}
+use Rattle.dns_check.proofs.Skips.{number_taken, skipped_itself}
 use Rattle.dns_rdata.specs.Data.{parts_of, IsNeverRead}
 use Rattle.dns_rdata.proofs.Views.{row_value_is}
 use Rattle.dns_message.specs.declared.reading.FixedFields.{FixedFields}

@@ -3,7 +3,7 @@ use Rattle.std.proofs.Common.{◌≡◌, ℕ, ◌+◌, ◌≤◌, ◌<◌, List,
 use Rattle.dns_fields.specs.{Fields.Field, Labels.DomainName, Names.IsNameIn}
 use Rattle.dns_fields.specs.declared.Kind.{TheVariants.Number, TheVariants.Name}
 use Rattle.dns_fields.proofs.FieldLaws.{field_end, field_same}
-use Rattle.dns_view.specs.NameEnds.{NameEnds}
+use Rattle.dns_names_wire.specs.NameEnds.{NameEnds}
 use Rattle.dns_message.specs.{Entries.EndsAfterName, Questions.NoQuestion}
 use Rattle.dns_message.specs.Records.{Record, HasFields, NoRecord, LengthPasses}
 use Rattle.dns_message.specs.Readings.{IsAsked, IsFound}
@@ -26,9 +26,6 @@ asked_found {m} {p} {e} {t} {c} n f g =
     let last : e + 2 + 2 ≡ e + 4 = omega arith in
     let h : Field m (e + 2) (Number 2) c (e + 4) = moved g (e + 2) (e + 4) refl last in
     record { name = n.name; is = record { starts = refl; fields = (e, name_field n, (e + 2, f, (e + 4, h, refl))) } }
-
-pub no_name_asked : {m : List ℕ} {p : ℕ} → ((x : DomainName) (q : ℕ) → IsNameIn m p x q → ⊥) → NoQuestion m p
-no_name_asked none = record { none = λ q end is. none q.name is.fields.0 is.fields.1.is }
 
 pub short_asked : {m : List ℕ} {p e : ℕ} → NameEnds m p e → length m < e + 4 → NoQuestion m p
 short_asked {m} {p} {e} n short = record {
@@ -59,9 +56,6 @@ pub record_found : {m : List ℕ} {p e t c l n : ℕ} → NameEnds m p e → Fie
     → Field m (e + 4) (Number 4) l (e + 4 + 4) → Field m (e + 8) (Number 2) n (e + 8 + 2) → e + 10 + n ≤ length m
     → IsFound m p (record { record_type = t; class = c; ttl = l; rdlength = n; rdata = e + 10; end = e + 10 + n })
 record_found w f g h k within = record { owner = w.name; is = record { fields = fields_found w f g h k; ends = refl; within = within } }
-
-pub no_name_found : {m : List ℕ} {p : ℕ} → ((x : DomainName) (q : ℕ) → IsNameIn m p x q → ⊥) → NoRecord m p
-no_name_found none = record { none = λ r end is. none r.owner is.fields.fields.0 is.fields.fields.1.is }
 
 -- the RDATA begins ten octets after the owner
 pub rdata_at : {m : List ℕ} {p : ℕ} (r : Record) (is : HasFields m p r) → (r.rdata ≡ is.fields.0 + 10) × (r.rdata ≤ length m)

@@ -4,7 +4,7 @@ use Rattle.std.proofs.lemmas.List.{length_push}
 use Rattle.dns_message.specs.Entries.{Follow}
 use Rattle.dns_message.specs.{Questions.IsQuestion, Records.IsRecord}
 use Rattle.dns_message.specs.{Readings.question_of, Readings.IsAsked, Readings.record_of, Readings.IsFound}
-use Rattle.dns_view.specs.Steps.{NameSteps}
+use Rattle.dns_names_wire.specs.Steps.{NameSteps}
 use Rattle.dns_message.specs.Steps.{SumOf, OfQuestion, OfOwner, Takes}
 use Rattle.dns_message.specs.Starts.{AskedWithin, FoundWithin, BreaksAsked, BreaksFound, BreaksAfter}
 use Rattle.dns_message.specs.{Stops.IsQuestionStop, Stops.IsOwnerStop, Headers.IsPlace}

@@ -5,7 +5,7 @@ use Rattle.dns_types.specs.{declared.record_type.RecordType.RecordType, declared
 use Rattle.dns_types.specs.declared.error.DecodeError.TheVariants as decode
 use Rattle.dns_names_wire.specs.State.{Reading}
 use Rattle.dns_rdata.specs.{Data.NoValue, ReadErrors.IsReadError, Views.IsViewOf, declared.view.RDataRef.RDataRef}
-use Rattle.dns_view.specs.Steps.{Leaves}
+use Rattle.dns_names_wire.specs.Steps.{Leaves}
 use Rattle.dns_rdata.specs.Steps.{RDataSteps}
 use Rattle.dns_message.specs.Items.{IsRefusedAt}
 

@@ -1,7 +1,7 @@
 -- Why the walk ends at a question or a record.
 use Rattle.std.proofs.Common.{◌≡◌, ℕ, ◌+◌, ◌<◌, List, Result, Ok, Err, refl, arith}
 use Rattle.std.specs.{Result.IfErr, Result.OnOk}
-use Rattle.dns_view.specs.Steps.{NameSteps, Leaves}
+use Rattle.dns_names_wire.specs.Steps.{NameSteps, Leaves}
 use Rattle.dns_message.specs.declared.error.Fault.{Fault}
 use Rattle.dns_message.specs.declared.error.Fault.TheVariants as faults
 use Rattle.dns_message.specs.declared.{reading.Asked.Asked, reading.FixedFields.FixedFields}
@@ -9,10 +9,6 @@ use Rattle.dns_message.specs.{Questions.NoQuestion, Questions.IsQuestionFault, R
 use Rattle.dns_message.specs.{Readings.IsFound, Readings.record_of}
 use Rattle.dns_message.specs.Steps.{DataSteps, RecordSteps, Takes, Within, Exceeds}
 use Rattle.dns_message.specs.Stops.{IsQuestionStop, IsOwnerStop}
-
-pub on_ok : {A E T : Type 0} (r : Result A E) → T → OnOk r T
-on_ok (Ok a) t = t
-on_ok (Err e) t = tt
 
 -- fewer than are left, since something is left after them
 pub takes : {Claim : ℕ → Type 0} {left after : ℕ} → Leaves Claim left after → 0 < after → Takes Claim left after
@@ -27,25 +23,7 @@ exceeds l none = (l.0, l.1, omega (arith, l.2))
 
 -- ---- questions
 
-question_stop : (m : List ℕ) (p left : ℕ) (e : Fault) → NoQuestion m p → IsQuestionFault m p e → Within (NameSteps m p) left → IsQuestionStop m p left e
-question_stop m p left faults.Limit none fault w = absurd fault
-question_stop m p left e none fault w = (none, fault, w)
-
-pub question_stops : {m : List ℕ} {p left : ℕ} (r : Result Asked Fault) → IfErr r (λ e. NoQuestion m p) → IfErr r (IsQuestionFault m p)
-    → Within (NameSteps m p) left → IfErr r (IsQuestionStop m p left)
-question_stops (Ok a) none fault w = tt
-question_stops {m} {p} {left} (Err e) none fault w = question_stop m p left e none fault w
-
 -- ---- records
-
-owner_stop : (m : List ℕ) (p left : ℕ) (e : Fault) → NoRecord m p → IsRecordFault m p e → Within (NameSteps m p) left → IsOwnerStop m p left e
-owner_stop m p left faults.Limit none fault w = absurd fault
-owner_stop m p left e none fault w = (none, fault, w)
-
-pub owner_stops : {m : List ℕ} {p left : ℕ} (r : Result FixedFields Fault) → IfErr r (λ e. NoRecord m p) → IfErr r (IsRecordFault m p)
-    → Within (NameSteps m p) left → IfErr r (IsOwnerStop m p left)
-owner_stops (Ok f) none fault w = tt
-owner_stops {m} {p} {left} (Err e) none fault w = owner_stop m p left e none fault w
 
 -- those of the owner, and then those of the RDATA
 pub both_leave : {m : List ℕ} {p left middle after : ℕ} (f : FixedFields) → IsFound m p f → Takes (NameSteps m p) left middle

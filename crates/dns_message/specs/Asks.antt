@@ -3,7 +3,7 @@ use Rattle.std.specs.Prelude.{◌≡◌, ℕ, suc, ◌+◌, ◌<◌, ◌≤◌, 
 use Rattle.std.specs.Prelude.{Option, Some, None, Result, Ok, Err}
 use Rattle.dns_message.specs.declared.{question.QuestionRef.QuestionRef, error.RecordError.RecordError}
 use Rattle.dns_message.specs.{State.Asking, Questions.Question, Questions.QuestionsFrom, Questions.ShowsQuestion}
-use Rattle.dns_view.specs.Steps.{NameSteps}
+use Rattle.dns_names_wire.specs.Steps.{NameSteps}
 use Rattle.dns_message.specs.{Questions.GivesQuestion, Steps.OfQuestion, Steps.SumOf, Stops.EndsAtQuestion}
 
 abbrev pub AskedItem : Type 0

@@ -5,7 +5,7 @@ use Rattle.dns_rdata.specs.Data.{HasValue}
 use Rattle.dns_message.specs.declared.{header.Header.Header, error.Fault.Fault, progress.Progress.Progress}
 use Rattle.dns_message.specs.declared.{reading.FixedFields.FixedFields, step.PassedRecord.PassedRecord}
 use Rattle.dns_message.specs.{Headers.IsHeader, Headers.IsPlace, Headers.record_count, Readings.IsFound, Records.HasNoData, Items.IsRejected}
-use Rattle.dns_view.specs.Steps.{Leaves}
+use Rattle.dns_names_wire.specs.Steps.{Leaves}
 use Rattle.dns_message.specs.{Steps.DataSteps, Steps.RecordSteps, Steps.Takes, Stops.IsRecordStop, Starts.NoResume}
 
 -- the record has no data; or it has RDATA of its type; or its RDATA is rejected, for this reason

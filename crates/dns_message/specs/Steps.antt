@@ -1,7 +1,7 @@
 -- How many steps are taken by going over questions and records (RFC 1035, 4.1.4).
 use Rattle.std.specs.Prelude.{◌≡◌, ℕ, ◌+◌, ◌-◌, ◌<◌, ◌≤◌, ◌⊎◌, List, [], ◌∷◌}
 use Rattle.dns_types.specs.RecordTypes.{record_type_of}
-use Rattle.dns_view.specs.Steps.{NameSteps}
+use Rattle.dns_names_wire.specs.Steps.{NameSteps}
 use Rattle.dns_rdata.specs.Steps.{RDataSteps}
 use Rattle.dns_message.specs.Questions.{Question}
 use Rattle.dns_message.specs.Records.{Record, IsRecord, HasNoData}

@@ -1,6 +1,6 @@
 -- Why a walk ends at a question or a record: it is damaged, or too many steps were taken.
 use Rattle.std.specs.Prelude.{◌≡◌, ℕ, ◌⊎◌, List}
-use Rattle.dns_view.specs.Steps.{NameSteps}
+use Rattle.dns_names_wire.specs.Steps.{NameSteps}
 use Rattle.dns_message.specs.declared.{error.Fault.Fault, error.Section.Section, error.RecordError.RecordError}
 use Rattle.dns_message.specs.declared.error.Fault.TheVariants as faults
 use Rattle.dns_message.specs.declared.error.Section.TheVariants as sections

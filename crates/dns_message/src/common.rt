@@ -2,12 +2,12 @@
 
 ghost use Rattle.std.specs.Prelude.{◌≡◌, ◌+◌, ◌≤◌, length};
 ghost use Rattle.std.specs.Bool.{OnTrue, OnFalse};
-ghost use Rattle.dns_view.specs.{NameEnds.NameEnds, Steps.NameSteps, Steps.Leaves};
+ghost use Rattle.dns_names_wire.specs.{NameEnds.NameEnds, Steps.NameSteps, Steps.Leaves};
 ghost use Rattle.dns_message.specs.Passing.{PassesRData};
 
 use crate::reading::FixedFields;
-use dns_view::Walk;
-use dns_view::skip::is_name_near;
+use dns_check::fields::is_name_near;
+use dns_names_wire::Walk;
 
 // The numbers of these types (RFC 1035, section 3.2.2; RFC 3596, section 2.1).
 const A: u16 = 1;

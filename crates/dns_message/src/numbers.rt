@@ -4,7 +4,7 @@ ghost use Rattle.std.specs.Prelude.{◌≡◌, ◌+◌, ◌<◌, ◌≤◌, ◌�
 ghost use Rattle.std.specs.Int.{bit_at};
 ghost use Rattle.dns_fields.specs.{Fields.Field, declared.Kind.TheVariants.Number};
 
-use dns_view::Walk;
+use dns_names_wire::Walk;
 
 // The number of two octets at an offset.
 #[inline]

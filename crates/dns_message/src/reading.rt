@@ -1,7 +1,7 @@
 //! What is read of one question and of one record.
 
 ghost use Rattle.std.specs.Prelude.{◌≡◌, ◌+◌, ◌≤◌, length, IfOk, IfErr, IfSome, IfNone, OnOk};
-ghost use Rattle.dns_view.specs.{NameEnds.NameEnds, Steps.NameSteps};
+ghost use Rattle.dns_names_wire.specs.{NameEnds.NameEnds, Steps.NameSteps};
 ghost use Rattle.dns_message.specs.{Steps.Takes, Stops.IsQuestionStop, Stops.IsOwnerStop};
 ghost use Rattle.dns_message.specs.Questions.{NoQuestion, IsQuestionFault};
 ghost use Rattle.dns_message.specs.Records.{NoRecord, IsRecordFault};
@@ -9,7 +9,7 @@ ghost use Rattle.dns_message.specs.Readings.{IsAsked, IsFound};
 
 use crate::error::Fault;
 use crate::numbers::{long_at, number_at};
-use dns_view::names::{pass_name, skip_name};
+use dns_names_wire::name_ends::{pass_name, skip_name};
 
 // How many octets follow the name of a question (RFC 1035, section 4.1.2).
 const AFTER_NAME: usize = 4;

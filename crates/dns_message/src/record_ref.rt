@@ -3,7 +3,7 @@
 ghost use Rattle.std.specs.Prelude.{◌≡◌, ◌≢◌, ◌≤◌, ◌↔◌, IsTrue, length, IfOk, IfErr, OnOk, MatchOption};
 ghost use Rattle.dns_rdata.specs.{Views.IsViewOf};
 ghost use Rattle.dns_message.specs.OptRecords.{IsEdns};
-ghost use Rattle.dns_view.specs.Steps.{Leaves};
+ghost use Rattle.dns_names_wire.specs.Steps.{Leaves};
 ghost use Rattle.dns_rdata.specs.Steps.{RDataSteps};
 ghost use Rattle.dns_message.specs.{Steps.DataSteps, Steps.RecordSteps, Steps.Takes, Stops.IsRecordStop};
 ghost use Rattle.dns_message.specs.{Readings.IsFound, Records.HasNoData, Items.IsDataOf, Items.IsRefusedAt, Items.IsRejected, Items.GivesRecord};
@@ -12,9 +12,10 @@ use crate::edns::{Edns, edns_of};
 use crate::error::{Fault, RecordError, Section};
 use crate::reading::{FixedFields, read_record};
 use crate::sections::Position;
+use dns_names_wire::Walk;
 use dns_rdata::RDataRef;
 use dns_types::{DecodeError, RecordType, Restrict};
-use dns_view::{NameRef, Walk};
+use dns_view::NameRef;
 
 // The classes of records of UPDATE that have no data (RFC 2136, sections 2.4 and 2.5).
 const NONE: u16 = 254;

@@ -1,7 +1,7 @@
 //! A step of a walk over records, for callers that keep numbers alone.
 
 ghost use Rattle.std.specs.Prelude.{◌+◌, ◌≤◌, length, IfOk, IfErr, OnOk};
-ghost use Rattle.dns_view.specs.Steps.{Leaves};
+ghost use Rattle.dns_names_wire.specs.Steps.{Leaves};
 ghost use Rattle.dns_message.specs.{Passing.TellsContent, Steps.DataSteps, Steps.RecordSteps, Steps.Takes};
 ghost use Rattle.dns_message.specs.{Readings.IsFound, Stops.IsRecordStop};
 

@@ -7,3 +7,5 @@ pub mod Names
 pub mod NameFacts
 pub mod Building
 pub mod Zones
+pub mod NameSteps
+pub mod StepCounts

@@ -2,6 +2,8 @@ pub mod State
 pub mod Terms
 pub mod Facts
 pub mod NameValues
+pub mod NameEnds
+pub mod Steps
 pub use Rattle.dns_fields.specs.Octets
 pub use Rattle.dns_fields.specs.Labels
 pub use Rattle.dns_fields.specs.Names

@@ -17,6 +17,15 @@ pub record TookField (old : Reading) (k : Kind) (v : Value k) (new : Reading) : 
   pub message : new.message ≡ old.message
   pub field : Field old.message old.index k v new.index
 
+-- some value of the kind was taken
+pub record TookSome (old : Reading) (k : Kind) (new : Reading) : Type 0 where
+  pub value : Value k
+  pub took : TookField old k value new
+
+-- the decoder at another offset of its message
+abbrev pub moved : Reading → ℕ → Reading
+moved d index = record { message = d.message; index = index }
+
 -- fewer than n octets are left
 abbrev pub LacksOctets : Reading → ℕ → Type 0
 LacksOctets d n = length d.message < d.index + n

@@ -1,11 +1,13 @@
-//! Domain names and the wire format of DNS messages: a decoder and an encoder.
+//! Domain names and the wire format of DNS messages: decoders and an encoder.
 #![tactic(auto)]
 
 pub mod binary;
 pub mod decoder;
 pub mod encoder;
 pub mod name;
+pub mod name_ends;
 pub mod record;
+pub mod walk;
 
 pub use binary::{BinDecodable, BinEncodable};
 pub use decoder::BinDecoder;
@@ -18,3 +20,4 @@ pub use dns_types::{
 pub use encoder::{BinEncoder, Place};
 pub use name::Name;
 pub use record::{DecodesFields, EncodesFields, Record, RecordDataDecodable, emit_in};
+pub use walk::Walk;

@@ -8,7 +8,7 @@ use Rattle.dns_canonical.proofs.Cursors.{emittable_short}
 use Rattle.dns_rdata_base.specs as base
 use Rattle.dns_rdata_options.specs as options
 use Rattle.dns_rdata_service.specs as service
-use Rattle.dns_rdata_caa_csync.specs as caa_csync
+use Rattle.dns_rdata_policy.specs as policy
 use Rattle.dns_rdata.specs.{declared.record_data.RData.RData, Data.fields_of, Data.data_octets}
 use Rattle.dns_rdata.specs.Cursor.{can_emit, data_left, data_windows, data_options, data_options_left, data_course, DataAt, DataKept}
 use Rattle.dns_rdata.specs.declared.record_data.RData.TheVariants as rdata
@@ -25,7 +25,7 @@ cannot false h = refl
 -- ---- the first position
 
 pub begins_at : (v : RData) → can_emit v ≡ true → DataAt v 0 0 0
-begins_at (rdata.CAA x) h = emittable_short caa_csync.CAA.caa_shape (caa_csync.CAA.caa_fields x) h
+begins_at (rdata.CAA x) h = emittable_short policy.CAA.caa_shape (policy.CAA.caa_fields x) h
 begins_at (rdata.HINFO x) h = emittable_short base.HINFO.hinfo_shape (base.HINFO.hinfo_fields x) h
 begins_at (rdata.HTTPS x) h = sym (and-true (parameters_emittable (map service.Parameters.parameter_of x.0.svc_params))) ∙ h
 begins_at (rdata.NAPTR x) h = emittable_short base.NAPTR.naptr_shape (base.NAPTR.naptr_fields x) h

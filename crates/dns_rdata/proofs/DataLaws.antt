@@ -126,19 +126,10 @@ reads_canonical m p n t v f short =
 
 -- ---- the same as clauses on an outcome
 
-pub canonical_of : (t : RecordType) (m : List ℕ) (p n : ℕ) (r : Result RData DecodeError) → IfOk r (λ v. Fills m p n t v) → IfOk r (ReadsCanonical t)
-canonical_of t m p n (Ok v) f = reads_canonical m p n t v f
-canonical_of t m p n (Err e) f = tt
-
 pub emits_again : (v : RData) (mode : RDataEncoding) (r : Result (Unit {0}) ProtoError) (old new : Writing) → AreOctets new.octets
     → EmitsAs mode (fields_of v).kinds (fields_of v).values r old new → OnOk r (ReadsBack v old new)
 emits_again v mode (Ok x) old new octets h = reads_back v mode old new octets h
 emits_again v mode (Err e) old new octets h = tt
-
--- what was read can be emitted
-pub emittable_of : (t : RecordType) (m : List ℕ) (p n : ℕ) (r : Result RData DecodeError) → IfOk r (λ v. Fills m p n t v) → IfOk r IsEmittable
-emittable_of t m p n (Ok v) f = fills_emittable f
-emittable_of t m p n (Err e) f = tt
 
 -- what was emitted is emittable, and after the error `Message` it is not
 pub emits_emittable : (v : RData) (mode : RDataEncoding) (r : Result (Unit {0}) ProtoError) (old new : Writing)

@@ -5,7 +5,7 @@ use Rattle.std.specs.{Result.IfOk, Result.result_map_both, Vec.Iter.into_iter_st
 use Rattle.dns_types.specs.{declared.record_type.RecordType.RecordType, declared.error.ParseError.ParseError}
 use Rattle.dns_types.specs.declared.record_type.RecordType.TheVariants as types
 use Rattle.dns_types.specs.declared.error.ParseError.TheVariants as parse
-use Rattle.dns_text.specs.{TextWords.TextWords, TextWords.NoTextWords, Plain.ArePlain, Plain.GivesWord}
+use Rattle.dns_tokens.specs.{TextWords.TextWords, TextWords.NoTextWords, Plain.ArePlain, Plain.GivesWord}
 use Rattle.dns_tokens.specs.{Taking.HoldsBehind, Taking.HoldsOfTokens, Forms.TokenRow, Forms.token, Printed.cut}
 use Rattle.dns_tokens.specs.Reads.{UnlessParseMemory, Decides, TookTokens, RefusedTokens, ReadsTokenRow}
 use Rattle.dns_fields.specs.{Labels.DomainName, Fields.Values}

@@ -1,6 +1,5 @@
 pub mod Values
 pub mod DataReads
-pub mod OwnReads
 pub mod DataLaws
 pub mod CursorSteps
 pub mod DataTokens
@@ -9,8 +8,6 @@ pub mod OrderReads
 pub mod Ranks
 pub mod WholeOctets
 pub mod RowErrors
-pub mod ListErrors
-pub mod OptionErrors
 pub mod Views
 pub mod ViewOrder
 pub mod OrderKeys

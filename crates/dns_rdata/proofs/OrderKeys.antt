@@ -1,5 +1,5 @@
 -- The first canonical octets as a number.
-use Rattle.std.proofs.Common.{◌≡◌, ℕ, ◌+◌, ◌<◌, ◌≤◌, ⊎_elim, List, length, get_or, sym, ◌∙◌, arith, subst}
+use Rattle.std.proofs.Common.{ℕ, ◌+◌, ◌<◌, ◌≤◌, ⊎_elim, List, length, get_or, sym, ◌∙◌, arith, subst}
 use Rattle.std.proofs.{lemmas.Bool.cases_lt, Math.ListN.get_or-eq_default}
 use Rattle.dns_fields.specs.Octets.{AreOctets}
 use Rattle.dns_fields.proofs.OctetLaws.{canonical_octets_are}

@@ -4,7 +4,8 @@ use Rattle.dns_types.specs.declared.record_type.RecordType.{RecordType}
 use Rattle.dns_names_wire.specs.State.{Reading}
 use Rattle.dns_rows.specs.declared.row.Part.{Part}
 use Rattle.dns_rows.specs.Table.{TypeRow, fields as row, unread, formatless, table}
-use Rattle.dns_view.specs.{Steps.Leaves, RowSteps.RowSteps}
+use Rattle.dns_names_wire.specs.Steps.{Leaves}
+use Rattle.dns_check.specs.RowSteps.{RowSteps}
 use Rattle.dns_rdata.specs.{Data.parts_of, Data.IsNever, Data.IsNeverRead, Steps.RDataSteps}
 
 none_of : (r : TypeRow) (n : ℕ) (old : Reading) (before : ℕ) → IsNever r → Leaves (RowSteps (parts_of r) n old) before before

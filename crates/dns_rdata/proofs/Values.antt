@@ -15,8 +15,8 @@ use Rattle.dns_rdata_certs.proofs.Values.{cert_from, cert_from-fields, cert_fiel
 use Rattle.dns_rdata_certs.proofs.Values.{sshfp_fields-from, sshfp_from-read, sshfp_keys-same, tlsa_from, tlsa_from-fields, tlsa_fields-from}
 use Rattle.dns_rdata_certs.proofs.Values.{tlsa_from-read, tlsa_keys-same}
 use Rattle.dns_rdata_service.proofs.SvcbValues.{svcb_from, svcb_from-fields, svcb_fields-from, svcb_from-read, svcb_equal}
-use Rattle.dns_rdata_caa_csync.proofs.CaaValues.{caa_from, caa_from-fields, caa_fields-from, caa_from-read, caa_keys-same}
-use Rattle.dns_rdata_caa_csync.proofs.CsyncValues.{csync_from, csync_from-fields, csync_fields-from, csync_from-read, csync_keys-same}
+use Rattle.dns_rdata_policy.proofs.CaaValues.{caa_from, caa_from-fields, caa_fields-from, caa_from-read, caa_keys-same}
+use Rattle.dns_rdata_policy.proofs.CsyncValues.{csync_from, csync_from-fields, csync_fields-from, csync_from-read, csync_keys-same}
 use Rattle.dns_rdata_options.proofs.Values.{opt_from-fields, opt_fields-from, opt_from-read, opt_equal}
 use Rattle.dns_rdata_base.specs.declared.null.NULL.{NULL}
 use Rattle.dns_rdata_certs.specs.declared.tlsa.TLSA.{TLSA}
@@ -25,7 +25,7 @@ use Rattle.dns_rdata_base.specs as base
 use Rattle.dns_rdata_certs.specs as certs
 use Rattle.dns_rdata_options.specs as options
 use Rattle.dns_rdata_service.specs as service
-use Rattle.dns_rdata_caa_csync.specs as caa_csync
+use Rattle.dns_rdata_policy.specs as policy
 use Rattle.dns_rdata.specs.{declared.record_data.RData.RData, Equal.equal, Equal.record_type_eq}
 use Rattle.dns_rdata.specs.Data.{shape, MeetsCondition, FieldsOf, fields_of, type_of, IsUnknownType, CanBeRead, IsValue}
 use Rattle.dns_rdata.specs.declared.record_data.RData.TheVariants as rdata
@@ -153,11 +153,11 @@ region_value m p n types.AAAA vs w =
     let e : octets_of (segments_of vs.0) ≡ vs.0 = octets_of-segments 8 vs.0 w.stands.1.is.0 (AreOctets-at m p vs.0 w.stands.0 w.octets w.stands.1.is.1) in
     record { type = refl; fields = of_kinds (Octets 16 ∷ []) (ap (λ (o : List ℕ). (o, tt)) e); can_be_read = tt }
 region_value m p n types.CAA vs w =
-    let f = stands_fit m p caa_csync.CAA.caa_shape vs (p + n) w.stands in
-    record { type = refl; fields = of_kinds caa_csync.CAA.caa_shape (caa_fields-from vs f); can_be_read = caa_from-read vs }
+    let f = stands_fit m p policy.CAA.caa_shape vs (p + n) w.stands in
+    record { type = refl; fields = of_kinds policy.CAA.caa_shape (caa_fields-from vs f); can_be_read = caa_from-read vs }
 region_value m p n types.CERT vs w = record { type = refl; fields = of_kinds certs.CERT.cert_shape (cert_fields-from vs); can_be_read = cert_from-read vs }
 region_value m p n types.CSYNC vs w =
-    record { type = refl; fields = of_kinds caa_csync.CSYNC.csync_shape (csync_fields-from vs); can_be_read = csync_from-read vs }
+    record { type = refl; fields = of_kinds policy.CSYNC.csync_shape (csync_fields-from vs); can_be_read = csync_from-read vs }
 region_value m p n types.OPT vs w = record {
   type = refl;
   fields =
@@ -204,7 +204,7 @@ pub equal_values : (t : RecordType) (vs ws : Values (shape t)) → MeetsConditio
     → equal (value_for t vs) (value_for t ws) ≡ values_eq (shape t) (fields_for t vs) (fields_for t ws)
 unfolding value_for values_as value_as
 equal_values types.CAA vs ws h a b = and-true _
-    ∙ equal_keys caa_csync.CAA.caa_key_shape caa_csync.CAA.caa_shape (caa_csync.CAA.caa_keys (caa_from vs)) (caa_csync.CAA.caa_keys (caa_from ws)) (caa_csync.CAA.caa_fields (caa_from vs)) (caa_csync.CAA.caa_fields (caa_from ws))
+    ∙ equal_keys policy.CAA.caa_key_shape policy.CAA.caa_shape (policy.CAA.caa_keys (caa_from vs)) (policy.CAA.caa_keys (caa_from ws)) (policy.CAA.caa_fields (caa_from vs)) (policy.CAA.caa_fields (caa_from ws))
     (tt, (tt, (tt, (tt, tt)))) (tt, (tt, (tt, (tt, tt)))) (tt, (tt, (tt, tt))) (tt, (tt, (tt, tt)))
     (caa_keys-same (caa_from vs) (caa_from ws) (caa_from-read vs) (caa_from-read ws))
 equal_values types.CERT vs ws h a b = and-true _
@@ -212,8 +212,8 @@ equal_values types.CERT vs ws h a b = and-true _
     (tt, (tt, (tt, (tt, (tt, (tt, tt)))))) (tt, (tt, (tt, (tt, (tt, (tt, tt)))))) (tt, (tt, (tt, (tt, tt)))) (tt, (tt, (tt, (tt, tt))))
     (cert_keys-same (cert_from vs) (cert_from ws) (cert_from-read vs) (cert_from-read ws))
 equal_values types.CSYNC vs ws h a b = and-true _
-    ∙ equal_keys caa_csync.CSYNC.csync_key_shape caa_csync.CSYNC.csync_shape (caa_csync.CSYNC.csync_keys (csync_from vs)) (caa_csync.CSYNC.csync_keys (csync_from ws)) (caa_csync.CSYNC.csync_fields (csync_from vs))
-    (caa_csync.CSYNC.csync_fields (csync_from ws)) (tt, (tt, (tt, (tt, (tt, tt))))) (tt, (tt, (tt, (tt, (tt, tt))))) (tt, (tt, (tt, tt))) (tt, (tt, (tt, tt)))
+    ∙ equal_keys policy.CSYNC.csync_key_shape policy.CSYNC.csync_shape (policy.CSYNC.csync_keys (csync_from vs)) (policy.CSYNC.csync_keys (csync_from ws)) (policy.CSYNC.csync_fields (csync_from vs))
+    (policy.CSYNC.csync_fields (csync_from ws)) (tt, (tt, (tt, (tt, (tt, tt))))) (tt, (tt, (tt, (tt, (tt, tt))))) (tt, (tt, (tt, tt))) (tt, (tt, (tt, tt)))
     (csync_keys-same (csync_from vs) (csync_from ws) (csync_from-read vs) (csync_from-read ws))
 equal_values types.OPT vs ws h a b = and-true _ ∙ opt_equal (options.OPT.opt_from vs) (options.OPT.opt_from ws) a b
 equal_values types.SVCB vs ws h a b = and-true _ ∙ svcb_equal (svcb_from vs) (svcb_from ws) (svcb_from-read vs) (svcb_from-read ws)

@@ -6,10 +6,9 @@ use Rattle.dns_types.specs.declared.record_type.RecordType.{RecordType}
 use Rattle.dns_fields.specs.declared.Kind.{Kind}
 use Rattle.dns_fields.specs.declared.Kind.TheVariants.{Name}
 use Rattle.dns_fields.specs.{Fields.Values, Labels.DomainName}
-use Rattle.dns_view.specs.{declared.field.FieldRef.FieldRef, declared.name_ref.NameRef.NameRef}
+use Rattle.dns_view.specs.declared.{row.field.FieldRef.FieldRef, name.name_ref.NameRef.NameRef}
 use Rattle.dns_view.specs.{Shown.ShowsAt, NameFields.names_in, NameFields.IsNameAt, NameFields.ShowsNameAt}
 use Rattle.dns_rdata.specs.{declared.record_data.RData.RData, Data.Fills, Data.fields_of, Views.IsViewOf}
-use Rattle.dns_rdata.specs.declared.record_data.RData.TheVariants as rdata
 use Rattle.dns_rdata.specs.declared.view.RDataRef.{RDataRef}
 use Rattle.dns_rdata.specs.declared.view_fields.{Fields.Fields, Names.Names}
 use Rattle.dns_rdata.specs.ViewFields.{ShowsField, AreFields, AreNames, NextField, NextName}

@@ -14,10 +14,12 @@ use Rattle.dns_fields.specs.Tlvs.{string, Numbered, tlvs, AreTlvs, AllHeld, Opti
 use Rattle.dns_fields.specs.Bitmaps.{Block, block}
 use Rattle.dns_rows.specs.{declared.row.Part.Part, Table.table, Table.kinds_of}
 use Rattle.dns_fields.proofs.{Tlvs.complete_or_truncated, OctetLaws.AreOctets-at, Numbers.length-bytes}
-use Rattle.dns_view.specs.{Rows.HasRow, Shown.ShowsAt, Shown.IsShown, Tlvs.AreComplete, TlvList.NoTlv, TypeList.block_types, TypeList.ListsTypes}
-use Rattle.dns_view.specs.declared.field.FieldRef.{FieldRef}
-use Rattle.dns_view.specs.declared.field.FieldRef.TheVariants as shown
-use Rattle.dns_view.proofs.{Alone.between_is, TlvSteps.no_octets, TypeLists.lists_types}
+use Rattle.dns_check.specs.{Rows.HasRow, Tlvs.AreComplete}
+use Rattle.dns_view.specs.{Shown.ShowsAt, Shown.IsShown, TlvList.NoTlv, TypeList.block_types, TypeList.ListsTypes}
+use Rattle.dns_view.specs.declared.row.field.FieldRef.{FieldRef}
+use Rattle.dns_view.specs.declared.row.field.FieldRef.TheVariants as shown
+use Rattle.dns_check.proofs.Alone.{between_is}
+use Rattle.dns_view.proofs.{TlvSteps.no_octets, TypeLists.lists_types}
 use Rattle.dns_rdata_base.proofs.Addresses.{octets_of-segments}
 use Rattle.dns_rdata.specs.{Data.FieldsOf, Data.fields_of, Data.type_of, Data.Fills, Laws.address_of}
 use Rattle.dns_rdata.specs.{declared.record_data.RData.RData, declared.view.RDataRef.RDataRef, Views.IsViewOf}

@@ -9,7 +9,8 @@ use Rattle.dns_types.specs.contracts.record_type.RecordTypeOrd.TheImpl.Laws as t
 use Rattle.dns_types.proofs.RecordTypeLaws.{code_of-Decides}
 use Rattle.dns_fields.specs.Fields.{canonical}
 use Rattle.dns_rows.specs.{declared.row.Part.Part, Table.kinds_of, Table.table}
-use Rattle.dns_view.specs.{Checks.FillsRow, Rows.HasRow, Putting.Put}
+use Rattle.dns_check.specs.{Checks.FillsRow, Rows.HasRow}
+use Rattle.dns_view.specs.Putting.{Put}
 use Rattle.dns_rdata.specs.{Data.parts_of, Data.Fills, Data.data_octets, Equal.equal, Equal.record_type_eq, Order.record_type_cmp, Order.rdata_cmp, Ties.rdata_ties}
 use Rattle.dns_rdata.specs.{declared.record_data.RData.RData, declared.view.RDataRef.RDataRef, Views.IsViewOf}
 use Rattle.dns_rdata.proofs.{OrderReads.orders_read, Views.view_canonical, Views.view_apart}

@@ -1,39 +1,32 @@
 -- RDATA that is looked at is the RDATA of a value.
-use Rattle.std.proofs.Common.{◌≡◌, ◌≢◌, ℕ, ◌+◌, ◌-◌, ◌<◌, ◌≤◌, inl, inr, true, false, List, [], ◌∷◌, ◌++◌, length, Result, Ok, Err, ⊎_elim, refl, sym, ap, ◌∙◌, arith, subst}
+use Rattle.std.proofs.Common.{◌≡◌, ◌≢◌, ℕ, ◌+◌, ◌<◌, ◌≤◌, true, false, List, [], ◌∷◌, ◌++◌, length, Result, Ok, Err, ⊎_elim, refl, sym, ap, ◌∙◌, arith, subst}
 use Rattle.std.specs.{Result.IfOk, Result.IfErr, Result.OnOk, Cmp.Lexicographic.slice_cmp, Ordering.nat_cmp, Ordering.is_eq, declared.cmp.Ordering.Ordering}
 use Rattle.dns_types.specs.{declared.error.DecodeError.DecodeError, declared.record_type.RecordType.RecordType}
 use Rattle.dns_types.specs.declared.error.DecodeError.TheVariants as decode
 use Rattle.dns_types.specs.declared.record_type.RecordType.TheVariants as types
 use Rattle.dns_fields.specs.Fields.{Value, Values, canonical}
 use Rattle.dns_fields.specs.declared.Kind.{Kind}
-use Rattle.dns_fields.specs.declared.Kind.TheVariants.{Number, Octets, Name, CharacterString, CharacterStrings, Rest, Options, Parameters, Bitmap}
-use Rattle.dns_fields.specs.Tlvs.{form_for, ParameterForm, Keys, Names, Nothing, PortNumber, Addresses4, Addresses16, AnyOctets}
+use Rattle.dns_fields.specs.declared.Kind.TheVariants.{Octets, Name}
 use Rattle.dns_names_wire.specs.{State.Reading, Terms.TookField, Terms.LacksOctets, Terms.StaysBehind}
-use Rattle.dns_names_wire.proofs.FieldReads.{unless_all}
-use Rattle.dns_rows.specs.{declared.row.Part.Part, declared.row.Rule.Rule, Rules.MeetsRow}
-use Rattle.dns_rows.specs.declared.row.Rule.TheVariants as rules
+use Rattle.dns_rows.specs.{declared.row.Part.Part, Rules.MeetsRow}
 use Rattle.dns_rows.specs.Table.{TypeRow, fields as row, unread, formatless, table, kinds_of}
-use Rattle.dns_view.specs.{Checks.FillsRow, Checks.NoFill, Checks.IsRowError, Rows.RowFault, Rows.RowError, Rows.RowReached, Rows.SkipsRow, Rows.is_row}
-use Rattle.dns_view.specs.Parts.{Ends, KindFault, NumberFault, StringFault, EndFault, RestFault}
-use Rattle.dns_view.specs.{Tags.IsTagError, Values.IsFormError, Values.IsKeyError, Parameters.IsParametersError}
-use Rattle.dns_view.specs.{Options.IsSubnetError, Options.IsTlvError, Options.IsNextError, Parameters.IsParameterError}
+use Rattle.dns_check.specs.{Checks.FillsRow, Checks.NoFill, Checks.IsRowError, Rows.SkipsRow, Rows.is_row}
 use Rattle.dns_view.specs.ViewOf as row_view
-use Rattle.dns_view.specs.declared.view.RowView.{RowView}
+use Rattle.dns_view.specs.declared.row.view.RowView.{RowView}
 use Rattle.dns_rdata.specs.Views.{IsViewOf}
 use Rattle.dns_rdata.specs.{Data.data_octets, Data.type_of, Equal.equal, Equal.types_equal, Keys.variant_keys, Order.rdata_cmp, Ties.rdata_ties}
 use Rattle.dns_rdata.proofs.OrderReads.{orders_read}
 use Rattle.dns_types.proofs.RecordTypeLaws.{code_of-Decides}
 use Rattle.std.proofs.lemmas.Bool.{cases_Bool}
-use Rattle.dns_view.specs.{Putting.form_octets, Putting.all_form, Rows.HasRow}
+use Rattle.dns_view.specs.Putting.{form_octets, all_form}
+use Rattle.dns_check.specs.Rows.{HasRow}
 use Rattle.dns_rdata.specs.WholeOctets.{whole_octets, all_whole, whole_data}
 use Rattle.dns_rdata.specs.{declared.record_data.RData.RData, declared.view.RDataRef.RDataRef}
 use Rattle.dns_rdata.specs.Data.{parts_of, MeetsRule, IsNever, IsNeverRead, HasValue, NoValue, FieldsOf, Fills, shape}
-use Rattle.dns_rdata.specs.ReadErrors.{OwnError, OwnResult, IsReadError, Stopped, Reached, rejects_of}
+use Rattle.dns_rdata.specs.ReadErrors.{OwnResult, IsReadError}
 use Rattle.dns_fields.specs.Octets.{AreOctets}
 use Rattle.dns_rdata.proofs.DataLaws.{each_region, filled_octets}
-use Rattle.dns_rdata.proofs.RowErrors.{Rejects, straight_rejects, rest_rejects, a_rejects, aaaa_rejects, cert_rejects, hinfo_rejects, null_rejects}
-use Rattle.dns_rdata.proofs.{RowErrors.txt_rejects, RowErrors.naptr_rejects, ListErrors.caa_rejects, ListErrors.csync_rejects, ListErrors.svcb_rejects}
-use Rattle.dns_rdata.proofs.OptionErrors.{opt_rejects}
+use Rattle.dns_rdata.proofs.RowErrors.{Known, error_known, row_known}
 
 -- ---- the row of a type
 
@@ -51,229 +44,29 @@ meets_row (row parts) vs h = h
 meets_row unread vs h = absurd h
 meets_row formatless vs h = tt
 
--- ---- where a row ends
-
-last_reached : (k : Kind) (r : Rule) (n : ℕ) (v : Value k) (old new : Reading) → Ends k r (old.index + n) v new.index → Reached (k ∷ []) n (v, tt) old new
-last_reached (Number w) r n v old new h = tt
-last_reached (Octets w) r n v old new h = tt
-last_reached Name r n v old new h = tt
-last_reached CharacterString r n v old new h = tt
-last_reached CharacterStrings r n v old new h = h
-last_reached Rest r n v old new h = h
-last_reached Options r n v old new h = h
-last_reached Parameters r n v old new h = h
-last_reached Bitmap r n v old new h = h
-
-then_reached : (k l : Kind) (kinds : List Kind) (n : ℕ) (vs : Values (k ∷ (l ∷ kinds))) (old new : Reading) → Reached (l ∷ kinds) n vs.1 old new
-    → Reached (k ∷ (l ∷ kinds)) n vs old new
-then_reached (Number w) l kinds n vs old new h = h
-then_reached (Octets w) l kinds n vs old new h = h
-then_reached Name l kinds n vs old new h = h
-then_reached CharacterString l kinds n vs old new h = h
-then_reached CharacterStrings l kinds n vs old new h = h
-then_reached Rest l kinds n vs old new h = h
-then_reached Options l kinds n vs old new h = h
-then_reached Parameters l kinds n vs old new h = h
-then_reached Bitmap l kinds n vs old new h = h
-
-row_reached : (parts : List Part) (n : ℕ) (vs : Values (kinds_of parts)) (old new : Reading) → RowReached parts (old.index + n) vs new.index
-    → Reached (kinds_of parts) n vs old new
-row_reached [] n vs old new h = tt
-row_reached (p ∷ []) n vs old new h = last_reached p.kind p.rule n vs.0 old new h
-row_reached (p ∷ (l ∷ parts)) n vs old new h = then_reached p.kind l.kind (kinds_of parts) n vs old new (row_reached (l ∷ parts) n vs.1 old new h)
-
--- ---- no error of a row is out of memory, or that of a type that is never read
-
-abbrev Known : DecodeError → Type 0
-Known e = (e ≢ decode.Memory) × ((k : ℕ) → e ≢ decode.UnknownRecordTypeValue k)
-
-known : {e x : DecodeError} → e ≡ x → Known x → Known e
-known is k = ((λ m. k.0 (sym is ∙ m)), (λ n m. k.1 n (sym is ∙ m)))
-
-short : {e : DecodeError} → e ≡ decode.InsufficientBytes → Known e
-short is = known is ((λ m. cc m), (λ n m. cc m))
-
-length_read : {e : DecodeError} {a b : ℕ} → e ≡ decode.IncorrectRDataLengthRead a b → Known e
-length_read is = known is ((λ m. cc m), (λ n m. cc m))
-
-not_utf8 : {e : DecodeError} → e ≡ decode.Utf8 → Known e
-not_utf8 is = known is ((λ m. cc m), (λ n m. cc m))
-
-no_value_there : {e : DecodeError} → e ≡ decode.SvcParamMissingValue → Known e
-no_value_there is = known is ((λ m. cc m), (λ n m. cc m))
-
-bad_tag : {e : DecodeError} → e ≡ decode.CaaTagInvalid → Known e
-bad_tag is = known is ((λ m. cc m), (λ n m. cc m))
-
-tag_known : (used n t : ℕ) (d : Reading) (e : DecodeError) (new : Reading) → IsTagError used n t d e new → Known e
-tag_known used n t d e new (inl h) = length_read h.error
-tag_known used n t d e new (inr (inl h)) = bad_tag h.error
-tag_known used n t d e new (inr (inr (inl h))) = bad_tag h.error
-tag_known used n t d e new (inr (inr (inr h))) = short h.error
-
-form_known : (form : ParameterForm) (body : List ℕ) (e : DecodeError) → IsFormError form body e → Known e
-form_known Keys body e (inl h) = no_value_there h.0
-form_known Keys body e (inr h) = short h.0
-form_known Names body e (inl h) = no_value_there h.0
-form_known Names body e (inr (inl h)) = short h.0
-form_known Names body e (inr (inr h)) = not_utf8 h.0
-form_known Nothing body e h = length_read h.0
-form_known PortNumber body e h = short h.0
-form_known Addresses4 body e h = short h.0
-form_known Addresses16 body e h = short h.0
-form_known AnyOctets body e h = absurd h
-
-key_known : (key : ℕ) (body : List ℕ) (e : DecodeError) → IsKeyError key body e → Known e
-key_known key body e (inl h) = form_known (form_for key) body e h
-key_known key body e (inr h) = not_utf8 h.1
-
-parameter_known : (d : Reading) (e : DecodeError) (new : Reading) → IsParameterError d e new → Known e
-parameter_known d e new (inl (inl h)) = short h.0
-parameter_known d e new (inl (inr (key, between, took, h))) = short h.0
-parameter_known d e new (inr (inl h)) = length_read h.error
-parameter_known d e new (inr (inr h)) = key_known h.key h.octets e h.refused
-
-parameters_known : (p n : ℕ) (d : Reading) (e : DecodeError) (new : Reading) → IsParametersError p n d e new → Known e
-parameters_known p n d e new (inl h) = parameter_known h.between e new h.refused
-parameters_known p n d e new (inr (inl h)) = known h.error ((λ m. cc m), (λ n m. cc m))
-parameters_known p n d e new (inr (inr h)) = length_read h.error
-
-subnet_known : (s : List ℕ) (e : DecodeError) → IsSubnetError s e → Known e
-subnet_known s e (inl h) = short h.error
-subnet_known s e (inr (inl h)) = known h.error ((λ m. cc m), (λ n m. cc m))
-subnet_known s e (inr (inr (inl h))) = short h.error
-subnet_known s e (inr (inr (inr (inl h)))) = length_read h.error
-subnet_known s e (inr (inr (inr (inr h)))) = short h.error
-
-tlv_known : (start n : ℕ) (d : Reading) (e : DecodeError) (new : Reading) → IsTlvError start n d e new → Known e
-tlv_known start n d e new (inl h) = short h.error
-tlv_known start n d e new (inr (inl h)) = short h.error
-tlv_known start n d e new (inr (inr (inl h))) = length_read h.error
-tlv_known start n d e new (inr (inr (inr (inl h)))) = length_read h.error
-tlv_known start n d e new (inr (inr (inr (inr h)))) = short h.error
-
-next_known : (start n : ℕ) (d : Reading) (e : DecodeError) (new : Reading) → IsNextError start n d e new → Known e
-next_known start n d e new (inl h) = tlv_known start n d e new h
-next_known start n d e new (inr h) = subnet_known h.body e h.refused
-
-number_known : (r : Rule) (w : ℕ) (old : Reading) (e : DecodeError) (new : Reading) → NumberFault r w old e new → Known e
-number_known rules.KnownFlags w old e new (inl h) = short h.0
-number_known rules.KnownFlags w old e new (inr h) = known h.error ((λ m. cc m), (λ n m. cc m))
-number_known r w old e new h = short h.0
-
-string_known : (r : Rule) (start n : ℕ) (old : Reading) (e : DecodeError) (new : Reading) → StringFault r start n old e new → Known e
-string_known rules.Tag start n old e new (inl h) = short h.0
-string_known rules.Tag start n old e new (inr h) = tag_known (h.between.index - start) n h.size h.between e new h.refused
-string_known rules.Letters start n old e new (inl h) = short h.0
-string_known rules.Letters start n old e new (inr h) = known h.0 ((λ m. cc m), (λ n m. cc m))
-string_known r start n old e new h = short h.0
-
-end_known : (start n : ℕ) (old : Reading) (e : DecodeError) → EndFault start n old e → Known e
-end_known start n old e (inl h) = length_read h.0
-end_known start n old e (inr h) = short h.0
-
-rest_known : (r : Rule) (start n : ℕ) (old : Reading) (e : DecodeError) → RestFault r start n old e → Known e
-rest_known rules.Some start n old e (inl h) = end_known start n old e h
-rest_known rules.Some start n old e (inr h) = length_read h.0
-rest_known r start n old e h = end_known start n old e h
-
-kind_known : (k : Kind) (r : Rule) (start n : ℕ) (old : Reading) (e : DecodeError) (new : Reading) → KindFault r k start n old e new → Known e
-kind_known (Number w) r start n old e new h = number_known r w old e new h
-kind_known (Octets w) r start n old e new h = short h.0
-kind_known Name r start n old e new h = known h.0 ((λ m. cc m), (λ n m. cc m))
-kind_known CharacterString r start n old e new h = string_known r start n old e new h
-kind_known CharacterStrings r start n old e new h = short h.0
-kind_known Rest r start n old e new h = rest_known r start n old e h.1
-kind_known Bitmap r start n old e new (inl h) = end_known start n old e h.1
-kind_known Bitmap r start n old e new (inr h) = known h.error ((λ m. cc m), (λ n m. cc m))
-kind_known Parameters r start n old e new (inl h) = length_read h.0
-kind_known Parameters r start n old e new (inr h) = parameters_known start n old e new h.1
-kind_known Options r start n old e new (inl h) = length_read h.0
-kind_known Options r start n old e new (inr h) = next_known old.index (n - (old.index - start)) h.1.between e new h.1.next
-
-fault_known : (parts : List Part) (start n : ℕ) (old : Reading) (e : DecodeError) (new : Reading) → RowFault parts start n old e new → Known e
-fault_known [] start n old e new h = absurd h
-fault_known (p ∷ parts) start n old e new (inl h) = kind_known p.kind p.rule start n old e new h
-fault_known (p ∷ parts) start n old e new (inr h) = fault_known parts start n h.1 e new h.5
-
-row_known : (parts : List Part) (n : ℕ) (old : Reading) (e : DecodeError) (new : Reading) → RowError parts n old e new → Known e
-row_known parts n old e new (inl h) = length_read h.error
-row_known parts n old e new (inr h) = fault_known parts old.index n old e new h.1
-
--- ---- each error of a row is one of the record
-
-zero_rejects : Rejects [] (λ n old e new. ⊥)
-zero_rejects n old e new inside (inl h) = omega (arith, h.short)
-zero_rejects n old e new inside (inr h) = h.1
-
-rejected : (t : RecordType) → (IsNeverRead t → ⊥) → Rejects (parts_of (table t)) (rejects_of t)
-rejected types.A read = a_rejects
-rejected types.AAAA read = aaaa_rejects
-rejected types.ANAME read = straight_rejects (Name ∷ []) tt refl
-rejected types.CAA read = caa_rejects
-rejected types.CERT read = cert_rejects
-rejected types.CNAME read = straight_rejects (Name ∷ []) tt refl
-rejected types.CSYNC read = csync_rejects
-rejected types.HINFO read = hinfo_rejects
-rejected types.HTTPS read = svcb_rejects
-rejected types.MX read = straight_rejects (Number 2 ∷ Name ∷ []) tt refl
-rejected types.NAPTR read = naptr_rejects
-rejected types.NS read = straight_rejects (Name ∷ []) tt refl
-rejected types.OPT read = opt_rejects
-rejected types.PTR read = straight_rejects (Name ∷ []) tt refl
-rejected types.SMIMEA read = rest_rejects 3 refl
-rejected types.SOA read = straight_rejects (Name ∷ Name ∷ Number 4 ∷ Number 4 ∷ Number 4 ∷ Number 4 ∷ Number 4 ∷ []) tt refl
-rejected types.SRV read = straight_rejects (Number 2 ∷ Number 2 ∷ Number 2 ∷ Name ∷ []) tt refl
-rejected types.SSHFP read = rest_rejects 2 refl
-rejected types.SVCB read = svcb_rejects
-rejected types.TLSA read = rest_rejects 3 refl
-rejected types.TXT read = txt_rejects
-rejected types.ZERO read = zero_rejects
-rejected types.ANY read = absurd (read tt)
-rejected types.AXFR read = absurd (read tt)
-rejected types.IXFR read = absurd (read tt)
-rejected t read = null_rejects
-
 -- ---- what reading returns
-
-abbrev error_of : Result (Unit {0}) DecodeError → DecodeError
-error_of (Ok x) = decode.InsufficientBytes
-error_of (Err e) = e
 
 abbrev pub RowGives : RecordType → ℕ → Result (Unit {0}) DecodeError → Reading → Reading → Type 0
 RowGives t n own old new = SkipsRow (parts_of (table t)) n own old new
 
-pub row_own : (t : RecordType) (n : ℕ) (old new : Reading) (own : Result (Unit {0}) DecodeError) → (IsNeverRead t → ⊥) → old.index ≤ length old.message
-    → RowGives t n own old new → OwnResult t n old new own
-row_own t n old new (Ok x) read inside s = record {
-  values = s.fields.values;
-  took = record { message = s.behind.message; stands = s.fields.stands };
-  holds = meets_rule (table t) s.fields.values read s.fields.meets;
-  reached = row_reached (parts_of (table t)) n s.fields.values old new s.reached;
-}
-row_own t n old new (Err e) read inside s = unless_all e (rejected t read n old e new inside s.error)
+-- the row's own result is that of the type
+pub row_own : (t : RecordType) (n : ℕ) (old new : Reading) (own : Result (Unit {0}) DecodeError) → (IsNeverRead t → ⊥) → RowGives t n own old new
+    → OwnResult t n old new own
+row_own t n old new (Ok x) read s = (read, s)
+row_own t n old new (Err (decode.UnknownRecordTypeValue k)) read s =
+    absurd ((row_known (parts_of (table t)) n old (decode.UnknownRecordTypeValue k) new s.error).1 k refl)
+row_own t n old new (Err e) read s = (read, s)
 
-stopped : (t : RecordType) (n : ℕ) (old new : Reading) (own : Result (Unit {0}) DecodeError) → (IsNeverRead t → ⊥) → old.index ≤ length old.message
-    → RowGives t n own old new → Stopped t n old new
-stopped t n old new own read inside s = record { own = own; is_own = row_own t n old new own read inside s; some = some own s; read = read } where
-  some : (own : Result (Unit {0}) DecodeError) → RowGives t n own old new → own ≢ Err decode.Memory
-  some (Ok x) s q = cc q
-  some (Err e) s q = (row_known (parts_of (table t)) n old e new s.error).0 (ap error_of q)
+error_read : (t : RecordType) (n : ℕ) (old new : Reading) (e : DecodeError) → (IsNeverRead t → ⊥) → IsRowError (parts_of (table t)) n old e new → Known e
+    → IsReadError t n old new e
+error_read t n old new decode.Memory read h k = absurd (k.0 refl)
+error_read t n old new (decode.UnknownRecordTypeValue j) read h k = absurd (k.1 j refl)
+error_read t n old new e read h k = (read, h)
 
-error_read : (t : RecordType) (n : ℕ) (old new : Reading) (e : DecodeError) → new.index ≡ old.index + n → OwnError t n old new e → Known e → IsReadError t n old new e
-error_read t n old new decode.Memory i own k = absurd (k.0 refl)
-error_read t n old new (decode.UnknownRecordTypeValue j) i own k = absurd (k.1 j refl)
-error_read t n old new (decode.IncorrectRDataLengthRead a b) i own k = inr (i, own)
-error_read t n old new e i own k = (i, own)
-
-pub row_why : (t : RecordType) (n : ℕ) (old new : Reading) (e : DecodeError) → (IsNeverRead t → ⊥) → old.index ≤ length old.message
-    → IsRowError (parts_of (table t)) n old e new → IsReadError t n old new e × (e ≢ decode.Memory)
-row_why t n old new e read inside (inl (ne, is, s)) =
-    subst (λ (x : DecodeError). IsReadError t n old new x × (x ≢ decode.Memory)) (sym is)
-    (inl (ne, refl, refl, stopped t n old new s.own read inside s.is_own), (λ m. cc m))
-row_why t n old new e read inside (inr (i, h)) =
-    let k = row_known (parts_of (table t)) n old e new h in
-    (error_read t n old new e i (rejected t read n old e new inside h) k, k.0)
+-- the row's error is that of the type
+pub row_why : (t : RecordType) (n : ℕ) (old new : Reading) (e : DecodeError) → (IsNeverRead t → ⊥) → IsRowError (parts_of (table t)) n old e new
+    → IsReadError t n old new e × (e ≢ decode.Memory)
+row_why t n old new e read h = let k = error_known (parts_of (table t)) n old e new h in (error_read t n old new e read h k, k.0)
 
 pub row_none : (m : List ℕ) (p n : ℕ) (t : RecordType) → NoFill m p n (parts_of (table t)) → NoValue m p n t
 row_none m p n t w = record {
@@ -340,8 +133,8 @@ view_none t n old d parts same is w = row_none old.message old.index n t
     (subst (λ (x : List Part). NoFill old.message old.index n x) is (subst (λ (x : Reading). NoFill x.message x.index n parts) same w))
 
 pub view_why : (t : RecordType) (n : ℕ) (old d walk new : Reading) (e : DecodeError) (parts : List Part) → d ≡ old → parts ≡ parts_of (table t)
-    → (IsNeverRead t → ⊥) → old.index ≤ length old.message → new ≡ walk → IsRowError parts n d e walk → IsReadError t n old new e × (e ≢ decode.Memory)
-view_why t n old d walk new e parts same is read inside at w = row_why t n old new e read inside
+    → (IsNeverRead t → ⊥) → new ≡ walk → IsRowError parts n d e walk → IsReadError t n old new e × (e ≢ decode.Memory)
+view_why t n old d walk new e parts same is read at w = row_why t n old new e read
     (subst (λ (x : Reading). IsRowError (parts_of (table t)) n old e x) (sym at)
     (subst (λ (x : List Part). IsRowError x n old e walk) is (subst (λ (x : Reading). IsRowError parts n x e walk) same w)))
 

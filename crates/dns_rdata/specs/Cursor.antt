@@ -7,15 +7,15 @@ use Rattle.dns_fields.specs.Fields.{all_emittable}
 use Rattle.dns_rdata_base.specs as base
 use Rattle.dns_rdata_options.specs as options
 use Rattle.dns_rdata_service.specs as service
-use Rattle.dns_rdata_caa_csync.specs as caa_csync
+use Rattle.dns_rdata_policy.specs as policy
 use Rattle.dns_rdata.specs.{Data.fields_of, declared.record_data.RData.RData}
 use Rattle.dns_rdata.specs.declared.record_data.RData.TheVariants as rdata
 
 -- The canonical octets that are left of a value at each position. A record whose strings have no step of their own goes
 -- on field by field.
 abbrev pub data_left : RData → LeftAt
-data_left (rdata.CAA x) = field_steps caa_csync.Steps.caa_begins caa_csync.CAA.caa_shape (caa_csync.CAA.caa_fields x)
-data_left (rdata.CSYNC x) = caa_csync.Steps.csync_left x
+data_left (rdata.CAA x) = field_steps policy.Steps.caa_begins policy.CAA.caa_shape (policy.CAA.caa_fields x)
+data_left (rdata.CSYNC x) = policy.Steps.csync_left x
 data_left (rdata.HINFO x) = field_steps base.Steps.hinfo_begins base.HINFO.hinfo_shape (base.HINFO.hinfo_fields x)
 data_left (rdata.HTTPS x) = service.Steps.svcb_left x.0
 data_left (rdata.NAPTR x) = field_steps base.Steps.naptr_begins base.NAPTR.naptr_shape (base.NAPTR.naptr_fields x)
@@ -33,7 +33,7 @@ can_emit v = all_emittable (fields_of v).kinds (fields_of v).values
 
 -- how many bitmap windows of a set of types are not begun
 abbrev pub data_windows : RData → ℕ → ℕ → ℕ
-data_windows (rdata.CSYNC x) = caa_csync.Steps.csync_windows x
+data_windows (rdata.CSYNC x) = policy.Steps.csync_windows x
 data_windows v = λ n i. 0
 
 -- how many options there are, and how many are not begun
@@ -53,7 +53,7 @@ IsUncounted v = Unit {0}
 
 -- a position that a cursor reaches, of a value that can be emitted
 abbrev pub DataAt : RData → ℕ → ℕ → ℕ → Type 0
-DataAt (rdata.CAA x) n i j = AllShort caa_csync.CAA.caa_shape (caa_csync.CAA.caa_fields x)
+DataAt (rdata.CAA x) n i j = AllShort policy.CAA.caa_shape (policy.CAA.caa_fields x)
 DataAt (rdata.HINFO x) n i j = AllShort base.HINFO.hinfo_shape (base.HINFO.hinfo_fields x)
 DataAt (rdata.HTTPS x) n i j = service.Steps.AreEmittable x.0.svc_params
 DataAt (rdata.NAPTR x) n i j = AllShort base.NAPTR.naptr_shape (base.NAPTR.naptr_fields x)

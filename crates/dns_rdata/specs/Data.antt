@@ -13,7 +13,7 @@ use Rattle.dns_rdata_base.specs as base
 use Rattle.dns_rdata_certs.specs as certs
 use Rattle.dns_rdata_options.specs as options
 use Rattle.dns_rdata_service.specs as service
-use Rattle.dns_rdata_caa_csync.specs as caa_csync
+use Rattle.dns_rdata_policy.specs as policy
 use Rattle.dns_rdata.specs.declared.record_data.RData.{RData}
 use Rattle.dns_rdata.specs.declared.record_data.RData.TheVariants as rdata
 
@@ -66,10 +66,10 @@ abbrev pub fields_of : RData → FieldsOf
 fields_of (rdata.A x) = by_row rows.A (base.A.a_fields x)
 fields_of (rdata.AAAA x) = by_row rows.AAAA (base.AAAA.aaaa_fields x)
 fields_of (rdata.ANAME x) = by_row rows.NAME (base.NameRecords.name_fields x.0)
-fields_of (rdata.CAA x) = by_row rows.CAA (caa_csync.CAA.caa_fields x)
+fields_of (rdata.CAA x) = by_row rows.CAA (policy.CAA.caa_fields x)
 fields_of (rdata.CERT x) = by_row rows.CERT (certs.CERT.cert_fields x)
 fields_of (rdata.CNAME x) = by_row rows.NAME (base.NameRecords.name_fields x.0)
-fields_of (rdata.CSYNC x) = by_row rows.CSYNC (caa_csync.CSYNC.csync_fields x)
+fields_of (rdata.CSYNC x) = by_row rows.CSYNC (policy.CSYNC.csync_fields x)
 fields_of (rdata.HINFO x) = by_row rows.HINFO (base.HINFO.hinfo_fields x)
 fields_of (rdata.HTTPS x) = by_row rows.SVCB (service.SVCB.svcb_fields x.0)
 fields_of (rdata.MX x) = by_row rows.MX (base.NameRecords.mx_fields x)
@@ -129,8 +129,8 @@ CanBeRead (rdata.SMIMEA x) = certs.TLSA.IsReadTlsa x.0
 CanBeRead (rdata.SSHFP x) = certs.SSHFP.IsReadSshfp x
 CanBeRead (rdata.TLSA x) = certs.TLSA.IsReadTlsa x
 CanBeRead (rdata.SOA x) = base.SOA.HasSeconds x
-CanBeRead (rdata.CAA x) = caa_csync.CAA.IsReadCaa x
-CanBeRead (rdata.CSYNC x) = caa_csync.CSYNC.IsReadCsync x
+CanBeRead (rdata.CAA x) = policy.CAA.IsReadCaa x
+CanBeRead (rdata.CSYNC x) = policy.CSYNC.IsReadCsync x
 CanBeRead (rdata.OPT x) = options.OPT.IsReadOpt x
 CanBeRead (rdata.HTTPS x) = service.SVCB.IsReadSvcb x.0
 CanBeRead (rdata.SVCB x) = service.SVCB.IsReadSvcb x
@@ -190,16 +190,3 @@ unfoldable pub EmitsData : RDataEncoding → RData → Result (Unit {0}) ProtoEr
 EmitsData mode v r old new = EmitsAs mode (fields_of v).kinds (fields_of v).values r old new
 
 -- ---- what a reader returns that may stop elsewhere than at the end of the region
-
-pub record TookData (old : Reading) (t : RecordType) (n : ℕ) (v : RData) (new : Reading) : Type 0 where
-  pub behind : StaysBehind old new
-  pub here : new.index ≡ old.index + n → Fills old.message old.index n t v
-  pub elsewhere : new.index ≢ old.index + n → NoRegion old.message old.index n (shape t) (MeetsCondition t)
-
-pub record RefusedData (e : DecodeError) (old : Reading) (t : RecordType) (n : ℕ) (new : Reading) : Type 0 where
-  pub behind : StaysBehind old new
-  pub none : UnlessMemory e (NoRegion old.message old.index n (shape t) (MeetsCondition t))
-
-abbrev pub ReadsData : RecordType → ℕ → Result RData DecodeError → Reading → Reading → Type 0
-ReadsData t n (Ok v) old new = TookData old t n v new
-ReadsData t n (Err e) old new = RefusedData e old t n new

@@ -5,14 +5,14 @@ use Rattle.dns_types.specs.{declared.record_type.RecordType.RecordType, declared
 use Rattle.dns_types.specs.declared.record_type.RecordType.TheVariants as types
 use Rattle.dns_types.specs.declared.error.ParseError.TheVariants as parse
 use Rattle.dns_fields.specs.{Labels.DomainName, declared.Kind.Kind, Fields.Values}
-use Rattle.dns_text.specs.TextWords.{TextWords, NoTextWords}
+use Rattle.dns_tokens.specs.TextWords.{TextWords, NoTextWords}
 use Rattle.dns_tokens.specs.{Taking.HoldsOfTokens, Reads.UnlessParseMemory, Printed.cut, Printed.IsPrintedName, Straight.straight_tokens, Straight.ArePrinted}
 use Rattle.dns_tokens.specs.Forms.{TokenRow, token, number, name, ignored}
 use Rattle.dns_rdata_service.specs.declared.svcb.SVCB.{SVCB}
 use Rattle.dns_rdata_base.specs as base
 use Rattle.dns_rdata_certs.specs as certs
 use Rattle.dns_rdata_service.specs as service
-use Rattle.dns_rdata_caa_csync.specs as caa_csync
+use Rattle.dns_rdata_policy.specs as policy
 use Rattle.dns_rows.specs.Table.{TypeRow, fields, formatless, unread, table, kinds_of}
 use Rattle.dns_rdata.specs.{declared.record_data.RData.RData, Data.parts_of, Data.shape, Data.IsValue, Data.type_of, Texts.text_of}
 use Rattle.dns_rdata.specs.declared.record_data.RData.TheVariants as rdata
@@ -48,9 +48,9 @@ row_reading origin unread = refused
 abbrev pub reading_of : Option DomainName → (t : RecordType) → TokenReading (shape t)
 reading_of origin types.A = by base.A.a_tokens
 reading_of origin types.AAAA = by base.AAAA.aaaa_tokens
-reading_of origin types.CAA = by caa_csync.TokenRows.caa_tokens
+reading_of origin types.CAA = by policy.TokenRows.caa_tokens
 reading_of origin types.CERT = by certs.TokenRows.cert_tokens
-reading_of origin types.CSYNC = by caa_csync.TokenRows.csync_tokens
+reading_of origin types.CSYNC = by policy.TokenRows.csync_tokens
 reading_of origin types.HINFO = by base.HINFO.hinfo_tokens
 reading_of origin types.HTTPS = own HasHttpsTokens
 reading_of origin types.NAPTR = by (base.NAPTR.naptr_tokens origin)

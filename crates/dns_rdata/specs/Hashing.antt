@@ -9,7 +9,7 @@ use Rattle.dns_rdata_base.specs.contracts as base
 use Rattle.dns_rdata_certs.specs.contracts as certs
 use Rattle.dns_rdata_options.specs.contracts as options
 use Rattle.dns_rdata_service.specs.contracts as service
-use Rattle.dns_rdata_caa_csync.specs.contracts as caa_csync
+use Rattle.dns_rdata_policy.specs.contracts as policy
 use Rattle.dns_rdata.specs.{declared.record_data.RData.RData, Data.type_of, Keys.variant_keys}
 use Rattle.dns_rdata.specs.Equal.{equal, record_type_eq, types_equal}
 use Rattle.dns_rdata.specs.declared.record_data.RData.TheVariants as rdata
@@ -19,10 +19,10 @@ abbrev pub record_fed : RData → HashWrites
 record_fed (rdata.A x) = base.a.AHash.TheImpl.ghosts.hash_input x
 record_fed (rdata.AAAA x) = base.aaaa.AAAAHash.TheImpl.ghosts.hash_input x
 record_fed (rdata.ANAME x) = base.name.ANAMEHash.TheImpl.ghosts.hash_input x
-record_fed (rdata.CAA x) = caa_csync.caa.CAAHash.TheImpl.ghosts.hash_input x
+record_fed (rdata.CAA x) = policy.caa.CAAHash.TheImpl.ghosts.hash_input x
 record_fed (rdata.CERT x) = certs.cert.CERTHash.TheImpl.ghosts.hash_input x
 record_fed (rdata.CNAME x) = base.name.CNAMEHash.TheImpl.ghosts.hash_input x
-record_fed (rdata.CSYNC x) = caa_csync.csync.CSYNCHash.TheImpl.ghosts.hash_input x
+record_fed (rdata.CSYNC x) = policy.csync.CSYNCHash.TheImpl.ghosts.hash_input x
 record_fed (rdata.HINFO x) = base.hinfo.HINFOHash.TheImpl.ghosts.hash_input x
 record_fed (rdata.HTTPS x) = service.https.HTTPSHash.TheImpl.ghosts.hash_input x
 record_fed (rdata.MX x) = base.mx.MXHash.TheImpl.ghosts.hash_input x
@@ -55,13 +55,13 @@ record_fed_same (rdata.A x) (rdata.A y) h = base.a.AHash.TheImpl.Laws.respects_e
 record_fed_same (rdata.AAAA x) (rdata.AAAA y) h = base.aaaa.AAAAHash.TheImpl.Laws.respects_eq-law x y (alone _ h)
 record_fed_same (rdata.ANAME x) (rdata.ANAME y) h =
     base.name.ANAMEHash.TheImpl.Laws.respects_eq-law x y (simp and-true at h)
-record_fed_same (rdata.CAA x) (rdata.CAA y) h = caa_csync.caa.CAAHash.TheImpl.Laws.respects_eq-law x y (alone _ h)
+record_fed_same (rdata.CAA x) (rdata.CAA y) h = policy.caa.CAAHash.TheImpl.Laws.respects_eq-law x y (alone _ h)
 record_fed_same (rdata.CERT x) (rdata.CERT y) h =
     certs.cert.CERTHash.TheImpl.Laws.respects_eq-law x y (simp and_assoc (simp (and_assoc, and-true) at h))
 record_fed_same (rdata.CNAME x) (rdata.CNAME y) h =
     base.name.CNAMEHash.TheImpl.Laws.respects_eq-law x y (simp and-true at h)
 record_fed_same (rdata.CSYNC x) (rdata.CSYNC y) h =
-    caa_csync.csync.CSYNCHash.TheImpl.Laws.respects_eq-law x y (grind (arith, h))
+    policy.csync.CSYNCHash.TheImpl.Laws.respects_eq-law x y (grind (arith, h))
 record_fed_same (rdata.HINFO x) (rdata.HINFO y) h =
     base.hinfo.HINFOHash.TheImpl.Laws.respects_eq-law x y (simp and-true at h)
 record_fed_same (rdata.HTTPS x) (rdata.HTTPS y) h = service.https.HTTPSHash.TheImpl.Laws.respects_eq-law x y (alone _ h)

@@ -7,7 +7,7 @@ use Rattle.dns_rdata_options.specs.OPT.{Pair}
 use Rattle.dns_rdata_base.specs as base
 use Rattle.dns_rdata_certs.specs as certs
 use Rattle.dns_rdata_service.specs as service
-use Rattle.dns_rdata_caa_csync.specs as caa_csync
+use Rattle.dns_rdata_policy.specs as policy
 use Rattle.dns_rdata.specs.declared.record_data.RData.{RData}
 use Rattle.dns_rdata.specs.declared.record_data.RData.TheVariants as rdata
 
@@ -40,10 +40,10 @@ variant_keys =
     fields (kinds_of rows.MX) (elim [ rdata.MX x ↦ Some (base.NameRecords.mx_fields x) | v ↦ None ]) ∷
     fields service.SVCB.svcb_key_shape (elim [ rdata.HTTPS x ↦ Some (service.SVCB.svcb_keys x.0) | v ↦ None ]) ∷
     fields (kinds_of rows.HINFO) (elim [ rdata.HINFO x ↦ Some (base.HINFO.hinfo_fields x) | v ↦ None ]) ∷
-    fields caa_csync.CSYNC.csync_key_shape (elim [ rdata.CSYNC x ↦ Some (caa_csync.CSYNC.csync_keys x) | v ↦ None ]) ∷
+    fields policy.CSYNC.csync_key_shape (elim [ rdata.CSYNC x ↦ Some (policy.CSYNC.csync_keys x) | v ↦ None ]) ∷
     fields (kinds_of rows.NAME) (elim [ rdata.CNAME x ↦ Some (base.NameRecords.name_fields x.0) | v ↦ None ]) ∷
     fields certs.CERT.cert_key_shape (elim [ rdata.CERT x ↦ Some (certs.CERT.cert_keys x) | v ↦ None ]) ∷
-    fields caa_csync.CAA.caa_key_shape (elim [ rdata.CAA x ↦ Some (caa_csync.CAA.caa_keys x) | v ↦ None ]) ∷
+    fields policy.CAA.caa_key_shape (elim [ rdata.CAA x ↦ Some (policy.CAA.caa_keys x) | v ↦ None ]) ∷
     fields (kinds_of rows.NAME) (elim [ rdata.ANAME x ↦ Some (base.NameRecords.name_fields x.0) | v ↦ None ]) ∷
     fields (kinds_of rows.AAAA) (elim [ rdata.AAAA x ↦ Some (base.AAAA.aaaa_fields x) | v ↦ None ]) ∷
     fields (kinds_of rows.A) (elim [ rdata.A x ↦ Some (base.A.a_fields x) | v ↦ None ]) ∷ []

@@ -9,6 +9,7 @@ pub mod QuickOrders
 pub mod Order
 pub mod Ties
 pub mod ReadErrors
+pub mod ReadFailures
 pub mod Texts
 pub mod WholeOctets
 pub mod Steps
@@ -40,9 +41,9 @@ pub use Rattle.dns_rdata_certs.specs.SSHFP
 pub use Rattle.dns_rdata_certs.specs.TLSA
 pub use Rattle.dns_rdata_base.specs.TXT
 pub use Rattle.dns_rdata_options.specs.OPT
-pub use Rattle.dns_rdata_caa_csync.specs.CAA
-pub use Rattle.dns_rdata_caa_csync.specs.CSYNC
-pub use Rattle.dns_rdata_caa_csync.specs.RecordTypeSet
+pub use Rattle.dns_rdata_policy.specs.CAA
+pub use Rattle.dns_rdata_policy.specs.CSYNC
+pub use Rattle.dns_rdata_policy.specs.RecordTypeSet
 pub use Rattle.dns_rdata_service.specs.SvcParamKey
 pub use Rattle.dns_rdata_service.specs.SvcParamValue
 pub use Rattle.dns_rdata_service.specs.Parameters

@@ -4,7 +4,7 @@ use Rattle.dns_tokens.specs.Straight.{field_texts, spaced}
 use Rattle.dns_rdata_base.specs as base
 use Rattle.dns_rdata_certs.specs as certs
 use Rattle.dns_rdata_service.specs as service
-use Rattle.dns_rdata_caa_csync.specs as caa_csync
+use Rattle.dns_rdata_policy.specs as policy
 use Rattle.dns_rdata.specs.{declared.record_data.RData.RData, Data.fields_of}
 use Rattle.dns_rdata.specs.declared.record_data.RData.TheVariants as rdata
 
@@ -12,9 +12,9 @@ use Rattle.dns_rdata.specs.declared.record_data.RData.TheVariants as rdata
 abbrev pub text_of : RData → List ℕ
 text_of (rdata.A x) = base.A.a_text x
 text_of (rdata.AAAA x) = base.AAAA.aaaa_text x
-text_of (rdata.CAA x) = caa_csync.CAA.caa_text x
+text_of (rdata.CAA x) = policy.CAA.caa_text x
 text_of (rdata.CERT x) = certs.CERT.cert_text x
-text_of (rdata.CSYNC x) = caa_csync.CSYNC.csync_text x
+text_of (rdata.CSYNC x) = policy.CSYNC.csync_text x
 text_of (rdata.HINFO x) = base.HINFO.hinfo_text x
 text_of (rdata.HTTPS x) = service.SVCB.svcb_text x.0
 text_of (rdata.NAPTR x) = base.NAPTR.naptr_text x

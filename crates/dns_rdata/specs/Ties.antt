@@ -13,12 +13,12 @@ use Rattle.dns_rdata_options.specs.{Order.opt_eq, Order.opt_cmp, OrderLaws.opt_t
 use Rattle.dns_rdata_options.proofs.Values.{opt_permutes}
 use Rattle.dns_rdata_service.specs.declared.svcb.SVCB.{SVCB}
 use Rattle.dns_rdata_service.proofs.OwnValues.{own_fields}
-use Rattle.dns_rdata_caa_csync.specs.CAA.{critical_number}
+use Rattle.dns_rdata_policy.specs.CAA.{critical_number}
 use Rattle.dns_rdata_base.specs as base
 use Rattle.dns_rdata_certs.specs as certs
 use Rattle.dns_rdata_options.specs as options
 use Rattle.dns_rdata_service.specs as service
-use Rattle.dns_rdata_caa_csync.specs as caa_csync
+use Rattle.dns_rdata_policy.specs as policy
 use Rattle.dns_rdata.specs.{declared.record_data.RData.RData, Data.type_of, Data.octets_of, Data.data_octets, Keys.VariantKey, Keys.variant_keys}
 use Rattle.dns_rdata.specs.Equal.{equal, record_type_eq, variant_key_eq, keys_eq, types_equal}
 use Rattle.dns_rdata.specs.Order.{record_type_cmp, variant_key_cmp, keys_cmp, rdata_cmp}
@@ -64,8 +64,8 @@ same_octets (rdata.AAAA x) (rdata.AAAA y) h =
 same_octets (rdata.ANAME x) (rdata.ANAME y) h =
     octets_equal base.NameRecords.name_shape (base.NameRecords.aname_fields x) (base.NameRecords.aname_fields y) h
 same_octets (rdata.CAA x) (rdata.CAA y) h =
-    let s = same_keys caa_csync.CAA.caa_key_shape (caa_csync.CAA.caa_keys x) (caa_csync.CAA.caa_keys y) h in
-    octets_same caa_csync.CAA.caa_shape (caa_csync.CAA.caa_fields x) (caa_csync.CAA.caa_fields y) (
+    let s = same_keys policy.CAA.caa_key_shape (policy.CAA.caa_keys x) (policy.CAA.caa_keys y) h in
+    octets_same policy.CAA.caa_shape (policy.CAA.caa_fields x) (policy.CAA.caa_fields y) (
       record {
         is = λ i. s.1.0.is i % 128
             + (if critical_same x.issuer_critical y.issuer_critical s.0.is i then 128 else 0);
@@ -79,8 +79,8 @@ same_octets (rdata.CERT x) (rdata.CERT y) h =
 same_octets (rdata.CNAME x) (rdata.CNAME y) h =
     octets_equal base.NameRecords.name_shape (base.NameRecords.cname_fields x) (base.NameRecords.cname_fields y) h
 same_octets (rdata.CSYNC x) (rdata.CSYNC y) h =
-    let s = same_keys caa_csync.CSYNC.csync_key_shape (caa_csync.CSYNC.csync_keys x) (caa_csync.CSYNC.csync_keys y) h in
-    octets_same caa_csync.CSYNC.csync_shape (caa_csync.CSYNC.csync_fields x) (caa_csync.CSYNC.csync_fields y)
+    let s = same_keys policy.CSYNC.csync_key_shape (policy.CSYNC.csync_keys x) (policy.CSYNC.csync_keys y) h in
+    octets_same policy.CSYNC.csync_shape (policy.CSYNC.csync_fields x) (policy.CSYNC.csync_fields y)
     (s.0, (record { is = λ i. s.1.1.1.0.is i / 4 * 4 + 2 * s.1.1.0.is i + s.1.0.is i }, (s.1.1.1.1.0, tt)))
 same_octets (rdata.HINFO x) (rdata.HINFO y) h =
     octets_equal base.HINFO.hinfo_shape (base.HINFO.hinfo_fields x) (base.HINFO.hinfo_fields y) h

@@ -1,7 +1,7 @@
 -- The fields and the names that a view lends, one after the other.
 use Rattle.std.specs.Prelude.{◌≡◌, ℕ, ◌+◌, ◌≤◌, List, length, Option, Some, slice_get, MatchOption}
 use Rattle.dns_types.specs.declared.record_type.RecordType.{RecordType}
-use Rattle.dns_view.specs.{declared.field.FieldRef.FieldRef, declared.name_ref.NameRef.NameRef}
+use Rattle.dns_view.specs.declared.{row.field.FieldRef.FieldRef, name.name_ref.NameRef.NameRef}
 use Rattle.dns_view.specs.{Shown.ShowsAt, NameFields.names_in, NameFields.ShowsNameAt}
 use Rattle.dns_rdata.specs.{declared.record_data.RData.RData, Data.Fills, Data.fields_of, Views.IsViewOf}
 use Rattle.dns_rdata.specs.declared.view_fields.{Fields.Fields, Names.Names}

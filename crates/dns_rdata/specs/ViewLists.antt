@@ -8,7 +8,7 @@ use Rattle.dns_fields.specs.Bitmaps.{Block, block, IsBlock}
 use Rattle.dns_view.specs.TypeList.{block_types}
 use Rattle.dns_rdata_base.specs as base
 use Rattle.dns_rdata_options.specs as options
-use Rattle.dns_rdata_caa_csync.specs as caa_csync
+use Rattle.dns_rdata_policy.specs as policy
 use Rattle.dns_rdata_service.specs as service
 use Rattle.dns_rdata.specs.declared.record_data.RData.{RData}
 use Rattle.dns_rdata.specs.declared.record_data.RData.TheVariants as rdata
@@ -31,7 +31,7 @@ parameters_in v = []
 
 -- the types of CSYNC; other values have none
 abbrev pub types_in : RData → List ℕ
-types_in (rdata.CSYNC x) = (caa_csync.CSYNC.csync_fields x).1.1.0
+types_in (rdata.CSYNC x) = (policy.CSYNC.csync_fields x).1.1.0
 types_in v = []
 
 -- In the message, the n octets from p are CSYNC RDATA whose bitmap has these windows: after the serial, four octets,

@@ -17,8 +17,8 @@ use Rattle.dns_types.specs.contracts.record_type.RecordTypeHash.TheImpl.Laws as 
 use Rattle.dns_fields.specs.{Fields.canonical, Laws.IsShape}
 use Rattle.dns_fields.proofs.Laws.{stands_same}
 use Rattle.dns_rows.specs.{declared.row.Part.Part, Table.kinds_of}
-use Rattle.dns_view.specs.{Checks.FillsRow, Rows.HasRow, Rows.IsRow, Rows.is_row}
-use Rattle.dns_view.proofs.RowTests.{row_tested}
+use Rattle.dns_check.specs.{Checks.FillsRow, Rows.HasRow, Rows.IsRow, Rows.is_row}
+use Rattle.dns_check.proofs.RowTests.{row_tested}
 use Rattle.dns_rdata.specs.{Equal.record_type_eq, Order.record_type_cmp, declared.view.RDataRef.RDataRef}
 
 -- ---- the canonical octets of what a view shows

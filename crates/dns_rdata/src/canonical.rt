@@ -14,9 +14,9 @@ use dns_rdata_base::{
     hinfo_is_emittable, hinfo_step, name_step, naptr_is_emittable, naptr_step, soa_step,
     txt_is_emittable, txt_step,
 };
-use dns_rdata_caa_csync::{caa_is_emittable, caa_step, csync_step};
 use dns_rdata_options::heads::Heads;
 use dns_rdata_options::steps::{opt_is_emittable, opt_step_kept};
+use dns_rdata_policy::{caa_is_emittable, caa_step, csync_step};
 use dns_rdata_service::steps::{https_step, svcb_is_emittable, svcb_step};
 
 // For the proof: the step of a record is the step of the value that holds it.

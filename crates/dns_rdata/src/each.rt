@@ -38,8 +38,8 @@ macro_rules! equal_each {
     };
 }
 
-// Matches the type: first the given arms, then one for each record, which reads the RDATA, compares the number of
-// octets that were read with RDLENGTH, and returns.
+// Matches the type: first the given arms, then one for each record, which reads the RDATA and returns the value, if that
+// took RDLENGTH octets, and else the error.
 macro_rules! read_each {
     (
         ($record_type:expr, $decoder:ident, $start:ident, $length:ident, $($pattern:pat => $other:expr),+; $code:ident => $last:expr)
@@ -49,7 +49,13 @@ macro_rules! read_each {
             $($pattern => $other,)+
             $(RecordType::$record => {
                 let data = $record::read_data($decoder, $length);
-                return Ok(RData::$record(by_length(data, $decoder, $start, $length)?));
+                return Ok(RData::$record(of_length(
+                    data,
+                    $decoder,
+                    $start,
+                    RecordType::$record,
+                    $length,
+                )?));
             })+
             $code => $last,
         }

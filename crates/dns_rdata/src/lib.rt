@@ -4,6 +4,7 @@
 pub mod canonical;
 mod each;
 pub mod order;
+mod reading;
 pub mod record_data;
 mod tokens;
 pub mod traits;
@@ -21,12 +22,11 @@ pub use dns_rdata_base::{
     A, AAAA, ANAME, CNAME, HINFO, MX, NAPTR, NS, NULL, OPENPGPKEY, PTR, RecordDataDecodable, SOA,
     SRV, TXT, TakesOctet, a, aaaa, mx, null, openpgpkey, srv, verify_flags,
 };
-pub use dns_rdata_caa_csync::{CAA, CSYNC, RecordTypeSet, record_type_set};
 pub use dns_rdata_certs::{CERT, HEX, SMIMEA, SSHFP, TLSA, cert, smimea, sshfp, tlsa};
 pub use dns_rdata_options::{OPT, opt};
+pub use dns_rdata_policy::{CAA, CSYNC, RecordTypeSet, record_type_set};
 pub use dns_rdata_service::{HTTPS, Items, SVCB, https, items, svcb};
-pub use dns_text::{Lexer, Token};
-pub use dns_tokens::{FromTokens, TokenList};
+pub use dns_tokens::{FromTokens, Lexer, Token, TokenList};
 pub use dns_types::Strings;
 pub use dns_view::{FieldRef, Labels, NameRef, StringsRef, Tlv, Tlvs, TypesRef};
 pub use record_data::RData;
@@ -38,12 +38,12 @@ pub use view_fields::{Fields, Names};
 
 /// CAA and the values of its properties.
 pub mod caa {
-    pub use dns_rdata_caa_csync::caa::{CAA, KeyValue, read_iodef, read_issuer};
+    pub use dns_rdata_policy::caa::{CAA, KeyValue, read_iodef, read_issuer};
 }
 
 /// CSYNC.
 pub mod csync {
-    pub use dns_rdata_caa_csync::CSYNC;
+    pub use dns_rdata_policy::CSYNC;
 }
 
 /// HINFO.

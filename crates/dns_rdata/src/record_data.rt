@@ -14,6 +14,7 @@ ghost use Rattle.dns_rdata.specs.{Laws.TellsApart, Laws.address_of, Laws.target_
 ghost use Rattle.dns_rdata.specs.declared.record_data.RData.TheVariants as rdata;
 
 use crate::each::{clone_each, each, equal_each, read_each, with_records};
+use crate::reading::of_length;
 use crate::traits::RecordData;
 use crate::view::RDataRef;
 use crate::{
@@ -24,7 +25,6 @@ use dns_names_wire::{
     BinDecoder, BinEncodable, BinEncoder, DecodeError, EncodesFields, Name, ProtoError,
     RDataEncoding, RecordDataDecodable, RecordType, Restrict, emit_in,
 };
-use dns_rdata_base::counted::by_length;
 use dns_rdata_base::ordered::is_equal;
 use std::alloc::AllocError;
 use std::fmt;
@@ -177,7 +177,8 @@ impl RData {
     /// }
     /// ```
     // Each arm compares the number of octets with RDLENGTH and returns by itself. If all arms met in one statement, or
-    // if another function returned the value, the value would be copied once more.
+    // if another function returned the value, the value would be copied once more. Errors are made by a function of their
+    // own (`read_error`), so that reading a value keeps nothing for them.
     #[inline(never)]
     pub fn read(
         decoder: &mut BinDecoder<'_>,
@@ -190,6 +191,7 @@ impl RData {
         ensures kind { IfOk result (λ v. type_of v ≡ record_type) }
         // After an error other than `Memory`, no value fills the region.
         ensures refused { IfErr result (λ e. UnlessMemory e (NoValue decoder.old.message decoder.old.index length record_type)) }
+        // Which error it is, by the row of the type, and where the decoder is then.
         ensures why { IfErr result (IsReadError record_type length decoder.old decoder.new) }
         ensures never { IsNeverRead record_type → (decoder.new ≡ decoder.old)
             × (result ≡ Err (DecodeError.UnknownRecordTypeValue (number_of record_type))) }
@@ -201,13 +203,13 @@ impl RData {
     {
         let start = decoder.index();
         read_each!(record_type, decoder, start, length,
-            RecordType::ZERO => return by_length(Ok(RData::ZERO), decoder, start, length),
+            RecordType::ZERO => return of_length(Ok(RData::ZERO), decoder, start, record_type, length),
             RecordType::ANY | RecordType::AXFR | RecordType::IXFR => {
                 return Err(DecodeError::UnknownRecordTypeValue(record_type.into()));
             };
             code => {
                 let data = NULL::read_data(decoder, length);
-                let rdata = by_length(data, decoder, start, length)?;
+                let rdata = of_length(data, decoder, start, code, length)?;
                 return Ok(RData::Unknown { code, rdata });
             }
         )

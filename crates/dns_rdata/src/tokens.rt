@@ -4,7 +4,7 @@ ghost use Rattle.std.specs.Prelude.{◌≡◌, ◌⊎◌, None, Err, IfOk, IfErr
 ghost use Rattle.std.specs.{Cow.cow_str_bytes, Iterator.IsFinite, Option.option_copied, Result.result_map_both};
 ghost use Rattle.dns_rdata.specs.Data.{type_of};
 ghost use Rattle.dns_rdata.specs.DataTokens.{AnswersDataTokens, ReadsDataTokens, ReadsDataText, ReadsDataTextAt, AreDataTokens, PrintsBack, HasNoTokens};
-ghost use Rattle.dns_text.specs.TextWords.{NoTextWords};
+ghost use Rattle.dns_tokens.specs.TextWords.{NoTextWords};
 ghost use Rattle.dns_tokens.specs.Reads.{Decides, UnlessParseMemory};
 
 use crate::record_data::RData;
@@ -14,7 +14,7 @@ use crate::{
     SOA, SRV, SSHFP, SVCB, TLSA, TXT,
 };
 use dns_names_wire::{Name, ParseError, RecordType};
-use dns_text::{PlainWords, is_plain, text_words};
+use dns_tokens::{PlainWords, is_plain, text_words};
 use std::alloc::Global;
 use std::convert::AsStr;
 

@@ -4,18 +4,18 @@ ghost use Rattle.std.specs.Prelude.{◌≡◌, ◌≢◌, ◌+◌, ℕ, List, le
 ghost use Rattle.std.specs.{Net.Addr.ipv4_octets, Net.Addr.ipv6_octets, declared.net.ip_addr.IpAddr.TheVariants.V4, declared.net.ip_addr.IpAddr.TheVariants.V6};
 ghost use Rattle.dns_types.specs.RecordTypes.{number_of};
 ghost use Rattle.dns_rows.specs.{Fronts.IsFront, Table.table};
-ghost use Rattle.dns_view.specs.Rows.{is_row};
+ghost use Rattle.dns_check.specs.Rows.{is_row};
 ghost use Rattle.dns_names_wire.specs.Terms.{StaysBehind};
 ghost use Rattle.dns_rdata.specs.{Data.parts_of, Data.Fills, Data.HasValue, Data.NoValue, Data.IsNeverRead, ReadErrors.IsReadError, ReadErrors.OwnResult};
-ghost use Rattle.dns_view.specs.Steps.{Leaves};
+ghost use Rattle.dns_names_wire.specs.Steps.{Leaves};
 ghost use Rattle.dns_rdata.specs.Steps.{RDataSteps};
 
 use crate::record_data::RData;
-use dns_names_wire::{BinDecoder, DecodeError, RecordType, Restrict};
+use dns_check::fields::{is_near, skip_row};
+use dns_names_wire::{BinDecoder, DecodeError, RecordType, Restrict, Walk};
 use dns_rows::row::NULL;
 use dns_rows::{Front, Part, Row, row_of};
-use dns_view::skip::{is_near, skip_row};
-use dns_view::{FieldRef, NameRef, RowView, StringsRef, Tlvs, TypesRef, Walk};
+use dns_view::{FieldRef, NameRef, RowView, StringsRef, Tlvs, TypesRef};
 use std::alloc::{AllocError, Global};
 use std::cmp::Ordering;
 use std::net::{IpAddr, Ipv4Addr, Ipv6Addr};

@@ -70,7 +70,7 @@ impl<'a> Iterator for Names<'a> {
 
 impl<'a> RDataRef<'a> {
     ghost use Rattle.dns_types.specs.declared.record_type.RecordType.{RecordType};
-    ghost use Rattle.dns_view.specs.declared.{field.FieldRef.FieldRef as FieldValue, name_ref.NameRef.NameRef as NameValue};
+    ghost use Rattle.dns_view.specs.declared.{row.field.FieldRef.FieldRef as FieldValue, name.name_ref.NameRef.NameRef as NameValue};
     ghost use Rattle.dns_rdata.specs.{declared.record_data.RData.RData, Data.Fills, Views.IsViewOf};
     ghost use Rattle.dns_rdata.specs.ViewFields.{NextField, NextName, AreFields, AreNames};
 

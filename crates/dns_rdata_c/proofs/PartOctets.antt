@@ -6,7 +6,8 @@ use Rattle.dns_fields.specs.{Octets.At, Labels.AreLabels, Labels.wire, Names.Lab
 use Rattle.dns_fields.specs.Tlvs.{Numbered, tlv, tlvs, IsTlv, AreTlvs, IsTruncated, AllHeld, OptionHeld, OptionValue, ParameterHeld, ParameterValue}
 use Rattle.dns_fields.proofs.Tlvs.{first_tlv, heads_same, no_tlv, tlv_before, length-tlv, truncated_tlv, complete_or_truncated, tlvs_same}
 use Rattle.dns_names_wire.proofs.Strings.{at_then}
-use Rattle.dns_view.{specs.TlvList.NoTlv, proofs.Splits.all_append, proofs.Splits.all_behind, proofs.TlvParts.part_there, proofs.TlvParts.tlvs_more}
+use Rattle.dns_view.specs.TlvList.{NoTlv}
+use Rattle.dns_check.proofs.{Splits.all_append, Splits.all_behind, TlvParts.part_there, TlvParts.tlvs_more}
 use Rattle.dns_view.proofs.TlvSteps.{two, two_of, octets_of, in_front, no_octets}
 use Rattle.dns_types.specs.declared.record_type.RecordType.{RecordType}
 use Rattle.dns_types.specs.declared.record_type.RecordType.TheVariants as types

@@ -7,7 +7,8 @@ use Rattle.std.{specs.declared.cmp.Ordering.Ordering, specs.Prelude.OnOk, specs.
 use Rattle.dns_types.specs.declared.record_type.RecordType.{RecordType}
 use Rattle.dns_types.specs.declared.error.DecodeError.TheVariants as decode
 use Rattle.dns_fields.{specs.Labels.DomainName, specs.Names.IsNameIn, specs.declared.Kind.TheVariants.Name, proofs.Laws.one_end}
-use Rattle.dns_view.{specs.Putting.Put, specs.NameFields.ShowsNameAt, specs.declared.name_ref.NameRef.NameRef, proofs.Puts.put_fits}
+use Rattle.dns_view.specs.{Putting.Put, NameFields.ShowsNameAt, declared.name.name_ref.NameRef.NameRef}
+use Rattle.dns_view.proofs.Puts.{put_fits}
 use Rattle.dns_rdata.specs.{declared.record_data.RData.RData, declared.view.RDataRef.RDataRef, Data.Fills, Data.fields_of, Data.data_octets, Views.IsViewOf, Views.ComparesAs}
 use Rattle.dns_rdata.proofs.{OrderReads.orders_read}
 use Rattle.dns_rdata_c.specs.{Reading.HasData, Buffers.IsPut, Buffers.HoldsFirst, Buffers.IsTooMany, Names.HasName, Calls.HasOrder, Calls.HasEquality, Calls.order_number, Calls.octets_order, Reading.Own, Calls.IsNoOrigin}

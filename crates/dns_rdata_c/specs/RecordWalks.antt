@@ -8,7 +8,7 @@ use Rattle.dns_message.specs.{State.Walking, Headers.IsHeader, Headers.HasHeader
 use Rattle.dns_message.specs.{Records.Record, Records.IsRecord, Records.NoRecord, Records.HasNoData, Items.IsRefusedAt}
 use Rattle.dns_message.specs.{Starts.Begins, Starts.BreaksIn, Starts.NoResume}
 use Rattle.dns_message.specs.{Steps.RecordSteps, Steps.Takes, Steps.Exceeds, declared.error.Fault.Fault}
-use Rattle.dns_view.specs.Steps.{NameSteps}
+use Rattle.dns_names_wire.specs.Steps.{NameSteps}
 use Rattle.dns_rdata_c.specs.declared.records.{RecordsCursor.RecordsCursor, Record.Record as Told}
 use Rattle.dns_rdata_c.specs.Status.{decode_status}
 

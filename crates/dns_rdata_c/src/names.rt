@@ -3,7 +3,8 @@
 ghost use Rattle.std.specs.{Prelude.◌≡◌, Prelude.◌≢◌, Prelude.◌+◌, Prelude.◌<◌, Prelude.◌≤◌, Prelude.◌⊎◌, Prelude.length as size, Str.IsUtf8};
 ghost use Rattle.dns_types.specs.RecordTypes.{record_type_of, number_of, type_text};
 ghost use Rattle.dns_zone_tokens.specs.TypeNames.{IsZoneType};
-ghost use Rattle.dns_view.specs.{NameEnds.NameEnds, NameFields.names_in};
+ghost use Rattle.dns_names_wire.specs.NameEnds.{NameEnds};
+ghost use Rattle.dns_view.specs.NameFields.{names_in};
 ghost use Rattle.dns_rdata.specs.{Data.fields_of, WholeOctets.name_octets};
 ghost use Rattle.dns_rdata_zone.specs.Names.{zone_name};
 ghost use Rattle.dns_rdata_c.specs.{Buffers.IsPut, Buffers.IsTooMany, Buffers.IsTextPut, Buffers.IsTextTooLong, Calls.IsNoOrigin};
@@ -16,9 +17,9 @@ use crate::status::{
     REFUSED, status_of_text,
 };
 use crate::writing::put_text;
+use dns_names_wire::name_ends::skip_name;
 use dns_rdata::{BinDecodable, BinDecoder, DecodeError, Name, RecordType};
 use dns_rdata_zone::{ZoneName, name_from_zone_text, type_named};
-use dns_view::names::skip_name;
 use std::alloc::Global;
 
 /// Writes a name of the RDATA to a buffer, uncompressed and case preserved, and sets the number of octets and the

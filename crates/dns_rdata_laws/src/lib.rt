@@ -6,9 +6,9 @@ ghost use Rattle.dns_rdata.specs.Laws.{OneValue, EachRegion, KeysTell};
 
 pub use dns_fields::{comparing_holds, fields_hold};
 pub use dns_labels::laws::{names_hold, texts_hold as name_texts_hold};
-pub use dns_rdata_caa_csync::laws::issuers_hold;
 pub use dns_rdata_options::laws::{options_hold, orders_hold};
-pub use dns_text::laws::{texts_hold, tokens_hold};
+pub use dns_rdata_policy::laws::issuers_hold;
+pub use dns_tokens::text::laws::{texts_hold, tokens_hold};
 
 /// Octets as the RDATA of a record type.
 pub fn regions_hold()

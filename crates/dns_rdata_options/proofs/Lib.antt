@@ -9,7 +9,6 @@ pub mod OptionValues
 pub mod OptionsOf
 pub mod Pairs
 pub mod TlvOrder
-pub mod OptionErrors
 pub mod Selection
 pub mod Subnets
 pub mod Values

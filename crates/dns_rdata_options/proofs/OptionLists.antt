@@ -13,10 +13,10 @@ use Rattle.dns_names_wire.proofs.{FieldReads.unless_all, FieldReads.unless_map, 
 use Rattle.dns_rdata_options.specs.OptionReads.{OptionsLeft, NoneLeft, TookTlv, TookCut, RefusedTlv, NoOptionValue, KeptOption}
 use Rattle.dns_rdata_options.specs.OPT.{IsNextError, Pair, pair_value, pair_of, opt_shape, IsOptError}
 use Rattle.dns_rdata_options.proofs.Selection.{all_push}
-use Rattle.dns_view.specs.Tlvs.{TlvThere}
-use Rattle.dns_view.proofs.{OptionLists.prefix, OptionLists.first_left, OptionLists.ReadsOptions, TlvParts.part_there}
+use Rattle.dns_check.specs.Tlvs.{TlvThere}
+use Rattle.dns_check.proofs.{OptionLists.prefix, OptionLists.first_left, OptionLists.ReadsOptions, TlvParts.part_there}
 use Rattle.dns_types.specs.declared.error.DecodeError.TheVariants as decode
-use Rattle.dns_view.proofs.OptionLists.{tlv_none, tlvs_more, field_left}
+use Rattle.dns_check.proofs.OptionLists.{tlv_none, tlvs_more, field_left}
 
 -- ---- the next option is rejected
 

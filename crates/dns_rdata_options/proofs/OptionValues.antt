@@ -14,7 +14,7 @@ use Rattle.dns_rdata_options.specs.{EdnsOption.option_value, EdnsOption.IsOption
 use Rattle.dns_rdata_options.specs.declared.opt.{option.EdnsOption.EdnsOption, code.EdnsCode.EdnsCode}
 use Rattle.dns_names_wire.specs.{Terms.StaysBehind, Terms.UnlessMemory, State.Reading}
 use Rattle.dns_names_wire.proofs.FieldReads.{unless_all}
-use Rattle.dns_view.proofs.Subnets.{subnet_none}
+use Rattle.dns_check.proofs.Subnets.{subnet_none}
 use Rattle.dns_rdata_options.proofs.{Subnets.begun, OptionLists.RefusedHere, OptionLists.no_value}
 use Rattle.dns_types.specs.declared.error.DecodeError.TheVariants as decode
 use Rattle.dns_rdata_options.specs.declared.opt.code.EdnsCode.TheVariants as codes

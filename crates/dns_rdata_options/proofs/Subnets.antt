@@ -10,7 +10,7 @@ use Rattle.dns_fields.proofs.Numbers.{length-bytes}
 use Rattle.dns_rdata_base.proofs.Addresses.{octets_of-segments}
 use Rattle.dns_rdata_options.specs.ClientSubnet.{IsReadSubnet, SubnetAt, IsFamily, family_of, address_octets, prefix_octets, family_octets, padded}
 use Rattle.dns_rdata_options.specs.{declared.opt.subnet.ClientSubnet.ClientSubnet, ClientSubnet.address_of, ClientSubnet.subnet_of, ClientSubnet.subnet_value}
-use Rattle.dns_view.proofs.Subnets.{Eights, head_first, is_address}
+use Rattle.dns_check.proofs.Subnets.{Eights, head_first, is_address}
 
 -- ---- a subnet that is encoded
 

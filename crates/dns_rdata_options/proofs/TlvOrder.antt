@@ -11,7 +11,7 @@ use Rattle.dns_rdata_options.specs.{Steps.octets_cmp, Steps.tlv_cmp, Steps.own_t
 use Rattle.dns_rdata_options.specs.{OPT.Pair, OPT.pair_value, OPT.opt_shape, OPT.opt_fields, Order.pair_cmp, Order.risen, Order.opt_eq, EdnsOption.option_value}
 use Rattle.dns_rdata_options.specs.OrderLaws.{pair_total, opt_ties}
 use Rattle.dns_rdata_options.proofs.Pairs.{is_short}
-use Rattle.dns_view.proofs.OptionSorts.{free_then}
+use Rattle.dns_canonical.proofs.Sorting.{free_then}
 
 same_tlv : (c d : ℕ) (s t u v : List ℕ) → length s < 256 ^ 2 → length t < 256 ^ 2 → tlv (c, s) ++ u ≡ tlv (d, t) ++ v → tlv (c, s) ≡ tlv (d, t)
 same_tlv c d s t u v h k e =

@@ -6,8 +6,8 @@ use Rattle.std.specs.declared.net.ip_addr.IpAddr.TheVariants.{V4, V6}
 use Rattle.dns_types.specs.declared.error.DecodeError.{DecodeError}
 use Rattle.dns_fields.specs.{Octets.At, Tlvs.OptionValue, Tlvs.Subnet, Tlvs.option_octets, Tlvs.IsEmittableOption}
 use Rattle.dns_rdata_options.specs.declared.opt.subnet.ClientSubnet.{ClientSubnet}
-pub use Rattle.dns_view.specs.Options.{IsFamily, prefix_octets, family_octets, SubnetHead, IsSubnetError}
-pub use Rattle.dns_view.specs.Options.{LacksFamily, UnknownFamily, LacksPrefixes, LongPrefix, LacksAddress}
+pub use Rattle.dns_check.specs.Options.{IsFamily, prefix_octets, family_octets, SubnetHead, IsSubnetError}
+pub use Rattle.dns_check.specs.Options.{LacksFamily, UnknownFamily, LacksPrefixes, LongPrefix, LacksAddress}
 
 -- 1 for IPv4, 2 for IPv6
 abbrev pub family_of : IpAddr → ℕ

@@ -14,7 +14,7 @@ use Rattle.dns_rdata_options.specs.{ClientSubnet.subnet_of, declared.opt.code.Ed
 use Rattle.dns_rdata_options.specs.EdnsCode.{edns_code_number, edns_code_variant, edns_code_of}
 use Rattle.dns_rdata_options.specs.EdnsOption.{option_value, IsOptionError}
 use Rattle.dns_rdata_options.specs.declared.opt.option.EdnsOption.TheVariants.{Subnet, NSID, Unknown}
-pub use Rattle.dns_view.specs.Options.{OptionsBefore, IsTlvError, TookHead, LacksCode, LacksLength, PassedEnd, LongOption, LacksBody}
+pub use Rattle.dns_check.specs.Options.{OptionsBefore, IsTlvError, TookHead, LacksCode, LacksLength, PassedEnd, LongOption, LacksBody}
 
 -- an option with its code, as a value holds them
 abbrev pub Pair : Type 0

@@ -15,7 +15,7 @@ use Rattle.dns_names_wire.proofs.FieldWrites.{keeps_same, keeps_then, because_ma
 use Rattle.dns_rdata_service.specs.Parameters.{Parameter, parameter_of, IsAbove, EmitsParameter}
 use Rattle.dns_rdata_service.specs.{SvcParamValue.fits_value, SvcParamValue.sized, SvcParamValue.EmitsValue, Hints.EmitsEach, Hints.each_text}
 use Rattle.dns_rdata_service.specs.{SvcParamKey.key_number, declared.svcb.key.SvcParamKey.SvcParamKey}
-use Rattle.dns_view.proofs.ParameterLists.{Risen, risen_push, risen_not}
+use Rattle.dns_check.proofs.ParameterLists.{Risen, risen_push, risen_not}
 
 -- ---- any emitter
 

@@ -2,11 +2,11 @@
 use Rattle.std.proofs.Common.{◌≡◌, ℕ, List, [], ◌∷◌, ◌++◌, sym, ◌∙◌, ap, subst, append_assoc, ◌≢◌, Result, Ok, Err, Option, Some, None, refl, map}
 use Rattle.std.proofs.lemmas.Slice.Zip.{all_zipped_more}
 use Rattle.std.specs.{Iterator.Yields, Prelude.IfErr, List.AllZip}
-use Rattle.dns_text.specs.Lists.{segments_of, IsItem}
+use Rattle.dns_tokens.specs.Lists.{segments_of, IsItem}
 use Rattle.dns_rdata_service.specs.ParameterTokens.{ItemOf, ListOf, IsParameterToken}
 use Rattle.dns_rdata_service.specs.{TokenRows.these_parameters, TokenRows.parameter_tokens, Parameters.Parameter, Parameters.parameter_of}
 use Rattle.dns_types.specs.declared.error.ParseError.{ParseError}
-use Rattle.dns_text.proofs.ListSteps.{item_one}
+use Rattle.dns_tokens.proofs.ListSteps.{item_one}
 use Rattle.dns_fields.specs.{Fields.Values, declared.Kind.TheVariants.Parameters}
 use Rattle.dns_tokens.specs.Reads.{UnlessParseMemory, TookTokens, RefusedTokens}
 use Rattle.dns_tokens.proofs.{Steps.holds_token, Steps.holds_all, Steps.holds_drained, Yielded.holds_yielded}

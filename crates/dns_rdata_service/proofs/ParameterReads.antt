@@ -16,12 +16,12 @@ use Rattle.dns_rdata_service.specs.Parameters.{Parameter, parameter_of, paramete
 use Rattle.dns_rdata_service.specs.{Parameters.IsParameterError, Parameters.IsParametersError, SvcParamValue.value_of, Hints.StandEach}
 use Rattle.dns_rows.specs.Rules.{HasText, HaveTexts}
 use Rattle.dns_rdata_service.specs.{SVCB.svcb_shape, SVCB.svcb_fields, SVCB.MeetsSvcbCondition, declared.svcb.SVCB.SVCB, SvcParamKey.key_number}
-use Rattle.dns_view.proofs.ParameterLists.{Risen, risen_push, risen_not, risen_rises, fails_test, OneOf, one_long, one_once, one_of}
-use Rattle.dns_view.proofs.ParameterLists.{parameters_each, each_parameters, each_inside, each_rest}
+use Rattle.dns_check.proofs.ParameterLists.{Risen, risen_push, risen_not, risen_rises, fails_test, OneOf, one_long, one_once, one_of}
+use Rattle.dns_check.proofs.ParameterLists.{parameters_each, each_parameters, each_inside, each_rest}
 use Rattle.dns_rdata_service.proofs.ValueReads.{NoKeyValue, key_none, EachOn, each_more}
-use Rattle.dns_view.proofs.Splits.{at_split, stays_then, all_behind, all_append}
+use Rattle.dns_check.proofs.Splits.{at_split, stays_then, all_behind, all_append}
 use Rattle.dns_types.specs.declared.error.DecodeError.TheVariants as decode
-use Rattle.dns_view.proofs.ParameterSteps.{NoParameter, truncated_none}
+use Rattle.dns_check.proofs.ParameterSteps.{NoParameter, truncated_none}
 
 -- ---- one parameter
 

@@ -6,8 +6,8 @@ use Rattle.std.proofs.{lemmas.Option.slice_get-get_or, lemmas.Option.slice_get_p
 use Rattle.std.proofs.{lemmas.Bool.Decides.nat_tests, Math.Nat.mul_comm}
 use Rattle.dns_fields.proofs.Sorted.{flat_map_all}
 use Rattle.std.specs.{List.flat_map, List.list_all, List.AllByRecursion, Result.OkIff, Result.result_ok, Cmp.first_so, Cmp.second_so, Int.bytes_high_first}
-use Rattle.dns_view.proofs.ValueForms.{length_groups}
-use Rattle.dns_view.proofs.Splits.{length_numbers}
+use Rattle.dns_check.proofs.ValueForms.{length_groups}
+use Rattle.dns_check.proofs.Splits.{length_numbers}
 use Rattle.dns_fields.specs.Tlvs.{string, tlv, tlvs, as_tlv, ParameterValue, Mandatory, Alpn, NoDefaultAlpn, Port, Ipv4Hint, Ipv6Hint, Opaque}
 use Rattle.dns_fields.specs.{Tlvs.parameter_octets, Tlvs.parameter_emittable, Tlvs.rising, Labels.lowname, Fields.field_octets, Fields.parameter_tlvs}
 use Rattle.dns_fields.specs.declared.Kind.{TheVariants.Name}

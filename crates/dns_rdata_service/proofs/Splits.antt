@@ -3,7 +3,7 @@ use Rattle.std.proofs.Common.{◌≡◌, ℕ, ◌%◌, List, ◌∷◌, drop, ap
 use Rattle.std.proofs.{lemmas.Result.err_from_is_err_and, Math.Nat.mod-eq_of_lt}
 use Rattle.std.specs.{Result.IsErrAnd}
 use Rattle.dns_fields.specs.{declared.Kind.TheVariants.Number, Fields.Field}
-use Rattle.dns_view.proofs.Splits.{at_split}
+use Rattle.dns_check.proofs.Splits.{at_split}
 
 -- an octet and what follows it
 pub octet_split : {m : List ℕ} {p n q : ℕ} → Field m p (Number 1) n q → drop p m ≡ n ∷ drop q m

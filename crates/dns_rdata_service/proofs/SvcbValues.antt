@@ -171,26 +171,3 @@ svcb_equal a b x y = ap (λ (t : Bool). kind_eq (Number 2) a.svc_priority b.svc_
     (parameters_equal a.svc_params b.svc_params x y)
 
 -- ---- the error with a type number is none of SVCB's
-
-form_never : (f : ParameterForm) (body : List ℕ) (k : ℕ) → IsFormError f body (decode.UnknownRecordTypeValue k) → ⊥
-form_never Keys body k h = grind arith
-form_never Names body k h = grind arith
-form_never AnyOctets body k h = h
-form_never f body k h = let e = h.0 in cc e
-
-key_never : (key : ℕ) (body : List ℕ) (k : ℕ) → IsKeyError key body (decode.UnknownRecordTypeValue k) → ⊥
-key_never key body k h = grind (arith, form_never (form_for key) body k)
-
-parameters_never : (p n : ℕ) (old new : Reading) (k : ℕ) → IsParametersError p n old (decode.UnknownRecordTypeValue k) new → ⊥
-parameters_never p n old new k (inl e) = cc e
-parameters_never p n old new k (inr (inl h)) = parameter_never h.between new k h.refused where
-  parameter_never : (old new : Reading) (k : ℕ) → IsParameterError old (decode.UnknownRecordTypeValue k) new → ⊥
-  parameter_never old new k (inl h) = grind arith
-  parameter_never old new k (inr (inl h)) = let e = h.error in cc e
-  parameter_never old new k (inr (inr h)) = key_never h.key h.octets k h.refused
-parameters_never p n old new k (inr (inr h)) = grind arith
-
-pub svcb_never : (n : ℕ) (old new : Reading) (k : ℕ) → IsSvcbError n old (decode.UnknownRecordTypeValue k) new → ⊥
-svcb_never n old new k (inl h) = grind arith
-svcb_never n old new k (inr (inl h)) = let e = h.error in cc e
-svcb_never n old new k (inr (inr h)) = parameters_never old.index n h.between new k h.refused

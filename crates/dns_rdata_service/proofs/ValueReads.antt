@@ -19,13 +19,13 @@ use Rattle.dns_rdata_service.specs.{Hints.StandEach, Hints.StopsBefore, Hints.St
 use Rattle.dns_rdata_service.specs.{declared.svcb.mandatory.Mandatory.Mandatory as MandatoryKeys, SvcParamKey.key_number, SvcParamKey.key_of}
 use Rattle.dns_rdata_service.specs.{declared.svcb.key.SvcParamKey.SvcParamKey, declared.svcb.alpn.Alpn.Alpn as Protocols}
 use Rattle.dns_rdata_service.proofs.Splits.{octet_split}
-use Rattle.dns_view.proofs.Splits.{at_split, length_numbers, stays_then}
+use Rattle.dns_check.proofs.Splits.{at_split, length_numbers, stays_then}
 use Rattle.dns_rdata_service.proofs.EachEmits.{emits_all, emits_as, all_pass}
 use Rattle.dns_fields.proofs.{OctetLaws.AreOctets-at, Numbers.length-bytes}
 use Rattle.dns_rdata_base.proofs.Addresses.{octets_of-segments}
 use Rattle.dns_types.specs.declared.error.DecodeError.TheVariants as decode
-use Rattle.dns_view.proofs.ParameterSteps.{stand_push}
-use Rattle.dns_view.proofs.ValueForms.{length_groups, names_none, keys_none, no_text}
+use Rattle.dns_check.proofs.ParameterSteps.{stand_push}
+use Rattle.dns_check.proofs.ValueForms.{length_groups, names_none, keys_none, no_text}
 
 pub record EachOn {T : Type 0} (S : List ℕ → ℕ → T → ℕ → Type 0) (old : Reading) (items : List T) (d : Reading) : Type 0 where
   pub behind : StaysBehind old d

@@ -3,7 +3,7 @@ use Rattle.std.specs.Prelude.{◌≡◌, ℕ, ◌<◌, ◌⊎◌, List, [], ◌�
 use Rattle.std.specs.Fmt.{◌++?◌}
 use Rattle.dns_types.specs.{declared.error.DecodeError.DecodeError, declared.error.ProtoError.ProtoError}
 use Rattle.dns_names_wire.specs.{State.Reading, State.Writing, Terms.StaysBehind, Terms.UnlessMemory}
-pub use Rattle.dns_view.proofs.ParameterLists.{StandEach}
+pub use Rattle.dns_check.proofs.ParameterLists.{StandEach}
 
 -- some are encoded, and after them, before the end of the message, none is
 pub record StopsBefore {T : Type 0} (S : List ℕ → ℕ → T → ℕ → Type 0) (m : List ℕ) (p : ℕ) : Type 0 where

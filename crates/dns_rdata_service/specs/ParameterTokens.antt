@@ -2,7 +2,7 @@
 use Rattle.std.specs.Prelude.{◌≡◌, ◌≢◌, ◌⊎◌, ℕ, List, [], ◌∷◌, ◌++◌, All, Ok, codes}
 use Rattle.std.specs.{List.AllZip, Net.Grammar.IsIpv4Text, Net.Grammar.IsIpv6Text}
 use Rattle.base64.specs.{Engines.standard, GeneralPurpose.decode_of}
-use Rattle.dns_text.specs.Lists.{IsItem, segments_of}
+use Rattle.dns_tokens.specs.Lists.{IsItem, segments_of}
 use Rattle.dns_tokens.specs.Forms.{IsNumberToken}
 use Rattle.dns_rdata_service.specs.{Parameters.Parameter, declared.svcb.key.SvcParamKey.SvcParamKey, SvcParamKey.key_text}
 use Rattle.dns_rdata_service.specs.declared.svcb.value.SvcParamValue.{SvcParamValue}

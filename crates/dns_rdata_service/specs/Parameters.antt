@@ -11,7 +11,7 @@ use Rattle.dns_rdata_base.specs.FieldErrors.{FirstLack}
 use Rattle.dns_rdata_service.specs.{declared.svcb.key.SvcParamKey.SvcParamKey, declared.svcb.value.SvcParamValue.SvcParamValue}
 use Rattle.dns_rdata_service.specs.SvcParamKey.{key_number, key_variant, key_of}
 use Rattle.dns_rdata_service.specs.SvcParamValue.{value_of, value_from, value_key, IsKeyError, fits_value}
-pub use Rattle.dns_view.specs.Parameters.{IsAbove, ParametersBefore, TruncatedValue, WrongOrder, PassedParameters}
+pub use Rattle.dns_check.specs.Parameters.{IsAbove, ParametersBefore, TruncatedValue, WrongOrder, PassedParameters}
 
 -- a key and its value
 abbrev pub Parameter : Type 0

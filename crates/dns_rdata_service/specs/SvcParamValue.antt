@@ -19,7 +19,7 @@ use Rattle.dns_rdata_service.specs.{declared.svcb.alpn.Alpn.Alpn as Protocols, d
 use Rattle.dns_types.specs.declared.error.DecodeError.TheVariants as decode
 use Rattle.dns_rdata_service.specs.declared.svcb.key.SvcParamKey.TheVariants as keys
 use Rattle.dns_rdata_service.specs.declared.svcb.value.SvcParamValue.TheVariants as variants
-pub use Rattle.dns_view.specs.Values.{TruncatedName, WrongName, IsFormError}
+pub use Rattle.dns_check.specs.ParameterValues.{TruncatedName, WrongName, IsFormError}
 
 -- ---- as values of the grammar
 

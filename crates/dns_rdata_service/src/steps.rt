@@ -249,7 +249,7 @@ fn values_fit(parameters: &[Parameter]) -> bool
 }
 
 // Whether the numbers of the keys rise.
-#[tactic(auto, using(dns_view::proofs::ParameterLists::goes_on, dns_view::proofs::ParameterLists::ends_there))]
+#[tactic(auto, using(dns_check::proofs::ParameterLists::goes_on, dns_check::proofs::ParameterLists::ends_there))]
 fn keys_rise(parameters: &[Parameter]) -> bool
     ensures { result ≡ rising (map parameter_of parameters.now) }
 {

@@ -13,9 +13,9 @@ use Rattle.dns_rdata_service.specs.SvcParamKey.{key_number, key_variant, key_of,
 use Rattle.dns_rdata_service.specs.declared.svcb.key.SvcParamKey.{SvcParamKey}
 use Rattle.dns_rdata_service.specs.declared.svcb.key.SvcParamKey.TheVariants.{Key, Key65535, Unknown}
 use Rattle.dns_rdata_service.proofs.SvcbValues.{key_number-of}
-use Rattle.dns_zone_parameters.specs.{Keys.IsKeyName, Laws.HasNoEquals, Values.IsValue}
-use Rattle.dns_zone_parameters.specs.Parameters.{Parameter, is_equals, IsParameter}
-use Rattle.dns_zone_parameters.proofs.WrittenTokens.{tokens_read}
+use Rattle.dns_zone_rows.specs.{ParameterKeys.IsKeyName, ParameterLaws.HasNoEquals, ParameterValues.IsValue}
+use Rattle.dns_zone_rows.specs.Parameters.{Parameter, is_equals, IsParameter}
+use Rattle.dns_zone_rows.proofs.WrittenTokens.{tokens_read}
 use Rattle.dns_rdata_zone.specs.{Parameters.key_name, ZoneGives.AreUnmarked}
 
 -- ---- octets of names and items

@@ -15,10 +15,10 @@ use Rattle.dns_rdata_base.specs.{A.a_text, AAAA.aaaa_text, declared.a.A.A, decla
 use Rattle.dns_rdata_service.specs.{SvcParamKey.key_number, declared.svcb.key.SvcParamKey.SvcParamKey, SvcParamValue.a_octets, SvcParamValue.aaaa_octets}
 use Rattle.dns_tokens.proofs.Printed.{ipv4_back, ipv6_back}
 use Rattle.dns_zone_tokens.specs.Letters.{Letter, plain, letters, octet_of, escapes_stand}
-use Rattle.dns_zone_parameters.specs.{Values.HasOctets, Values.IsPort, Values.forbids_escapes, Values.IsValue, Laws.IsPlainItem, Laws.IsProtocolName}
-use Rattle.dns_zone_parameters.proofs.WrittenLists.{plain_items, names_read}
-use Rattle.dns_zone_parameters.specs.Lists.{items_in, IsItem, IsList, IsListedKey, IsKeyList}
-use Rattle.dns_zone_parameters.specs.declared.lists.ListItem.TheVariants as items
+use Rattle.dns_zone_rows.specs.{ParameterValues.HasOctets, ParameterValues.IsPort, ParameterValues.forbids_escapes, ParameterValues.IsValue, ParameterLaws.IsPlainItem, ParameterLaws.IsProtocolName}
+use Rattle.dns_zone_rows.proofs.WrittenLists.{plain_items, names_read}
+use Rattle.dns_zone_rows.specs.ParameterLists.{items_in, IsItem, IsList, IsListedKey, IsKeyList}
+use Rattle.dns_zone_rows.specs.declared.parameters.lists.ListItem.TheVariants as items
 use Rattle.dns_rdata_zone.specs.{Lists.commas, Spellings.escaped, Spellings.item_octet, Spellings.protocol_octet}
 use Rattle.dns_rdata_zone.specs.Parameters.{key_name, named_key, protocol, rises_from}
 use Rattle.dns_rdata_zone.proofs.{Dividing.is_run_octet, Dividing.AreRunOctets, Dividing.run_both, Letters.first_true, Letters.second_true, ParameterForms.zone_key}
@@ -194,10 +194,6 @@ comma_tested (c ∷ s) h =
 
 digit_item : (c : ℕ) → 48 ≤ c → c ≤ 58 → (is_run_octet c ≡ true) × (eqb c 44 ≡ false)
 digit_item c low high = (grind (arith, nat_tests), grind (arith, nat_tests))
-
-item_by_index : (s : List ℕ) → ((k : ℕ) → k < length s → (is_run_octet (get_or s k 0) ≡ true) × (eqb (get_or s k 0) 44 ≡ false)) → AreItemOctets s
-item_by_index [] h = tt
-item_by_index (c ∷ s) h = (h 0 (omega arith), item_by_index s (λ k lt. h (suc k) (omega arith)))
 
 item_both : (a b : List ℕ) → AreItemOctets a → AreItemOctets b → AreItemOctets (a ++ b)
 item_both [] b h k = k

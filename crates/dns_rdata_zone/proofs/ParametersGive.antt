@@ -4,8 +4,8 @@ use Rattle.std.proofs.Common.{subst, arith, le-ltb}
 use Rattle.std.specs.{Prelude.flat_map, Int.bytes_high_first, List.AllByRecursion, List.list_all}
 use Rattle.std.proofs.{lemmas.Bool.Decides.nat_tests, lemmas.List.append-nil, lemmas.List.Sorted.IsPermutation-refl}
 use Rattle.base64.specs.{Engines.standard, GeneralPurpose.encode_of}
-use Rattle.dns_zone_parameters.specs.{Values.HasOctets, Laws.IsProtocolName}
-use Rattle.dns_zone_parameters.specs.Parameters.{Parameter as Spelled, IsParameter, AreWritten, AreParameters}
+use Rattle.dns_zone_rows.specs.{ParameterValues.HasOctets, ParameterLaws.IsProtocolName}
+use Rattle.dns_zone_rows.specs.Parameters.{Parameter as Spelled, IsParameter, AreWritten, AreParameters}
 use Rattle.dns_fields.specs.{Fields.parameter_tlvs, Octets.AreOctets}
 use Rattle.dns_fields.specs.Tlvs.{Numbered, ParameterValue, string, tlvs, as_tlv, is_some, parameter_octets, Below, Rising}
 use Rattle.dns_rdata_base.specs.{A.a_text, AAAA.aaaa_text}

@@ -16,7 +16,7 @@ use Rattle.dns_rdata_certs.specs.{declared.cert.CERT.CERT, declared.tlsa.TLSA.TL
 use Rattle.dns_rdata_certs.specs.TLSA.{tlsa_shape, tlsa_fields}
 use Rattle.dns_rdata_options.specs.OPT.{pair_value}
 use Rattle.dns_rdata_service.specs.{Parameters.Parameter, Parameters.parameter_of, declared.svcb.SVCB.SVCB}
-use Rattle.dns_rdata_caa_csync.specs.{CAA.caa_flags, CSYNC.csync_flags, declared.caa.CAA.CAA, declared.csync.CSYNC.CSYNC}
+use Rattle.dns_rdata_policy.specs.{CAA.caa_flags, CSYNC.csync_flags, declared.caa.CAA.CAA, declared.csync.CSYNC.CSYNC}
 use Rattle.dns_zone_rows.specs.{Mnemonics.algorithms, Mnemonics.cert_types, RowTable.zone_row_of}
 use Rattle.dns_zone_rows.specs.Rows.{FieldKind, Number, RestKind, Name, NoToken, SomeHex, SomeBase64, SomeStrings, AnyTypes, AnyParameters}
 use Rattle.dns_rdata_zone.specs.{Strings.quoted, Generic.generic, Names.zone_name, Tokens.in_tokens, ZoneTexts.zone_text, ZoneTexts.zone_octets}

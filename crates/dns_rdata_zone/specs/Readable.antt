@@ -11,7 +11,7 @@ use Rattle.dns_rdata_certs.specs.{Enums.sshfp_algorithm_number, Enums.fingerprin
 use Rattle.dns_rdata_service.specs.{Parameters.Parameter, Parameters.parameter_of, SvcParamKey.key_number, SvcParamValue.value_of}
 use Rattle.dns_rdata_service.specs.{declared.svcb.SVCB.SVCB, declared.svcb.value.SvcParamValue.SvcParamValue}
 use Rattle.dns_rdata_service.specs.declared.svcb.value.SvcParamValue.TheVariants as values
-use Rattle.dns_rdata_caa_csync.specs.{CAA.caa_flags, CSYNC.csync_flags}
+use Rattle.dns_rdata_policy.specs.{CAA.caa_flags, CSYNC.csync_flags}
 use Rattle.dns_rdata_zone.specs.ZoneTexts.{zone_octets}
 
 -- octets, fewer than 2 ^ 64

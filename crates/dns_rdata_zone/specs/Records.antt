@@ -12,7 +12,7 @@ use Rattle.dns_rdata_certs.specs.{declared.cert.CERT.CERT, declared.sshfp.SSHFP.
 use Rattle.dns_rdata_certs.specs.Enums.{cert_type_number, cert_algorithm_number, cert_usage_number, matching_number, selector_number}
 use Rattle.dns_rdata_certs.specs.Enums.{sshfp_algorithm_number, fingerprint_type_number}
 use Rattle.dns_rdata_certs.specs.{SSHFP.sshfp_shape, SSHFP.sshfp_fields, TLSA.tlsa_shape, TLSA.tlsa_fields}
-use Rattle.dns_rdata_caa_csync.specs.{declared.caa.CAA.CAA, declared.csync.CSYNC.CSYNC, CAA.caa_shape, CAA.caa_fields, CAA.caa_flags, CSYNC.csync_flags}
+use Rattle.dns_rdata_policy.specs.{declared.caa.CAA.CAA, declared.csync.CSYNC.CSYNC, CAA.caa_shape, CAA.caa_fields, CAA.caa_flags, CSYNC.csync_flags}
 use Rattle.dns_rdata_zone.specs.{Generic.generic, Strings.quoted, Strings.spaced, Names.zone_name, Tokens.in_tokens}
 
 -- two strings

@@ -18,7 +18,7 @@ mod strings;
 mod tokens;
 mod zone_text;
 
-pub use dns_text::parse_ttl;
+pub use dns_tokens::parse_ttl;
 pub use dns_zone_rows::token_at_fault;
 pub use dns_zone_tokens::type_named;
 pub use generic::Generic;

@@ -1,3 +1,14 @@
+pub mod Firsts
+pub mod QuietSteps
+pub mod SpanSteps
+pub mod QuotedSteps
+pub mod TokenSteps
+pub mod WordSteps
+pub mod FirstSteps
+pub mod TtlSteps
+pub mod ListSteps
+pub mod WholeSteps
+pub mod PlainSteps
 pub mod Steps
 pub mod Printed
 pub mod Ttls

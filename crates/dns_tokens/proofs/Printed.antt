@@ -13,7 +13,7 @@ use Rattle.dns_fields.specs.{Labels.DomainName, declared.Kind.Kind, declared.Kin
 use Rattle.dns_fields.specs.{Fields.Values}
 use Rattle.dns_labels.specs.Text.{printed, label_text, joined_text, name_text}
 use Rattle.dns_labels.proofs.NameTexts.{name_reads}
-use Rattle.dns_text.specs.Ttl.Periods.{unitless}
+use Rattle.dns_tokens.specs.Ttl.Periods.{unitless}
 use Rattle.dns_names_wire.specs.NameValues.{completed}
 use Rattle.dns_tokens.specs.Forms.{Form, TokenRow, token, ignored, nothing, number, ttl, name, ipv4, ipv6}
 use Rattle.dns_tokens.specs.Printed.{cut_from, cut, IsPrintedName}

@@ -1,7 +1,7 @@
 -- Times to live, and addresses in tokens.
 use Rattle.std.proofs.Common.{ℕ, ◌<◌, List, arith}
-use Rattle.dns_text.specs.Ttl.{IsTtl}
-use Rattle.dns_text.proofs.TtlSteps.{periods_one}
+use Rattle.dns_tokens.specs.Ttl.{IsTtl}
+use Rattle.dns_tokens.proofs.TtlSteps.{periods_one}
 use Rattle.std.specs.{declared.net.ipv4_addr.Ipv4Addr.Ipv4Addr, declared.net.ipv6_addr.Ipv6Addr.Ipv6Addr}
 use Rattle.std.specs.Net.Grammar.{IsIpv4Text, IsIpv6Text}
 use Rattle.dns_tokens.specs.{Forms.ttl, Forms.ipv4, Forms.ipv6, Reads.NoToken}

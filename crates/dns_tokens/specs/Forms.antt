@@ -9,7 +9,7 @@ use Rattle.dns_fields.specs.Labels.{DomainName}
 use Rattle.dns_fields.specs.Fields.{Value, Values}
 use Rattle.dns_fields.specs.declared.Kind.{Kind, TheVariants.Number, TheVariants.Octets, TheVariants.Name}
 use Rattle.dns_fields.specs.declared.Kind.{TheVariants.CharacterString, TheVariants.CharacterStrings, TheVariants.Rest}
-use Rattle.dns_text.specs.Ttl.{IsTtl}
+use Rattle.dns_tokens.specs.Ttl.{IsTtl}
 use Rattle.dns_names_wire.specs.NameValues.{IsParsed}
 
 -- which values of a field a token has

@@ -1,3 +1,14 @@
+pub mod Octets
+pub mod Quoted
+pub mod Tokens
+pub mod Views
+pub mod Ttl
+pub mod Lists
+pub mod TextWords
+pub mod Plain
+pub mod Quiet
+pub mod Kinds
+pub mod Messages
 pub mod Taking
 pub mod Forms
 pub mod Reads

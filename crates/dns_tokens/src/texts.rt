@@ -5,11 +5,11 @@ ghost use Rattle.std.specs.{Int.cast_unsigned, Int.w32, Net.Addr.ipv4_octets, Ne
 ghost use Rattle.dns_tokens.specs.Forms.{number, ttl, name, base64, kept, kept_rest, ipv4, ipv6};
 ghost use Rattle.dns_tokens.specs.Reads.{ReadsText};
 
+use crate::parse_ttl;
 use base64::DecodeAllocError;
 use base64::display::Base64Display;
 use base64::engine::general_purpose::STANDARD;
 use dns_names_wire::{Name, Octets, ParseError};
-use dns_text::parse_ttl;
 use std::alloc::Global;
 use std::net::{Ipv4Addr, Ipv6Addr};
 use std::{fmt, str};

@@ -8,12 +8,13 @@ use Rattle.dns_fields.proofs.FieldLaws.{field_same, field_end}
 use Rattle.dns_names_wire.specs.{State.Reading, Terms.TookField, Terms.LacksField}
 use Rattle.dns_rows.specs.declared.row.Part.{Part}
 use Rattle.dns_names_wire.proofs.Strings.{at_rest}
-use Rattle.dns_view.specs.declared.name_ref.NameRef.{NameRef}
-use Rattle.dns_view.specs.declared.field.FieldRef.{FieldRef}
-use Rattle.dns_view.specs.declared.field.FieldRef.TheVariants as shown
+use Rattle.dns_view.specs.declared.name.name_ref.NameRef.{NameRef}
+use Rattle.dns_view.specs.declared.row.field.FieldRef.{FieldRef}
+use Rattle.dns_view.specs.declared.row.field.FieldRef.TheVariants as shown
 use Rattle.dns_rows.specs.Table.{kinds_of}
-use Rattle.dns_view.specs.{Rows.AreCovered, Rows.IsRow, Rows.HasRow, Shown.Shows, Shown.ShowsAt}
-use Rattle.dns_view.proofs.{RowLoop.behind_row, RowLoop.field_reaches, Alone.between_is, Alone.slice_at}
+use Rattle.dns_check.specs.Rows.{AreCovered, IsRow, HasRow}
+use Rattle.dns_view.specs.Shown.{Shows, ShowsAt}
+use Rattle.dns_check.proofs.{RowLoop.behind_row, RowLoop.field_reaches, Alone.between_is, Alone.slice_at}
 use Rattle.dns_view.proofs.{PartEnds.Stops, PartEnds.NoneStops, PartEnds.behind_next, PartEnds.this_field}
 
 -- ---- one field

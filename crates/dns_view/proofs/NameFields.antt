@@ -5,10 +5,11 @@ use Rattle.dns_fields.specs.declared.Kind.{Kind}
 use Rattle.dns_fields.specs.declared.Kind.TheVariants.{Name}
 use Rattle.dns_fields.specs.{Labels.DomainName, Names.IsNameIn, Fields.Values, Fields.Field}
 use Rattle.dns_rows.specs.{declared.row.Part.Part, Table.kinds_of}
-use Rattle.dns_view.specs.declared.name_ref.NameRef.{NameRef}
-use Rattle.dns_view.specs.{Rows.IsRow, Rows.HasRow}
+use Rattle.dns_view.specs.declared.name.name_ref.NameRef.{NameRef}
+use Rattle.dns_check.specs.Rows.{IsRow, HasRow}
 use Rattle.dns_view.specs.NameFields.{names_in, IsNameAt, ShowsNameAt}
-use Rattle.dns_view.proofs.{RowLoop.behind_row, RowLoop.field_reaches, PartEnds.Stops, PartEnds.NoneStops, PartEnds.behind_next, PartEnds.this_field}
+use Rattle.dns_check.proofs.RowLoop.{behind_row, field_reaches}
+use Rattle.dns_view.proofs.PartEnds.{Stops, NoneStops, behind_next, this_field}
 
 -- ---- one field
 

@@ -7,8 +7,9 @@ use Rattle.std.specs.declared.cmp.Ordering.TheVariants.{Equal}
 use Rattle.dns_fields.specs.{Labels.DomainName, Labels.wire, Labels.lowname, Names.IsNameIn}
 use Rattle.dns_fields.proofs.NameLaws.{name_same}
 use Rattle.dns_canonical.proofs.{Fronts.cmp_behind, Sharing.whole}
-use Rattle.dns_view.specs.NameEnds.{SkipsRun, IsPlainName}
-use Rattle.dns_view.proofs.{NameSteps.ends, NameSteps.going_first, NamesPut.plain_is, NamesPut.plain_compared, RowOrder.cmp_same}
+use Rattle.dns_names_wire.specs.NameEnds.{SkipsRun, IsPlainName}
+use Rattle.dns_names_wire.proofs.NameSteps.{ends, going_first}
+use Rattle.dns_view.proofs.{NamesPut.plain_is, NamesPut.plain_compared, RowOrder.cmp_same}
 
 -- a name that no compression pointer ends has n octets and a 0
 abbrev pub Uncompressed : List ℕ → ℕ → ℕ → Type 0

@@ -5,8 +5,9 @@ use Rattle.std.specs.{Char.to_ascii_lowercase, Cmp.Lexicographic.slice_cmp, Orde
 use Rattle.dns_fields.specs.{Labels.DomainName, Labels.wire, Labels.lowname, Names.IsNameIn}
 use Rattle.dns_labels.specs.{Labels.name_of, Reading.IsNameAt}
 use Rattle.dns_labels.proofs.{ReadingRuns.first_run, ReadingRuns.no_more, Found.name_found, Found.octets_found, Lowered.compared}
-use Rattle.dns_view.specs.NameEnds.{SkipsRun, IsPlainName}
-use Rattle.dns_view.proofs.{NameSteps.adds_run, Puts.run_octets, Puts.put_fits}
+use Rattle.dns_names_wire.specs.NameEnds.{SkipsRun, IsPlainName}
+use Rattle.dns_names_wire.proofs.NameSteps.{adds_run}
+use Rattle.dns_view.proofs.Puts.{run_octets, put_fits}
 use Rattle.dns_fields.proofs.NameLaws.{name_same}
 use Rattle.dns_view.specs.Putting.{Put, PutName, name_form}
 

@@ -10,7 +10,8 @@ use Rattle.dns_fields.specs.Comparing.{name_eq}
 use Rattle.dns_labels.specs.{Labels.AreNameOctets, Labels.labels_of, Labels.name_of, Comparing.lowered_octets}
 use Rattle.dns_labels.proofs.Lowered.{lowered-of}
 use Rattle.dns_names_wire.proofs.NameFacts.{name_eq_exact}
-use Rattle.dns_view.specs.{NameEnds.IsNamed, LabelList.labels_at, LabelList.low_octets}
+use Rattle.dns_names_wire.specs.NameEnds.{IsNamed}
+use Rattle.dns_view.specs.LabelList.{labels_at, low_octets}
 use Rattle.dns_view.proofs.LabelSteps.{labels_found}
 
 pub low_of : {m : List ℕ} {p q : ℕ} {x : DomainName} → IsNameIn m p x q → lowname x ≡ low_octets m p

@@ -8,8 +8,9 @@ use Rattle.std.specs.declared.cmp.Ordering.{Ordering, TheVariants.Less, TheVaria
 use Rattle.dns_fields.specs.Tlvs.{OptionValue, Subnet, OpaqueOption, OptionHeld, IsTlv, tlv, option_octets}
 use Rattle.dns_fields.proofs.{Numbers.length-bytes, Numbers.number_cmp, Tlvs.length-tlv}
 use Rattle.dns_canonical.proofs.{Fronts.front_then, Comparing.then_kept}
-use Rattle.dns_view.specs.{Parameters.IsTlvAt, OptionOctets.value_size, OptionOctets.option_at, OptionOctets.subnet_size, OptionOctets.is_subnet, OptionOctets.own_octets}
-use Rattle.dns_view.proofs.{HeldLists.size_there, Alone.between_is}
+use Rattle.dns_check.specs.Parameters.{IsTlvAt}
+use Rattle.dns_view.specs.OptionOctets.{value_size, option_at, subnet_size, is_subnet, own_octets}
+use Rattle.dns_check.proofs.{HeldLists.size_there, Alone.between_is}
 
 -- ---- client subnets
 

@@ -28,16 +28,6 @@ less a b l = sym (nat_cmp_is a b Less l)
 itself : (xs : List ℕ) → slice_cmp nat_cmp xs xs ≡ Equal
 itself xs = tied_itself nat_list_cmp_total xs
 
--- zeros come before anything else
-zeros_least : (n : ℕ) (ys : List ℕ) → slice_cmp nat_cmp (padded n []) (padded n ys) ≢ Greater
-zeros_least zero ys g = cc g
-zeros_least (suc n) [] g = let e = itself (padded (suc n) []) in cc (e, g)
-zeros_least (suc n) (zero ∷ ys) g = zeros_least n ys g
-zeros_least (suc n) (suc y ∷ ys) g =
-    let e : ordering_then (nat_cmp 0 (suc y)) (slice_cmp nat_cmp (padded n []) (padded n ys)) ≡ Less =
-    ap (λ (o : Ordering). ordering_then o (slice_cmp nat_cmp (padded n []) (padded n ys))) (less 0 (suc y) (omega arith)) in
-    cc (e, g)
-
 zeros_last : (n : ℕ) (xs : List ℕ) → slice_cmp nat_cmp (padded n xs) (padded n []) ≢ Less
 zeros_last zero xs g = cc g
 zeros_last (suc n) [] g = let e = itself (padded (suc n) []) in cc (e, g)

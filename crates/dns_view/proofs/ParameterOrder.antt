@@ -7,8 +7,8 @@ use Rattle.dns_fields.specs.{Fields.Value, Fields.Field, Fields.field_octets, Fi
 use Rattle.dns_fields.specs.Tlvs.{Numbered, ParameterValue, ParameterHeld, IsTlv, tlv, tlvs, parameter_octets}
 use Rattle.dns_fields.proofs.{Numbers.length-bytes, Numbers.same_number, Tlvs.tlv_before, Tlvs.parts, ParameterLaws.parameter_fit}
 use Rattle.dns_canonical.proofs.{Fronts.front_then, Comparing.then_kept}
-use Rattle.dns_view.proofs.{ParameterLists.StandEach, ParameterLists.OneOf, ParameterLists.parameters_each, Alone.between_is}
-use Rattle.dns_view.proofs.HeldLists.{EndsAt, NoTlv, FirstOf, first_of, none_left}
+use Rattle.dns_check.proofs.{ParameterLists.StandEach, ParameterLists.OneOf, ParameterLists.parameters_each, Alone.between_is}
+use Rattle.dns_check.proofs.HeldLists.{EndsAt, NoTlv, FirstOf, first_of, none_left}
 
 -- ---- two parameters
 

@@ -5,8 +5,9 @@ use Rattle.dns_fields.specs.declared.Kind.TheVariants.{Name}
 use Rattle.dns_fields.specs.Fields.{Value, Field, Stands}
 use Rattle.dns_fields.proofs.FieldLaws.{field_end}
 use Rattle.dns_rows.specs.{declared.row.Part.Part, Table.kinds_of, Rules.MeetsRow}
-use Rattle.dns_view.specs.{NameEnds.NameEnds, Parts.Reaches, Rows.IsRow, Rows.HasRow}
-use Rattle.dns_view.proofs.{Asked.asks_split, RowLoop.field_reaches}
+use Rattle.dns_names_wire.specs.NameEnds.{NameEnds}
+use Rattle.dns_check.specs.{Parts.Reaches, Rows.IsRow, Rows.HasRow}
+use Rattle.dns_check.proofs.{Asked.asks_split, RowLoop.field_reaches}
 
 -- however the field is read, it ends at this offset
 abbrev pub Stops : List ℕ → ℕ → (k : Kind) → ℕ → ℕ → Type 0

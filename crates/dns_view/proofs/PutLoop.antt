@@ -8,13 +8,15 @@ use Rattle.dns_fields.specs.{Octets.At, Labels.DomainName, Names.IsNameIn, Field
 use Rattle.dns_fields.proofs.FieldLaws.{field_inside, field_same, field_end}
 use Rattle.dns_names_wire.proofs.{FieldReads.stands_inside, Strings.at_then}
 use Rattle.dns_rows.specs.declared.row.{Part.Part}
-use Rattle.dns_view.specs.Parts.{Reaches}
+use Rattle.dns_check.specs.Parts.{Reaches}
 use Rattle.dns_rows.specs.{Table.kinds_of}
-use Rattle.dns_view.specs.Rows.{IsRow, HasRow}
+use Rattle.dns_check.specs.Rows.{IsRow, HasRow}
 use Rattle.dns_view.specs.RowOrder.{IsPlain, ArePlain}
 use Rattle.dns_view.specs.Putting.{Put, PutName, IsRecoded, form_octets, all_form}
-use Rattle.dns_view.proofs.{RowLoop.behind_row, RowLoop.field_reaches, Puts.put_then, Puts.put_none, Alone.between_is, Alone.recoded_alone}
-use Rattle.dns_view.proofs.{Alone.slice, Alone.slice_at, Alone.whole_slice, RowOrder.behind_first, RowOrder.none_at, RowOrder.no_more}
+use Rattle.dns_check.proofs.{RowLoop.behind_row, RowLoop.field_reaches, Alone.between_is}
+use Rattle.dns_view.proofs.{Puts.put_then, Puts.put_none, Recoded.recoded_alone}
+use Rattle.dns_check.proofs.Alone.{slice, slice_at, whole_slice}
+use Rattle.dns_view.proofs.RowOrder.{behind_first, none_at, no_more}
 
 -- ---- fields that are copied
 

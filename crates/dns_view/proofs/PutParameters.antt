@@ -9,9 +9,11 @@ use Rattle.dns_fields.specs.Tlvs.{Numbered, ParameterValue, Mandatory, Alpn, NoD
 use Rattle.dns_fields.specs.Tlvs.{parameter_octets, Keys, Names, Nothing, PortNumber, Addresses4, Addresses16, AnyOctets, form_for}
 use Rattle.dns_fields.proofs.{Numbers.length-bytes, Tlvs.length-tlv, Tlvs.tlv_before}
 use Rattle.dns_view.specs.Putting.{Put, short_port}
-use Rattle.dns_view.proofs.{Puts.put_then, ParameterLists.StandEach, ParameterLists.OneOf, ParameterLists.parameters_each, ParameterLists.below_less}
-use Rattle.dns_view.proofs.{Alone.slice, Alone.between_is, Splits.at_split, ParameterOrder.NextOf, ParameterOrder.next_octets}
-use Rattle.dns_view.proofs.HeldLists.{EndsAt, NoTlv, tlv_of, key_there, first_of, none_left}
+use Rattle.dns_view.proofs.Puts.{put_then}
+use Rattle.dns_check.proofs.ParameterLists.{StandEach, OneOf, parameters_each, below_less}
+use Rattle.dns_check.proofs.{Alone.slice, Alone.between_is, Splits.at_split}
+use Rattle.dns_view.proofs.ParameterOrder.{NextOf, next_octets}
+use Rattle.dns_check.proofs.HeldLists.{EndsAt, NoTlv, tlv_of, key_there, first_of, none_left}
 
 -- ---- the octets of a value
 

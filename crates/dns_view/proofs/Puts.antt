@@ -8,8 +8,9 @@ use borrow.Rule.Slice.PartMut.{put_mid}
 use Rattle.dns_fields.specs.{Labels.wire}
 use Rattle.dns_labels.specs.{Labels.name_of, Labels.AreNameOctets, Reading.stop_octets}
 use Rattle.dns_labels.proofs.{ReadingRuns.no_more, Found.name_found, Found.octets_found, Lowered.lowered-of}
-use Rattle.dns_view.specs.{NameEnds.SkipsRun, Putting.cased, Putting.name_form, Putting.Put, Putting.PutName}
-use Rattle.dns_view.proofs.NameSteps.{Going, going_first, going_next}
+use Rattle.dns_names_wire.specs.NameEnds.{SkipsRun}
+use Rattle.dns_view.specs.Putting.{cased, name_form, Put, PutName}
+use Rattle.dns_names_wire.proofs.NameSteps.{Going, going_first, going_next}
 
 pub cased_length : (low : Bool) (s : List ℕ) → length (cased low s) ≡ length s
 cased_length true s = length-map s to_ascii_lowercase

@@ -17,10 +17,13 @@ use Rattle.dns_canonical.proofs.{Comparing.then_kept, Comparing.then_assoc, Comp
 use Rattle.dns_rows.specs.declared.row.{Part.Part, Rule.Rule}
 use Rattle.dns_rows.specs.declared.row.Rule.TheVariants.{Free}
 use Rattle.dns_rows.specs.{Table.kinds_of, Rules.MeetsRow}
-use Rattle.dns_view.specs.{NameEnds.OrdersNames, Parts.Reaches, Putting.IsRecoded, Putting.Put, Rows.IsRow, Rows.HasRow}
+use Rattle.dns_names_wire.specs.NameEnds.{OrdersNames}
+use Rattle.dns_check.specs.{Parts.Reaches, Rows.IsRow, Rows.HasRow}
+use Rattle.dns_view.specs.Putting.{IsRecoded, Put}
 use Rattle.dns_view.specs.RowOrder.{IsPlain, ArePlain, Sized}
-use Rattle.dns_view.proofs.{Alone.between_is, Alone.whole_slice, Alone.recoded_alone, Asked.asks_split, Puts.put_fits, RowLoop.behind_row}
-use Rattle.dns_view.proofs.{RowLoop.field_reaches}
+use Rattle.dns_check.proofs.{Alone.between_is, Alone.whole_slice, Asked.asks_split, RowLoop.behind_row}
+use Rattle.dns_view.proofs.{Recoded.recoded_alone, Puts.put_fits}
+use Rattle.dns_check.proofs.RowLoop.{field_reaches}
 
 pub cmp_same : (s : List ℕ) → slice_cmp nat_cmp s s ≡ Equal
 cmp_same s = tied_itself (lists_total nat_cmp_total) s

@@ -8,7 +8,8 @@ use Rattle.std.proofs.lemmas.Nat.{be_bytes_2, from_be_bytes-to_be_bytes_2}
 use Rattle.std.specs.Int.{bytes_high_first, byte_at, from_be_bytes, w16}
 use Rattle.dns_fields.specs.{Octets.At, Tlvs.Numbered, Tlvs.tlv, Tlvs.tlvs, Tlvs.IsTlv, Tlvs.AreTlvs}
 use Rattle.dns_fields.proofs.Tlvs.{tlv_before, length-tlv}
-use Rattle.dns_view.specs.{Parameters.IsTlvAt, Tlvs.TlvThere, Tlvs.AreComplete, TlvList.tlvs_after, TlvList.NoTlv}
+use Rattle.dns_check.specs.{Parameters.IsTlvAt, Tlvs.TlvThere, Tlvs.AreComplete}
+use Rattle.dns_view.specs.TlvList.{tlvs_after, NoTlv}
 
 abbrev pub two : ℕ → ℕ → ℕ
 two a b = from_be_bytes w16 (a ∷ b ∷ [])

@@ -9,9 +9,10 @@ use Rattle.std.proofs.lemmas.Nat.Bits.{bit_at-zero}
 use Rattle.std.specs.{List.flat_map, List.list_any, List.AllByRecursion, Int.bit_at}
 use Rattle.dns_fields.specs.Bitmaps.{Block, block, IsBlock, has_type, contains, BitmapAt}
 use Rattle.dns_fields.proofs.Bitmaps.{none_great, bitmap_same}
-use Rattle.dns_view.specs.Blocks.{FitsBlock, NoFit}
-use Rattle.dns_view.specs.TypeList.{with_type, types_from, types_left, block_types, types_after, ListsTypes}
-use Rattle.dns_view.proofs.Bitmaps.{from_small, from_below, from_has}
+use Rattle.dns_check.specs.Blocks.{FitsBlock, NoFit}
+use Rattle.dns_check.specs.Blocks.{with_type, types_from}
+use Rattle.dns_view.specs.TypeList.{types_left, block_types, types_after, ListsTypes}
+use Rattle.dns_check.proofs.Bitmaps.{from_small, from_below, from_has}
 
 -- ---- one block
 
@@ -49,9 +50,6 @@ bit_set k w i few inside set = next_left k w i true few inside (eq-eqb (bit_at (
 pub bit_clear : (k : ℕ) (w : List ℕ) (i : ℕ) → length w ≤ 32 → i < 8 * length w → (bit_at (get_or w (i / 8) 0) (7 - i % 8) ≡ 1 → ⊥)
     → types_left (k, w) i ≡ types_left (k, w) (i + 1)
 bit_clear k w i few inside clear = next_left k w i false few inside (ne_eqb (bit_at (get_or w (i / 8) 0) (7 - i % 8)) 1 clear)
-
-pub no_bit : (k : ℕ) (w : List ℕ) (i : ℕ) → 8 * length w ≤ i → types_left (k, w) i ≡ []
-no_bit k w i past = let none : 8 * length w - i ≡ 0 = omega (arith, past) in rw none refl
 
 -- ---- one block after the other
 

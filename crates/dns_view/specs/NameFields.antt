@@ -2,7 +2,7 @@
 use Rattle.std.specs.Prelude.{◌≡◌, ℕ, zero, suc, List, [], ◌∷◌}
 use Rattle.dns_fields.specs.{declared.Kind.Kind, declared.Kind.TheVariants.Name, Fields.Values, Fields.Field}
 use Rattle.dns_fields.specs.{Labels.DomainName, Names.IsNameIn}
-use Rattle.dns_view.specs.declared.name_ref.NameRef.{NameRef}
+use Rattle.dns_view.specs.declared.name.name_ref.NameRef.{NameRef}
 
 -- how many of the fields are names
 abbrev pub names_in : List Kind → ℕ

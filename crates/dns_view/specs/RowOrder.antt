@@ -4,7 +4,7 @@ use Rattle.dns_fields.specs.declared.Kind.{Kind}
 use Rattle.dns_fields.specs.declared.Kind.TheVariants.{Name, Options, Parameters, Bitmap}
 use Rattle.dns_fields.specs.Fields.{Value, Field}
 use Rattle.dns_rows.specs.declared.row.Part.{Part}
-use Rattle.dns_view.specs.Parts.{Reaches}
+use Rattle.dns_check.specs.Parts.{Reaches}
 
 -- the octets that are encoded are the canonical ones
 abbrev pub IsPlain : Kind → Type 0

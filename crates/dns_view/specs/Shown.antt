@@ -4,8 +4,8 @@ use Rattle.std.specs.List.{flat_map}
 use Rattle.dns_fields.specs.declared.Kind.{Kind}
 use Rattle.dns_fields.specs.declared.Kind.TheVariants as kinds
 use Rattle.dns_fields.specs.{Octets.At, Fields.Value, Fields.Values, Fields.Field, Fields.Stands, Tlvs.string}
-use Rattle.dns_view.specs.declared.field.FieldRef.{FieldRef}
-use Rattle.dns_view.specs.declared.field.FieldRef.TheVariants as shown
+use Rattle.dns_view.specs.declared.row.field.FieldRef.{FieldRef}
+use Rattle.dns_view.specs.declared.row.field.FieldRef.TheVariants as shown
 
 -- Of a field that is encoded from i to q: its value; of a name, the message and the offset where it is encoded, before
 -- any pointer; of options, parameters and a bitmap, these octets.

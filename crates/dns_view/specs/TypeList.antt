@@ -1,16 +1,7 @@
 -- The types that the blocks of a bitmap list (RFC 4034, 4.1.2).
 use Rattle.std.specs.Prelude.{◌≡◌, ℕ, zero, suc, ◌+◌, ◌-◌, ◌*◌, nat_le, ◌&&◌, Bool, true, false, if◌then◌else◌, List, [], ◌∷◌, ◌++◌, length, take}
 use Rattle.dns_fields.specs.Bitmaps.{Block, has_type, contains, Rises}
-
--- a number before others, if it is listed
-abbrev pub with_type : Bool → ℕ → List ℕ → List ℕ
-with_type true t ts = t ∷ ts
-with_type false t ts = ts
-
--- of the n numbers from t on those that pass the test
-abbrev pub types_from : (ℕ → Bool) → ℕ → ℕ → List ℕ
-types_from test t zero = []
-types_from test t (suc n) = with_type (test t) t (types_from test (suc t) n)
+use Rattle.dns_check.specs.Blocks.{types_from}
 
 -- the types of a block from bit i of its octets on, in rising order
 abbrev pub types_left : Block → ℕ → List ℕ

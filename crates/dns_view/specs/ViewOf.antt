@@ -2,8 +2,8 @@
 use Rattle.std.specs.Prelude.{◌≡◌, ℕ, List}
 use Rattle.dns_names_wire.specs.State.{Reading}
 use Rattle.dns_rows.specs.declared.row.Part.{Part}
-use Rattle.dns_view.specs.declared.view.RowView.{RowView}
-use Rattle.dns_view.specs.Checks.{FillsRow}
+use Rattle.dns_view.specs.declared.row.view.RowView.{RowView}
+use Rattle.dns_check.specs.Checks.{FillsRow}
 
 -- the view of n octets at the index of a decoder, which fields of the row fill
 pub record IsViewOf (old : Reading) (n : ℕ) (parts : List Part) (r : RowView) : Type 0 where

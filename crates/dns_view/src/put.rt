@@ -5,7 +5,7 @@ ghost use Rattle.std.specs.Char.{to_ascii_lowercase};
 ghost use Rattle.dns_fields.specs.{Labels.DomainName, Names.IsNameIn};
 ghost use Rattle.dns_view.specs.Putting.{Put, PutName, cased};
 
-use crate::names::skip_run;
+use dns_names_wire::name_ends::skip_run;
 
 /// Writes octets at an offset of the buffer, as many as fit, and returns where they end.
 #[inline]

@@ -1,3 +1,13 @@
+pub mod KeyNames
+pub mod ParameterItems
+pub mod Rises
+pub mod KeysOnce
+pub mod ParameterValues
+pub mod ParameterTokens
+pub mod OneReading
+pub mod ParameterSteps
+pub mod WrittenLists
+pub mod WrittenTokens
 pub mod FieldNames
 pub mod Adding
 pub mod Once

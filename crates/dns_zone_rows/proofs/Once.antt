@@ -3,12 +3,12 @@ use Rattle.std.proofs.NetLemmas.Theorems.{IsIpv4Text_unique, IsIpv6Text_unique}
 use Rattle.std.proofs.Common.{◌≡◌, ℕ, true, List, [], ◌∷◌, ◌++◌, drop, find, codes, Option, Some, None, Result, Ok, refl, sym, ap, ◌∙◌, subst, inl, inr}
 use Rattle.std.specs.{List.flat_map, Net.Addr.ipv4_octets, Net.Addr.ipv6_octets, Str.Parse.digits_value}
 use Rattle.dns_fields.specs.{Bitmaps.block, Bitmaps.minimal, declared.Kind.Kind, Fields.Value, Labels.DomainName, Tlvs.string as string_octets}
-use Rattle.dns_text.proofs.TtlSteps.{periods_one}
+use Rattle.dns_tokens.proofs.TtlSteps.{periods_one}
 use Rattle.dns_types.specs.{declared.record_type.RecordType.RecordType, declared.record_type.RecordType.TheVariants.Unknown}
 use Rattle.dns_types.specs.RecordTypes.{number_of, is_named, named_types, record_type_of, type_text, has_name, IsTypeName, IsNumberText, IsTypeText}
 use Rattle.dns_types.proofs.TypeTexts.{reads_name}
 use Rattle.dns_zone_tokens.specs.{Tokens.Token, TypeNames.IsZoneType, Mnemonics.number_named, Forms.ZoneForm, Forms.number, Forms.string}
-use Rattle.dns_zone_parameters.proofs.{Items.same_both, OneReading.one_reading}
+use Rattle.dns_zone_rows.proofs.{ParameterItems.same_both, OneReading.one_reading}
 use Rattle.dns_zone_rows.specs.Rows.{FieldKind, Number, NamedNumber, Ttl, Ipv4, Ipv6, Name, String, Tag, Octets, RestKind, NoToken, SomeStrings, SomeHex}
 use Rattle.dns_zone_rows.specs.Mnemonics.{IsNamedNumber}
 use Rattle.dns_zone_rows.specs.Rows.{SomeBase64, AnyTypes, AnyParameters, RowShape, Gives, FieldGives, IsTypeNumber, RestGives, FieldsGive, RowGives}

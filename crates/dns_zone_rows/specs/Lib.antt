@@ -1,3 +1,11 @@
+pub mod ParameterFaults
+pub mod ParameterKeys
+pub mod ParameterLaws
+pub mod ParameterLists
+pub mod Parameters
+pub mod ParameterSteps
+pub mod ParameterValues
+pub mod ParameterViews
 pub mod Mnemonics
 pub mod RowFaults
 pub mod RowTable

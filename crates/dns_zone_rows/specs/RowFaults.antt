@@ -8,7 +8,7 @@ use Rattle.dns_tokens.specs.{Forms.ttl, Forms.ipv4, Forms.ipv6, Reads.HoldsOfNon
 use Rattle.dns_zone_tokens.specs.{Forms.bare, Forms.number, Forms.StringFault, Forms.TextFault, Forms.IsType, NameTokens.NameFault, Remaining.AmongFault, Remaining.HexFault}
 use Rattle.dns_zone_tokens.specs.{Remaining.Base64Fault, Tokens.Token, Tokens.Cursor, Tokens.tokens_at, Tokens.seen_at, Tokens.with_token}
 use Rattle.dns_zone_tokens.specs.ZoneReads.{IsUndividedError, LacksFirst, WhyFirst, WrongToken}
-use Rattle.dns_zone_parameters.specs.Faults.{ParametersFault}
+use Rattle.dns_zone_rows.specs.ParameterFaults.{ParametersFault}
 use Rattle.dns_zone_rows.specs.{declared.zone_row.ZoneField.ZoneField, declared.zone_row.ZoneRest.ZoneRest, declared.zone_row.ZoneRow.ZoneRow}
 use Rattle.dns_zone_rows.specs.Mnemonics.{named_number, cert_types, algorithms}
 use Rattle.dns_zone_rows.specs.Rows.{FieldKind, Number, NamedNumber, Ttl, Ipv4, Ipv6, Name, String, Tag, Octets, RestKind, NoToken, SomeStrings}

@@ -8,7 +8,7 @@ use Rattle.dns_types.specs.{RecordTypes.number_of, declared.record_type.RecordTy
 use Rattle.dns_tokens.specs.Forms.{ttl, ipv4, ipv6}
 use Rattle.dns_zone_tokens.specs.{NameTokens.name, NameTokens.name_octets, Mnemonics.Named, Remaining.AreHex, Remaining.AreBase64, Remaining.AreStrings, Tokens.Token}
 use Rattle.dns_zone_tokens.specs.Forms.{ZoneForm, bare, number, string, text, IsType}
-use Rattle.dns_zone_parameters.specs.Parameters.{AreParameters}
+use Rattle.dns_zone_rows.specs.Parameters.{AreParameters}
 use Rattle.dns_zone_rows.specs.Mnemonics.{named_number}
 
 -- a field that is one token

@@ -7,6 +7,7 @@ pub mod laws;
 pub mod mnemonics;
 pub mod names;
 mod near;
+pub mod parameters;
 pub mod reading;
 mod remaining;
 pub mod table;

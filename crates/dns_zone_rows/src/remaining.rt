@@ -8,10 +8,10 @@ ghost use Rattle.dns_zone_tokens.specs.Remaining.{AmongFault, HexFault, Base64Fa
 ghost use Rattle.dns_zone_rows.specs.RowFaults.{rest_kind_of, SurplusFault, RestFault};
 ghost use Rattle.dns_zone_rows.specs.Rows.{NoToken, SomeStrings, SomeHex, SomeBase64, RestGives};
 
+use crate::parameters::put_parameters;
 use crate::types::add_types;
 use crate::zone_row::ZoneRest;
 use dns_types::ParseError;
-use dns_zone_parameters::put_parameters;
 use dns_zone_tokens::{
     Field, HexField, StringField, ZoneTokens, no_more, put_base64, put_hex, put_string, some_token,
 };

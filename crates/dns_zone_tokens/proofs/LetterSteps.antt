@@ -152,11 +152,6 @@ wrong_third : (m d : ℕ) (s : List ℕ) → (is_digit d && nat_le (10 * m + (d 
 wrong_third m d s h zero = refl
 wrong_third m d s h (suc n) = rw h refl
 
-pub none_alone : (s : List ℕ) → 0 < length s → length s < 2 → get_or s 0 0 ≡ 92 → BeginsWithNone s
-none_alone [] some few e = absurd (omega arith)
-none_alone (a ∷ []) some few e = none_behind a [] e (λ n. ap (escapes_from backslash) (take-nil n))
-none_alone (a ∷ b ∷ s) some few e = absurd (omega arith)
-
 pub none_short : (s : List ℕ) → 2 ≤ length s → length s < 4 → get_or s 0 0 ≡ 92 → 48 ≤ get_or s 1 0 → get_or s 1 0 ≤ 57 → BeginsWithNone s
 none_short [] some few e low high = absurd (omega arith)
 none_short (a ∷ []) some few e low high = absurd (omega arith)

@@ -189,8 +189,3 @@ completed_why origin own token field (Err e) octets has (inr past) = inr (inr (
 ))
 
 -- ---- a name that is put after other octets
-
-pub name_moved : (origin : Option DomainName) (token : Token) (before octets after : List ℕ) → PutAs (name origin) name_octets [] octets token
-    → after ≡ before ++ octets → PutAs (name origin) name_octets before after token
-name_moved origin token before octets after put same =
-    record { value = put.value; is = put.is; same = same ∙ ap (λ (o : List ℕ). before ++ o) put.same }

@@ -4,8 +4,8 @@ use Rattle.std.specs.{Char.is_ascii, List.list_all, Str.IsUtf8, Str.IsAscii, dec
 use Rattle.std.specs.{Net.Grammar.IsIpv4Text, Net.Grammar.IsIpv6Text, Prelude.codes, Prelude.IsTrue, Prelude.◌&&◌, Prelude.Bool, Prelude.false}
 use Rattle.std.proofs.{lemmas.Bool.Decides.nat_tests, lemmas.Fmt.IsAscii-from_digits}
 use Rattle.std.proofs.lemmas.Str.{IsUtf8-from_ascii, IsUtf8-append, IsUtf8-nil}
-use Rattle.dns_text.specs.Ttl.{Periods, unitless, last, next}
-use Rattle.dns_text.proofs.TtlSteps.{unit_ascii}
+use Rattle.dns_tokens.specs.Ttl.{Periods, unitless, last, next}
+use Rattle.dns_tokens.proofs.TtlSteps.{unit_ascii}
 use Rattle.dns_types.specs.{RecordTypes.is_named, RecordTypes.type_text, RecordTypes.IsTypeText, RecordTypes.record_type_of, declared.record_type.RecordType.RecordType}
 use Rattle.dns_types.specs.declared.record_type.RecordType.TheVariants as types
 use Rattle.dns_tokens.specs.{Forms.ttl, Forms.ipv4, Forms.ipv6, Reads.HoldsOfNone}

@@ -3,7 +3,8 @@ use Rattle.std.proofs.Common.{◌≡◌, ℕ, zero, suc, ◌+◌, ◌-◌, ◌<�
 use Rattle.std.proofs.Common.{sym, subst, ◌∙◌, ap, add-one, arith, Err, ◌⊎◌, inl, inr}
 use Rattle.std.proofs.{Math.Seq.take-suc, Math.Seq.drop-cons, Math.Seq.drop-nil, lemmas.Bool.Decides.nat_tests, lemmas.List.get_or-drop, lemmas.List.length-drop, lemmas.List.length-take-le}
 use Rattle.dns_zone_tokens.specs.Tokens.{Spot, is_blank, is_line_end, begins_gap, ends_run, gap_on, run_on, on, between, run, run_backslash, quotes}
-use Rattle.dns_text.{specs.Quiet.IsQuiet, proofs.QuietSteps.AreQuiet}
+use Rattle.dns_tokens.specs.Quiet.{IsQuiet}
+use Rattle.dns_tokens.proofs.QuietSteps.{AreQuiet}
 use Rattle.dns_zone_tokens.specs.{Spans.lefts_from, TokenSteps.NoGap, TokenSteps.RunTaken, TokenSteps.QuotesRefused, declared.tokens_error.TokensError.TokensError}
 use Rattle.dns_zone_tokens.specs.Tokens.{quotes_backslash, with_token, over, over_comment, refused, tokens_read_from, seen_from}
 use Rattle.dns_zone_tokens.specs.declared.tokens_error.TokensError.TheVariants.{NoParenthesis, LineInQuotes, FurtherLine}

@@ -1,6 +1,6 @@
 -- The tokens of a text of a zone file (RFC 1035, 5.1).
 use Rattle.std.specs.Prelude.{ℕ, zero, suc, Bool, true, false, ◌==◌, ◌||◌, if◌then◌else◌, List, [], ◌∷◌, ◌++◌, Result, Ok, Err}
-pub use Rattle.dns_text.specs.Octets.{is_blank, is_line_end}
+pub use Rattle.dns_tokens.specs.Octets.{is_blank, is_line_end}
 use Rattle.dns_zone_tokens.specs.declared.tokens_error.TokensError.{TokensError}
 use Rattle.dns_zone_tokens.specs.declared.tokens_error.TokensError.TheVariants.{OpenParenthesis, NoParenthesis, OpenQuotes, LineInQuotes, FurtherLine}
 

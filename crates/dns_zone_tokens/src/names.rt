@@ -11,7 +11,7 @@ use crate::letter::Letters;
 use crate::tokens::ZoneToken;
 use arrayvec::ArrayVec;
 use dns_names_wire::Name;
-use dns_text::quiet_len;
+use dns_tokens::quiet_len;
 use dns_types::ParseError;
 
 /// Reads a name and appends its octets, uncompressed and with its case preserved (RFC 1035, section 3.1). The token is

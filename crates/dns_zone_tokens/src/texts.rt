@@ -12,7 +12,7 @@ use crate::letter::first_letter;
 use crate::numbers::decimal;
 use crate::tokens::ZoneToken;
 use crate::type_names::type_named;
-use dns_text::quiet_len;
+use dns_tokens::quiet_len;
 use dns_tokens::texts::ttl_of as ttl_of_text;
 use dns_types::{ParseError, RecordType};
 use std::net::{Ipv4Addr, Ipv6Addr};

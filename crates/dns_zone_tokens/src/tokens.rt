@@ -2,7 +2,7 @@
 
 ghost use Rattle.std.specs.Prelude.{◌≡◌, ℕ, ◌<◌, ◌≤◌, ◌∷◌, false, true, [], length, slice_index, Ok, Err, IfSome, IfNone, IfOk, IfErr, OnOk, OnErr};
 ghost use Rattle.std.specs.Bool.{OnTrue};
-ghost use Rattle.dns_text.specs.Quiet.{IsQuiet};
+ghost use Rattle.dns_tokens.specs.Quiet.{IsQuiet};
 ghost use Rattle.dns_zone_tokens.specs.{Spans.lefts_at, Spans.lefts_from, Views.token_value};
 ghost use Rattle.dns_zone_tokens.specs.Tokens.{begins_gap, ends_run, between, comment, over, over_comment, tokens_read_from, tokens_at, seen_from, seen_at};
 ghost use Rattle.dns_zone_tokens.specs.Tokens.{quotes, with_token, zone_tokens};
@@ -10,7 +10,7 @@ ghost use Rattle.dns_zone_tokens.specs.TokenSteps.{NoGap, RunTaken, QuotesTaken,
 
 use crate::letter::Letters;
 use crate::tokens_error::TokensError;
-use dns_text::{is_blank, is_line_end, quiet_len};
+use dns_tokens::{is_blank, is_line_end, quiet_len};
 use std::marker::Model;
 
 /// A token of a text, as the text has it.

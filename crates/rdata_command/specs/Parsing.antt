@@ -1,7 +1,7 @@
 -- What the words of the command `parse` ask for, and what is printed.
 use Rattle.std.specs.Prelude.{◌≡◌, ◌≢◌, ◌⊎◌, ℕ, Option, List, [], ◌∷◌, codes}
 use Rattle.std.specs.Io.KnownBytes.{Appends}
-use Rattle.dns_text.specs.TextWords.{NoTextWords}
+use Rattle.dns_tokens.specs.TextWords.{NoTextWords}
 use Rattle.dns_types.specs.declared.record_type.RecordType.{RecordType}
 use Rattle.dns_rdata.specs.{declared.record_data.RData.RData, DataTokens.IsDataText, DataTokens.GivesNone}
 use Rattle.rdata_command.specs.{Request.IsTypeWord, Report.IsReport}

@@ -1,5 +1,5 @@
 //! A client that names `dns_rdata` alone, by which the gate shows what is reachable through that one crate: the numbers
-//! of every enum, the items of every list, addresses, and contracts that name a record.
+//! of every enum, the items of every list, addresses, contracts that name a record, and how large values are.
 #![tactic(auto)]
 
 ghost use Rattle.std.specs.Prelude.{◌≡◌, ℕ, length};
@@ -10,12 +10,17 @@ use dns_rdata::sshfp::{Algorithm as SshAlgorithm, FingerprintType};
 use dns_rdata::svcb::{Alpn, SvcParamKey};
 use dns_rdata::tlsa::{CertUsage, Matching, Selector};
 use dns_rdata::{
-    A, AAAA, BinDecoder, DecodeError, MX, Name, RDataRef, RecordType, RecordTypeSet, Restrict,
-    SVCB, TXT,
+    A, AAAA, BinDecoder, DecodeError, MX, Name, RData, RDataRef, RecordType, RecordTypeSet,
+    Restrict, SVCB, TXT,
 };
 use std::alloc::AllocError;
 use std::collections::HashSet;
 use std::net::{Ipv4Addr, Ipv6Addr};
+
+// A value is moved at each call, so its size is part of the time of each.
+const _: () = prove!(size_of::<RData>() <= 144);
+
+const _: () = prove!(size_of::<Name>() <= 56);
 
 /// The numbers of the enums of 16 bits.
 pub fn wide_numbers(

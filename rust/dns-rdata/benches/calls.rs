@@ -1,4 +1,4 @@
-//! Nanoseconds of one call over the samples of `crates/rdata_bench`, in C's way (`dns-rdata-sys`) and in this crate's, by turns: the
+//! Nanoseconds of one call over the samples of `tests/programs/rdata_bench`, in C's way (`dns-rdata-sys`) and in this crate's, by turns: the
 //! least of seven parts each. `cargo bench -- ROUNDS` runs other rounds of a part than 20000.
 
 use std::hint::black_box;
@@ -80,7 +80,7 @@ fn main() {
         .unwrap_or(20_000);
     let path = concat!(
         env!("CARGO_MANIFEST_DIR"),
-        "/../../crates/rdata_bench/data/samples.txt"
+        "/../../tests/programs/rdata_bench/data/samples.txt"
     );
     let Ok(samples) = std::fs::read_to_string(path) else {
         println!("no {path}, which is in the repository");

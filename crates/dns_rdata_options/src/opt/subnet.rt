@@ -179,7 +179,7 @@ fn octets_of_family(family: u16) -> Option<usize>
 }
 
 // The subnet that begins the octets, and how many octets it has.
-#[tactic(auto, using(dns_view::proofs::Subnets::family_first))]
+#[tactic(auto, using(dns_check::proofs::Subnets::family_first))]
 fn read_front(octets: &[u8]) -> Result<(ClientSubnet, usize), DecodeError>
     ensures read { IfOk result (λ x. SubnetAt octets.now 0 x.0 x.1) }
     ensures refused { IfErr result (λ e. IsSubnetError octets.now e) }

@@ -34,7 +34,7 @@ impl BinDecodable for Mandatory {
     /// Reads keys to the end of the decoder's octets. Allocates once. Returns
     /// [`SvcParamMissingValue`](DecodeError::SvcParamMissingValue) if there are no octets, and
     /// [`InsufficientBytes`](DecodeError::InsufficientBytes) if their number is odd.
-    #[tactic(auto, using(crate::proofs::ValueReads::each_more, crate::proofs::ValueReads::keys_read, crate::proofs::ValueReads::keys_odd, crate::proofs::ValueReads::keys_refused, crate::proofs::ValueReads::keys_missing, dns_view::proofs::Splits::stays_then))]
+    #[tactic(auto, using(crate::proofs::ValueReads::each_more, crate::proofs::ValueReads::keys_read, crate::proofs::ValueReads::keys_odd, crate::proofs::ValueReads::keys_refused, crate::proofs::ValueReads::keys_missing, dns_check::proofs::Splits::stays_then))]
     fn read(decoder: &mut BinDecoder<'_>) -> Result<Mandatory, DecodeError>
         ensures reads { ReadsBy MandatoryAt result decoder.old decoder.new }
         ensures refused { IfErr result (λ e. IsValueError Keys (drop decoder.old.index decoder.old.message) e) }

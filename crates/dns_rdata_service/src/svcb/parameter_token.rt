@@ -20,7 +20,7 @@ use base64::DecodeAllocError;
 use base64::engine::general_purpose::STANDARD;
 use dns_names_wire::{Octets, ParseError, SmallOctets};
 use dns_rdata_base::{A, AAAA};
-use dns_text::{next_segment, read_item};
+use dns_tokens::{next_segment, read_item};
 use std::alloc::Global;
 
 // The parameter of a token, as `SVCB::from_tokens` says. In a list a `\` is dropped and the next character is kept. Any

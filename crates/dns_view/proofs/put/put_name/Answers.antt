@@ -1,5 +1,5 @@
 use Rattle.std.proofs.Common.{arith, ◌≤◌, length, take, ℕ, length-take, length-drop}
-use Rattle.dns_view.proofs.NameSteps.{no_first, no_next}
+use Rattle.dns_names_wire.proofs.NameSteps.{no_first, no_next}
 use Rattle.dns_view.proofs.Puts.{putting_first, putting_next, putting_last, run_octets}
 use Rattle.dns_view.proofs.put.put_name.Goals as goal
 

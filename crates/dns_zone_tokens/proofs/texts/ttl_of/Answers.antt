@@ -1,5 +1,5 @@
 use Rattle.std.proofs.Common.{◌≤◌, arith}
-use Rattle.dns_text.specs.Ttl.{unitless}
+use Rattle.dns_tokens.specs.Ttl.{unitless}
 use Rattle.dns_zone_tokens.proofs.texts.ttl_of.Goals as goal
 
 pub returns-in-Some-clause-reads : goal.returns-in-Some-clause-reads

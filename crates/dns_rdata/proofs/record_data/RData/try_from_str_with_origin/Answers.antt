@@ -1,7 +1,7 @@
 use Rattle.std.proofs.Common.{ap, map}
 use Rattle.std.specs.Cow.{cow_str_bytes}
-use Rattle.dns_text.specs.Plain.{IsPlain}
-use Rattle.dns_text.proofs.PlainSteps.{plain_words}
+use Rattle.dns_tokens.specs.Plain.{IsPlain}
+use Rattle.dns_tokens.proofs.PlainSteps.{plain_words}
 use Rattle.dns_rdata.proofs.DataTokens.{items_left, words_left, each_read, text_read, no_tokens_read, refused_early, refused_by_name}
 use Rattle.dns_rdata.proofs.record_data.RData.try_from_str_with_origin.Goals as goal
 

@@ -1,7 +1,7 @@
 use Rattle.std.proofs.Common.{◌≡◌, ◌≤◌, ◌∙◌, ◌+◌, ◌-◌, ap, refl, arith, length, Bor, List, ℕ, Ok}
 use Rattle.dns_names_wire.specs.State.{Reading}
-use Rattle.dns_view.specs.Rows.{is_row}
-use Rattle.dns_view.proofs.RowTests.{row_tested}
+use Rattle.dns_check.specs.Rows.{is_row}
+use Rattle.dns_check.proofs.RowTests.{row_tested}
 use Rattle.dns_rdata.proofs.Views.{RowGives, rows_checked, starts_at, moved, walked, row_as, row_own, row_whole, row_elsewhere, row_refused, row_no_memory}
 use Rattle.dns_rdata.proofs.view.RDataRef.own_result.Goals as goal
 
@@ -22,8 +22,7 @@ pub is_near-requires-clause-row : goal.is_near-requires-clause-row
 is_near-requires-clause-row c = row_tested c.in-Some.parts.now (ap is_row c.in-Some.ensures.some ∙ rows_checked c.args.record_type)
 
 pub returns-then-is_near-clause-own : goal.returns-then-is_near-clause-own
-returns-then-is_near-clause-own c = row_own c.args.record_type c.args.length c.args.decoder.now c.read_slice-taken.new.self (Ok tt) c.in-Some.ensures.read
-    c.index-start.ensures.inside (near_row c)
+returns-then-is_near-clause-own c = row_own c.args.record_type c.args.length c.args.decoder.now c.read_slice-taken.new.self (Ok tt) c.in-Some.ensures.read (near_row c)
 
 pub returns-then-is_near-clause-whole : goal.returns-then-is_near-clause-whole
 returns-then-is_near-clause-whole c = λ here.
@@ -61,7 +60,7 @@ pub skip_row-own-requires-clause-row : goal.skip_row-own-requires-clause-row
 skip_row-own-requires-clause-row c = row_tested c.in-Some.parts.now (ap is_row c.in-Some.ensures.some ∙ rows_checked c.args.record_type)
 
 pub returns-clause-own : goal.returns-clause-own
-returns-clause-own c = row_own _ _ _ _ _ c.in-Some.ensures.read c.index-start.ensures.inside (ends c).row
+returns-clause-own c = row_own _ _ _ _ _ c.in-Some.ensures.read (ends c).row
 
 pub returns-clause-whole : goal.returns-clause-whole
 returns-clause-whole c = row_whole _ _ _ _ _ c.in-Some.ensures.read c.index-start.ensures.octets (omega arith) (ends c).within (ends c).row

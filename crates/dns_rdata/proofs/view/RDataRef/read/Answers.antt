@@ -1,6 +1,6 @@
 use Rattle.std.proofs.Common.{◌∙◌, ap, refl}
 use Rattle.dns_rdata.proofs.Views.{rows_checked, starts_at, view_found, view_row}
-use Rattle.dns_view.specs.Rows.{is_row}
+use Rattle.dns_check.specs.Rows.{is_row}
 use Rattle.dns_rdata.proofs.view.RDataRef.read.Goals as goal
 
 pub near-requires-clause-row : goal.near-requires-clause-row

@@ -1,6 +1,6 @@
 use Rattle.std.proofs.Common.{◌≢◌, ◌∙◌, ap, refl}
 use Rattle.dns_types.specs.declared.error.DecodeError.TheVariants as decode
-use Rattle.dns_view.specs.Rows.{is_row}
+use Rattle.dns_check.specs.Rows.{is_row}
 use Rattle.dns_rdata.specs.ReadErrors.{IsReadError}
 use Rattle.dns_rdata.proofs.Views.{rows_checked, starts_at, view_found, view_row, view_none, view_why}
 use Rattle.dns_rdata.proofs.Steps.{never_followed, row_followed}
@@ -29,7 +29,7 @@ returns-in-Err-clause-refused c =
 -- the error of the row is that of the type
 why : (c : goal.In-Err) → IsReadError c.args.record_type c.args.length c.args.walk.now c.read.new.walk c.in-Err.e × (c.in-Err.e ≢ decode.Memory)
 why c = view_why c.args.record_type c.args.length c.args.walk.now c.args.walk.now c.read.new.walk c.read.new.walk c.in-Err.e c.in-Some.parts.now refl
-    c.in-Some.ensures.some c.in-Some.ensures.read c.index-start.ensures.inside refl c.in-Err.ensures.why
+    c.in-Some.ensures.some c.in-Some.ensures.read refl c.in-Err.ensures.why
 
 pub returns-in-Err-clause-why : goal.returns-in-Err-clause-why
 returns-in-Err-clause-why c = (why c).0

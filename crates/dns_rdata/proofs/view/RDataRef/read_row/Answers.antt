@@ -3,7 +3,7 @@ use Rattle.dns_types.specs.declared.error.DecodeError.TheVariants as decode
 use Rattle.dns_names_wire.specs.State.{Reading}
 use Rattle.dns_rdata.specs.ReadErrors.{IsReadError}
 use Rattle.dns_rdata.proofs.Views.{rows_checked, starts_at, moved, view_found, view_row, view_none, view_why}
-use Rattle.dns_view.specs.Rows.{is_row}
+use Rattle.dns_check.specs.Rows.{is_row}
 use Rattle.dns_rdata.proofs.view.RDataRef.read_row.Goals as goal
 
 pub read-outcome-requires : goal.read-outcome-requires
@@ -30,7 +30,7 @@ why c =
     (behind.message ∙ ap (λ (r : Reading). r.message) same)
     (omega (arith, c.index.ensures.offset, offset, behind.index, ap (λ (r : Reading). r.index) same)) c.index.ensures.inside slice.ensures.taken slice.ensures.lacking in
     view_why c.args.record_type c.args.length old c.at-walk.result walk slice.new.self c.in-Err.e c.args.parts.now same c.requires.parts c.requires.read
-    c.index-start.ensures.inside there c.in-Err.ensures.why
+    there c.in-Err.ensures.why
 
 pub returns-in-Err-clause-why : goal.returns-in-Err-clause-why
 returns-in-Err-clause-why c = (why c).0

@@ -1,6 +1,6 @@
-use Rattle.std.proofs.Common.{◌≡◌, ap, sym, ◌∙◌}
+use Rattle.std.proofs.Common.{ap, sym, ◌∙◌}
 use Rattle.std.specs.Ordering.{is_eq}
-use Rattle.dns_rdata.specs.ViewOrder.{view_eq, view_ties}
+use Rattle.dns_rdata.specs.ViewOrder.{view_ties}
 use Rattle.dns_rdata.proofs.ViewOrder.{told_equal, equal_as}
 use Rattle.dns_rdata.proofs.view_order.RDataRefPartialEq.eq.Goals as goal
 

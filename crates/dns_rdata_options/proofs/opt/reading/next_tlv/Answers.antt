@@ -1,5 +1,5 @@
 use Rattle.std.proofs.Common.{◌≡◌, ◌+◌, ◌-◌, ◌<◌, ◌≤◌, arith}
-use Rattle.dns_view.proofs.OptionLists.{cut_short, tlv_read}
+use Rattle.dns_check.proofs.OptionLists.{cut_short, tlv_read}
 use Rattle.dns_rdata_options.proofs.opt.reading.next_tlv.Goals as goal
 
 pub returns-then-left-size : goal.returns-then-left-size

@@ -1,6 +1,6 @@
 use Rattle.std.proofs.{Common.◌++◌, Common.◌∷◌, Common.[], Common.arith, lemmas.Result.err_from_is_err_and}
 use Rattle.dns_rdata_options.proofs.OptionLists.{tlv_refused, options_refused, options_cut, read_more}
-use Rattle.dns_view.proofs.OptionLists.{options_more}
+use Rattle.dns_check.proofs.OptionLists.{options_more}
 use Rattle.dns_rdata_options.proofs.OptionValues.{refused_option}
 use Rattle.dns_rdata_options.proofs.opt.reading.read_options.Goals as goal
 

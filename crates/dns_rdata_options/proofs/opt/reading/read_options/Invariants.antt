@@ -1,7 +1,7 @@
 use Rattle.std.proofs.Common.{◌≡◌, ◌-◌, true, List}
 use Rattle.dns_fields.specs.Tlvs.{Numbered, OptionValue}
 use Rattle.dns_rdata_options.proofs.OptionLists.{AreRead}
-use Rattle.dns_view.proofs.OptionLists.{ReadsOptions}
+use Rattle.dns_check.proofs.OptionLists.{ReadsOptions}
 use Rattle.dns_rdata_options.proofs.opt.reading.read_options.Given as goal
 
 abbrev pub invariant-tlvs : goal.invariant-tlvs

@@ -3,7 +3,7 @@ use Rattle.std.proofs.lemmas.List.{length-drop}
 use Rattle.std.specs.declared.net.ip_addr.IpAddr.{IpAddr}
 use Rattle.dns_rdata_options.specs.ClientSubnet.{prefix_octets, address_of}
 use Rattle.dns_rdata_options.proofs.Subnets.{subnet_stands}
-use Rattle.dns_view.proofs.Subnets.{family_first, head_first}
+use Rattle.dns_check.proofs.Subnets.{family_first, head_first}
 use Rattle.dns_rdata_options.proofs.opt.subnet.read_front.Goals as goal
 
 pub returns-in_default-clause-refused : goal.returns-in_default-clause-refused

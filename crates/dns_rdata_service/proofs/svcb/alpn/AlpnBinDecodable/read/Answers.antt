@@ -1,6 +1,6 @@
 use Rattle.std.proofs.Common.{inl, inr, refl, arith}
 use Rattle.dns_rdata_service.proofs.Splits.{is_err}
-use Rattle.dns_view.proofs.Splits.{stays_then}
+use Rattle.dns_check.proofs.Splits.{stays_then}
 use Rattle.dns_rdata_service.proofs.ValueReads.{text_behind, names_truncated, names_wrong, names_refused}
 use Rattle.dns_rdata_service.proofs.svcb.alpn.AlpnBinDecodable.read.Goals as goal
 

@@ -1,0 +1,10 @@
+pub mod Tags
+pub mod Blocks
+pub mod ParameterValues
+pub mod Options
+pub mod Parameters
+pub mod Parts
+pub mod Rows
+pub mod RowSteps
+pub mod Checks
+pub mod Tlvs

@@ -1,0 +1,14 @@
+//! Whether octets of a message are the RDATA of a type: what reading needs, for views and for values. RDATA is gone over by
+//! its row of fields. Nothing here allocates.
+//!
+//! - [`check::check_data`] checks RDATA by a row, and makes the error of RDATA that is rejected.
+//! - [`fields`] goes over the fields of a row; [`options`], [`parameters`] and [`bitmap`] over the lists that a field may be.
+#![tactic(auto)]
+
+pub mod bitmap;
+pub mod check;
+pub mod fields;
+mod options;
+pub mod parameter_values;
+mod parameters;
+pub mod tlvs;

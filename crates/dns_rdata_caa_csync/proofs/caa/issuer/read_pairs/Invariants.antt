@@ -1,9 +1,0 @@
-use Rattle.std.proofs.Common.{length}
-use Rattle.dns_rdata_caa_csync.proofs.IssuerSteps.{Pending}
-use Rattle.dns_rdata_caa_csync.proofs.caa.issuer.read_pairs.Given as goal
-
-abbrev pub invariant-pairs : goal.invariant-pairs
-invariant-pairs l = Pending l.octets l.pairs.items l.rest
-
-abbrev pub decreases-pairs : goal.decreases-pairs
-decreases-pairs l = length l.rest

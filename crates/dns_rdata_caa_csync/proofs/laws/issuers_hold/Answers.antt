@@ -1,8 +1,0 @@
-use Rattle.dns_rdata_caa_csync.proofs.Issuers.{one_issuer, issuer_written}
-use Rattle.dns_rdata_caa_csync.proofs.laws.issuers_hold.Goals as goal
-
-pub returns-clause-one : goal.returns-clause-one
-returns-clause-one c = one_issuer
-
-pub returns-clause-written : goal.returns-clause-written
-returns-clause-written c = issuer_written

@@ -1,6 +1,0 @@
-use Rattle.std.proofs.Common.{◌/◌, take, get_or}
-use Rattle.dns_rdata_caa_csync.proofs.Windows.{HasMarks}
-use Rattle.dns_rdata_caa_csync.proofs.record_type_set.writing.mark_window.Given as goal
-
-abbrev pub invariant-loop-at : goal.invariant-loop-at
-invariant-loop-at l = HasMarks l.octets (take l.at l.run) (get_or l.run 0 0 / 256)

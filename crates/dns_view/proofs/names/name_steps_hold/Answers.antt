@@ -1,8 +1,0 @@
-use Rattle.dns_view.proofs.StepCounts.{one_count, step_examples}
-use Rattle.dns_view.proofs.names.name_steps_hold.Goals as goal
-
-pub returns-clause-one : goal.returns-clause-one
-returns-clause-one c = one_count
-
-pub returns-clause-examples : goal.returns-clause-examples
-returns-clause-examples c = step_examples

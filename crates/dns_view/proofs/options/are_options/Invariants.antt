@@ -1,9 +1,0 @@
-use Rattle.std.proofs.Common.{length, ◌-◌}
-use Rattle.dns_view.proofs.OptionLists.{OptionsRead}
-use Rattle.dns_view.proofs.options.are_options.Given as goal
-
-abbrev pub invariant-tlvs : goal.invariant-tlvs
-invariant-tlvs l = OptionsRead l.octets l.offset
-
-abbrev pub decreases-tlvs : goal.decreases-tlvs
-decreases-tlvs l = length l.octets - l.offset

@@ -1,9 +1,0 @@
-use Rattle.std.proofs.Common.{length, ◌-◌}
-use Rattle.dns_view.proofs.TlvParts.{PartsOn}
-use Rattle.dns_view.proofs.tlv.are_complete.Given as goal
-
-abbrev pub invariant-parts : goal.invariant-parts
-invariant-parts l = PartsOn l.octets l.offset
-
-abbrev pub decreases-parts : goal.decreases-parts
-decreases-parts l = length l.octets - l.offset

@@ -1,5 +1,0 @@
-use Rattle.std.proofs.Common.{ℕ, ◌<◌, get_or}
-use Rattle.dns_view.proofs.values.are_ascii.Given as goal
-
-abbrev pub invariant-loop-octet : goal.invariant-loop-octet
-invariant-loop-octet l = (i : ℕ) → i < l.octet-index → get_or l.octets i 0 < 128

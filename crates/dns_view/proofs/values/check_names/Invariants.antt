@@ -1,9 +1,0 @@
-use Rattle.std.proofs.Common.{length}
-use Rattle.dns_view.proofs.ValueForms.{LeftNames}
-use Rattle.dns_view.proofs.values.check_names.Given as goal
-
-abbrev pub invariant-names : goal.invariant-names
-invariant-names l = LeftNames l.octets l.rest
-
-abbrev pub decreases-names : goal.decreases-names
-decreases-names l = length l.rest

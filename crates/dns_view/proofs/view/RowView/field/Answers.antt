@@ -1,5 +1,0 @@
-use Rattle.dns_view.proofs.RowTests.{row_tested}
-use Rattle.dns_view.proofs.view.RowView.field.Goals as goal
-
-pub field_of-requires-clause-row : goal.field_of-requires-clause-row
-field_of-requires-clause-row c = row_tested c.args.self.now.row.now c.args.self.now.checked

@@ -1,5 +1,0 @@
-use Rattle.dns_view.proofs.RowTests.{row_tested}
-use Rattle.dns_view.proofs.view.RowView.near.Goals as goal
-
-pub is_near-requires-clause-row : goal.is_near-requires-clause-row
-is_near-requires-clause-row c = row_tested c.args.row.now c.requires.row

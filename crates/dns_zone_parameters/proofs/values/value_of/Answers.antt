@@ -1,6 +1,0 @@
-use Rattle.std.proofs.Common.{arith}
-use Rattle.dns_zone_parameters.proofs.ValueSteps.{too_long}
-use Rattle.dns_zone_parameters.proofs.values.value_of.Goals as goal
-
-pub returns-then-len-gt65535-clause-reads : goal.returns-then-len-gt65535-clause-reads
-returns-then-len-gt65535-clause-reads c = too_long c.args.key c.args.text.now c.in_ok-octets.octets c.in_ok-octets.ensures.reads (omega arith)
