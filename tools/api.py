@@ -361,7 +361,7 @@ def pages():
         "Made by `tools/api.py` from the sources; the gate compares, and compares the pages of the crates with the interfaces that the",
         "compiler has written (`tests/exports.py`). A page of a crate has each type with the traits that it implements, its public fields",
         "or its variants, and its calls. The signature of a call leads to its source, where its contract is. The last column of its tables says whether",
-        "a call may allocate: `no` is a call that returns no error for memory; that it does not allocate is proved where none of its arguments has an allocator, and tested for the others.",
+        "a call may allocate: `no` is a call that returns no error for memory; that it does not allocate is proved where none of its arguments has an allocator, and tested for those of the others that `tests/calls.txt` names.",
         "[GUARANTEES](GUARANTEES.md) has the contracts in words, [TYPES](TYPES.md) the record types.",
         "",
     ]

@@ -62,8 +62,38 @@ def counts():
     return found
 
 
+def lengths(told):
+    """The table of docs/dev/ARCHITECTURE.md of how long the crates are, with the lines that they have now. A row names its crates."""
+    programs = [path.parent.name for path in (TOP / "crates").glob("*/src") if not path.parent.name.startswith("dns_")]
+    every = [0, 0, 0]
+
+    def row(found):
+        names = re.findall(r"`(\w+)`", found[1]) if "`dns_" in found[1] else programs
+        folders = [TOP / "tests/programs"] if "`tests/programs`" in found[1] else [TOP / "crates" / name for name in names]
+        sums = every if found[1] == "all" else [0, 0, 0]
+        for path in [it for folder in folders for it in folder.rglob("*")] if sums is not every else []:
+            within = path.relative_to(TOP).parts
+            part = {".rt": 0, ".rattle": 0, ".antt": 2 if "proofs" in within else 1}.get(path.suffix)
+            if part is not None and "out" not in within:
+                sums[part] += path.read_text(encoding="utf-8").count("\n")
+        if sums is not every:
+            every[:] = [one + other for one, other in zip(every, sums)]
+        return f"| {found[1]} | {', '.join(f'{it:,}' for it in sums)} | {sum(sums):,} |"
+
+    return re.sub(r"(?m)^\| ([^|]+) \| [\d,]+, [\d,]+, [\d,]+ \| [\d,]+ \|", row, told)
+
+
 def main():
     found, good, bad, skipped = counts(), 0, 0, set()
+    page = TOP / "docs/dev/ARCHITECTURE.md"
+    told = page.read_text(encoding="utf-8")
+    if "--check" not in sys.argv:
+        page.write_text(lengths(told), encoding="utf-8")
+    elif lengths(told) == told:
+        good += 1
+    else:
+        print("docs/dev/ARCHITECTURE.md has other lines of crates than the files have")
+        bad += 1
     for page, text in PLACES:
         path = TOP / page
         names = re.findall(r"\{([\w-]+)\}", text)
