@@ -18,3 +18,4 @@ pub mod Subnets
 pub mod OptionLists
 pub mod Alone
 pub mod TlvParts
+pub mod ByRow

@@ -8,3 +8,4 @@ pub mod Rows
 pub mod RowSteps
 pub mod Checks
 pub mod Tlvs
+pub mod ByRow

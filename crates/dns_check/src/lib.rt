@@ -2,13 +2,19 @@
 //! its row of fields. Nothing here allocates.
 //!
 //! - [`check::check_data`] checks RDATA by a row, and makes the error of RDATA that is rejected.
+//! - [`reading`] reads a record by the row of its type.
 //! - [`fields`] goes over the fields of a row; [`options`], [`parameters`] and [`bitmap`] over the lists that a field may be.
 #![tactic(auto)]
 
+pub mod binary;
 pub mod bitmap;
 pub mod check;
 pub mod fields;
 mod options;
 pub mod parameter_values;
 mod parameters;
+pub mod reading;
 pub mod tlvs;
+
+pub use binary::BinDecodable;
+pub use reading::{DecodesFields, DecodesRow, RecordDataDecodable, read_alone, read_whole};

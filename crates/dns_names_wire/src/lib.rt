@@ -9,7 +9,7 @@ pub mod name_ends;
 pub mod record;
 pub mod walk;
 
-pub use binary::{BinDecodable, BinEncodable};
+pub use binary::BinEncodable;
 pub use decoder::BinDecoder;
 pub use dns_fields::RDataEncoding;
 pub use dns_labels::labels::LabelIter;
@@ -19,5 +19,5 @@ pub use dns_types::{
 };
 pub use encoder::{BinEncoder, Place};
 pub use name::Name;
-pub use record::{DecodesFields, EncodesFields, Record, RecordDataDecodable, emit_in};
+pub use record::{EncodesFields, Record, emit_in};
 pub use walk::Walk;

@@ -4,7 +4,7 @@ ghost use Rattle.std.specs.Prelude.{◌≡◌, ◌≤◌, ◌<◌, ◌↔◌, �
 ghost use Rattle.dns_fields.specs.{Labels.IsName, Labels.lowname, Labels.wire, Names.IsNameIn, Octets.AreOctets};
 ghost use Rattle.dns_fields.specs.{declared.Kind.TheVariants.Name as NameKind, Labels.DomainName};
 ghost use Rattle.dns_labels.specs.{Comparing.lowered_octets, Labels.AreNameOctets, Labels.name_of, Text.HasOctets};
-ghost use Rattle.dns_names_wire.specs.Terms.{ReadsField, ReadsBy, LacksField, EmitsField, Extends, IsNoName};
+ghost use Rattle.dns_names_wire.specs.Terms.{ReadsField, ReadsBy, LacksField, EmitsField, Extends};
 ghost use Rattle.dns_names_wire.specs.NameValues.{root_name, label_count, has_asterisk};
 
 mod building;
@@ -12,7 +12,7 @@ mod comparing;
 mod fqdn_flag;
 mod texts;
 
-use crate::binary::{BinDecodable, BinEncodable};
+use crate::binary::BinEncodable;
 use crate::decoder::BinDecoder;
 use crate::encoder::BinEncoder;
 use dns_labels::NameOctets;
@@ -96,6 +96,26 @@ impl Name {
         // A look at a field gives what holds of all of them.
         let _ = &self.octets;
         self.is_fqdn.get()
+    }
+
+    /// Reads a name (RFC 1035, sections 3.1 and 4.1.4) with case preserved: labels, and then a zero octet, or a
+    /// compression pointer to an earlier offset where the rest is. Allocates once if the name has more than 33 octets
+    /// without pointers.
+    ///
+    /// # Errors
+    ///
+    /// The decoder stays where it was.
+    ///
+    /// - [`NameInvalid`](DecodeError::NameInvalid): the name is damaged.
+    /// - [`Memory`](DecodeError::Memory): the allocation failed.
+    pub fn read(decoder: &mut BinDecoder<'_>) -> Result<Name, DecodeError>
+        ensures reads { ReadsBy IsNameIn result decoder.old decoder.new }
+        ensures field { ReadsField NameKind (λ x. x) result decoder.old decoder.new }
+        ensures lacking { IfErr result (λ e. (e ≡ DecodeError.Memory) ⊎ ((e ≡ DecodeError.NameInvalid) × LacksField decoder.old NameKind)) }
+        ensures unchanged { OnErr result (decoder.new ≡ decoder.old) }
+    {
+        let octets = decoder.read_name()?;
+        Ok(Name::from_octets(octets, true))
     }
 
     /// Makes it fully qualified, or relative; the labels stay.
@@ -195,32 +215,6 @@ fn are_octets(octets: &[u8])
     ensures { AreOctets octets.now }
 {
     let _ = octets;
-}
-
-impl BinDecodable for Name {
-    ghost stands = { IsNameIn };
-
-    ghost refuses = { IsNoName };
-
-    /// Reads a name (RFC 1035, sections 3.1 and 4.1.4) with case preserved: labels, and then a zero octet, or a
-    /// compression pointer to an earlier offset where the rest is. Allocates once if the name has more than 33 octets
-    /// without pointers.
-    ///
-    /// # Errors
-    ///
-    /// The decoder stays where it was.
-    ///
-    /// - [`NameInvalid`](DecodeError::NameInvalid): the name is damaged.
-    /// - [`Memory`](DecodeError::Memory): the allocation failed.
-    fn read(decoder: &mut BinDecoder<'_>) -> Result<Name, DecodeError>
-        ensures reads { ReadsBy IsNameIn result decoder.old decoder.new }
-        ensures field { ReadsField NameKind (λ x. x) result decoder.old decoder.new }
-        ensures lacking { IfErr result (λ e. (e ≡ DecodeError.Memory) ⊎ ((e ≡ DecodeError.NameInvalid) × LacksField decoder.old NameKind)) }
-        ensures unchanged { OnErr result (decoder.new ≡ decoder.old) }
-    {
-        let octets = decoder.read_name()?;
-        Ok(Name::from_octets(octets, true))
-    }
 }
 
 impl BinEncodable for Name {

@@ -1,0 +1,83 @@
+-- Records that are read by their rows.
+use Rattle.std.proofs.Common.{◌≡◌, ◌≢◌, ℕ, ◌+◌, ◌<◌, ◌≤◌, ◌&&◌, ◌⊎◌, inl, inr, List, [], ◌∷◌, ◌++◌, length, true, false, refl, sym, ◌∙◌, arith, subst, Result, Ok, Err}
+use Rattle.dns_types.specs.declared.error.DecodeError.{DecodeError}
+use Rattle.dns_types.specs.declared.error.DecodeError.TheVariants as decode
+use Rattle.dns_fields.specs.declared.Kind.{Kind}
+use Rattle.dns_fields.specs.declared.Kind.TheVariants.{Number, Octets, Name, CharacterString, CharacterStrings, Rest, Options, Parameters, Bitmap}
+use Rattle.dns_fields.specs.{Fields.Value, Fields.Values, Fields.Stands, Tlvs.string}
+use Rattle.dns_names_wire.specs.{State.Reading, Facts.Facts, Terms.Lacks, Terms.Region, Terms.NoRegion, Terms.RefusedRegion, Terms.ReadsIf, Terms.ReadsRegion}
+use Rattle.dns_names_wire.specs.{Terms.IsLong, Terms.AllEnd, Terms.StaysBehind, Terms.StringsReach, Terms.UnlessMemory, Terms.moved}
+use Rattle.dns_names_wire.proofs.{RegionReads.Given, RegionReads.fields_region, RegionReads.filled_region, FieldReads.unless_map}
+use Rattle.dns_rows.specs.{declared.row.Part.Part, declared.row.Rule.Rule, Table.kinds_of, Rules.MeetsRow}
+use Rattle.dns_rows.specs.declared.row.Rule.TheVariants as rules
+use Rattle.dns_check.specs.{Parts.Ends, Rows.HasRow, Rows.NoRow, Rows.RowReached, Rows.SkipsRow, Rows.TookRow, Rows.RefusedRow}
+use Rattle.dns_check.specs.ByRow.{NoneTaken, ReadsRow}
+use Rattle.dns_check.specs.Checks.{FillsRow}
+
+unless_given : {P : Type 0} (e : DecodeError) → P → UnlessMemory e P
+unless_given decode.Memory p = tt
+unless_given e p = p
+
+-- ---- a row that ends with the RDATA ends where its last field must
+
+strings_end : (end : ℕ) (strings : List (List ℕ)) → StringsReach end strings end
+strings_end end strings = record { reach = omega arith; last = λ front s e. omega arith }
+
+ends_at : (k : Kind) (r : Rule) (end : ℕ) (v : Value k) → Ends k r end v end
+ends_at (Number w) r end v = tt
+ends_at (Octets w) r end v = tt
+ends_at Name r end v = tt
+ends_at CharacterString rules.Tag end v = omega arith
+ends_at CharacterString r end v = tt
+ends_at CharacterStrings r end v = strings_end end v
+ends_at Rest r end v = refl
+ends_at Options r end v = refl
+ends_at Parameters r end v = (omega arith, omega arith)
+ends_at Bitmap r end v = refl
+
+reached_end : (row : List Part) (end : ℕ) (vs : Values (kinds_of row)) → RowReached row end vs end
+reached_end [] end vs = tt
+reached_end (p ∷ []) end vs = ends_at p.kind p.rule end vs.0
+reached_end (p ∷ (l ∷ row)) end vs = reached_end (l ∷ row) end vs.1
+
+-- ---- no value
+
+pub none_region : (row : List Part) (n : ℕ) (old : Reading) → NoneTaken row n old → NoRegion old.message old.index n (kinds_of row) (MeetsRow row)
+none_region row n old h = record { none = λ vs w. h.none vs (old.index + n) w.stands w.holds (reached_end row (old.index + n) vs) }
+
+pub no_row_region : (row : List Part) (n : ℕ) (m : List ℕ) (p : ℕ) → NoRow m p row (p + n) → NoRegion m p n (kinds_of row) (MeetsRow row)
+no_row_region row n m p h = record { none = λ vs w. h.none (record { values = vs; stands = w.stands; meets = w.holds }) }
+
+pub filled_no_region : {row : List Part} {n : ℕ} {m : List ℕ} {p : ℕ} → NoRegion m p n (kinds_of row) (MeetsRow row) → FillsRow m p n row → ⊥
+filled_no_region h f = h.none f.has.values (record { octets = f.octets; short = f.short; within = f.within; stands = f.has.stands; holds = f.has.meets })
+
+-- ---- readers that answer whether there is a value
+
+-- of fields that all say where they end
+pub straight_row : {T : Type 0} (f : Facts T) (r : Result T DecodeError) (old new : Reading) (n : ℕ) → IsLong (kinds_of f.row) → AllEnd (kinds_of f.row) → Given old n
+    → ReadsIf (kinds_of f.row) (λ vs e. MeetsRow f.row vs) f.fields r old new → ReadsRow f n r old new
+straight_row f (Ok x) old new n long ends g h = fields_region (kinds_of f.row) (MeetsRow f.row) f.fields (Ok x) old new n long ends g h
+straight_row f (Err e) old new n long ends g h =
+    (h.behind, unless_map e _ _ (λ (l : Lacks old (kinds_of f.row) (λ vs e. MeetsRow f.row vs)). record { none = λ vs q s m r. l.none vs q s m }) h.none)
+
+-- ---- at an offset of the decoder's message
+
+behind_of : (row : List Part) (n : ℕ) (r : Result (Unit {0}) DecodeError) (old new : Reading) → SkipsRow row n r old new → StaysBehind old new
+behind_of row n (Ok x) old new h = h.behind
+behind_of row n (Err e) old new h = h.behind
+
+pub skips_at : (row : List Part) (n : ℕ) (r : Result (Unit {0}) DecodeError) (d new : Reading) (start : ℕ) → SkipsRow row n r (moved d start) new
+    → SkipsRow row n r (moved d start) (moved d new.index)
+skips_at row n r d new start h =
+    let same : new.message ≡ d.message = (behind_of row n r (moved d start) new h).message in
+    subst (λ (m : List ℕ). SkipsRow row n r (moved d start) (record { message = m; index = new.index })) same h
+
+-- why RDATA is rejected, and that no value is there
+pub refused_row : (row : List Part) (n : ℕ) (e : DecodeError) (old new : Reading) → RefusedRow row n old e new
+    → RefusedRegion e old n (kinds_of row) (MeetsRow row) new
+refused_row row n e old new h = record { behind = h.behind; none = unless_given e (no_row_region row n old.message old.index h.none) }
+
+-- a reader that finds nothing
+pub refused_none : (row : List Part) (n : ℕ) (e : DecodeError) (old : Reading) → UnlessMemory e (NoneTaken row n old)
+    → UnlessMemory e (NoRegion old.message old.index n (kinds_of row) (MeetsRow row))
+refused_none row n e old h = unless_map e _ _ (none_region row n old) h

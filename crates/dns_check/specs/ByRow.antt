@@ -1,0 +1,42 @@
+-- Records that are read by the rows of their types.
+use Rattle.std.specs.Prelude.{◌≡◌, ◌≢◌, ℕ, ◌+◌, ◌&&◌, Bool, true, false, List, [], ◌∷◌, Result, Ok, Err}
+use Rattle.dns_types.specs.declared.error.DecodeError.{DecodeError}
+use Rattle.dns_fields.specs.declared.Kind.{Kind}
+use Rattle.dns_fields.specs.Fields.{Values, Stands}
+use Rattle.dns_names_wire.specs.{State.Reading, Facts.Facts}
+use Rattle.dns_names_wire.specs.Terms.{Refused, Region, StaysBehind, TookRegion, UnlessMemory}
+use Rattle.dns_rows.specs.{declared.row.Part.Part, declared.row.Rule.Rule, Table.kinds_of, Rules.MeetsRow}
+use Rattle.dns_rows.specs.declared.row.Rule.TheVariants as rules
+use Rattle.dns_check.specs.Rows.{RowError, RowReached, ends_itself}
+
+-- no fields of the row are there, of n octets of RDATA, of which the last one ends where it must
+pub record NoneTaken (row : List Part) (n : ℕ) (old : Reading) : Type 0 where
+  pub none : (vs : Values (kinds_of row)) (q : ℕ) → Stands old.message old.index (kinds_of row) vs q → MeetsRow row vs
+      → RowReached row (old.index + n) vs q → ⊥
+
+-- Takes fields of the row exactly if they are there. Where they end with the RDATA, they fill it; where they end elsewhere, no
+-- fields do. Which error is returned is left open, but for `Memory`.
+abbrev pub ReadsRow : {T : Type 0} → Facts T → ℕ → Result T DecodeError → Reading → Reading → Type 0
+ReadsRow f n (Ok x) old new = TookRegion old n (kinds_of f.row) (MeetsRow f.row) (f.fields x) new
+ReadsRow f n (Err e) old new = StaysBehind old new × UnlessMemory e (NoneTaken f.row n old)
+
+-- the n octets are these fields, and the decoder is behind them
+pub record TookWhole (old : Reading) (n : ℕ) (row : List Part) (vs : Values (kinds_of row)) (new : Reading) : Type 0 where
+  pub message : new.message ≡ old.message
+  pub index : new.index ≡ old.index + n
+  pub region : Region old.message old.index n (kinds_of row) (MeetsRow row) vs
+
+-- the field says itself where it ends, and why it is rejected does not depend on RDLENGTH
+abbrev pub ends_alone : Rule → Kind → Bool
+ends_alone (rules.AtLeast n) k = false
+ends_alone rules.Tag k = false
+ends_alone r k = ends_itself k
+
+abbrev pub all_alone : List Part → Bool
+all_alone [] = true
+all_alone (p ∷ row) = ends_alone p.rule p.kind && all_alone row
+
+-- why a record is rejected that is read without an RDLENGTH: by its row, whatever RDLENGTH is; and no fields are there
+abbrev pub RecordRefuses : {T : Type 0} → Facts T → Reading → DecodeError → Reading → Type 0
+RecordRefuses f old e new = ((n : ℕ) → UnlessMemory e (RowError f.row n old e new))
+    × Refused e old (kinds_of f.row) (λ vs _. MeetsRow f.row vs) new
