@@ -14,8 +14,11 @@ use crate::OrderedRecord;
 use bstr::BStr;
 use dns_canonical::{Head, Step, text_behind};
 use dns_check::DecodesRow;
+use dns_names_wire::{
+    BinDecoder, BinEncodable, BinEncoder, DecodeError, Octets, ParseError, ProtoError, Record,
+    Restrict,
+};
 use dns_rows::{Part, row};
-use dns_names_wire::{BinDecoder, BinEncodable, BinEncoder, DecodeError, Octets, ParseError, ProtoError, Record, Restrict};
 use dns_tokens::all_texts;
 use dns_types::Strings;
 use std::alloc::{AllocError, Global};
