@@ -93,7 +93,7 @@ pub refused_value : {old a b new : Reading} {e : DecodeError} (n f t : ℕ) (tag
 refused_value {old} {a} {b} {new} {e} n f t tag x y z g why = inr (inr (record {
   flags = f;
   tag = tag;
-  took = took_then x (took_then (text_taken refl y z) (took_last _));
+  took = took_then x (took_then (text_taken y z) (took_last _));
   is_tag = g.0;
   fits = omega (arith, g.1, z.field.is.0);
   error = ⊎_elim inl (λ l. inr (l.0, omega (arith, l.1, g.1, ap length (z.message ∙ y.message ∙ x.message), moved x y z))) why;
@@ -108,7 +108,7 @@ caa_taken {old} {a} {b} {c} {new} n f t tag value lt x y z w g =
     let first : TookField old (Number 1) (f % 128 % 128 + cond (nat_le 128 f) 128 0) a =
     subst (λ (k : ℕ). TookField old (Number 1) k a) (flags_back f lt) x in
     let last : TookField c Rest value new = record { message = w.message; field = record { is = w.field.is.1 } } in (
-      took_then first (took_then (text_taken refl y z) (took_then last (took_last _))),
+      took_then first (took_then (text_taken y z) (took_then last (took_last _))),
       (omega (arith, g.1, moved x y z, w.field.is.0, w.field.is.1.ends), (g.0, tt)),
     )
 
