@@ -130,8 +130,8 @@ impl<'a> BinDecoder<'a> {
         self.walk.index()
     }
 
-    /// The decoder without its allocator, at this offset. This one stays where it is; [`follow`](BinDecoder::follow)
-    /// goes to where the walk went.
+    /// The decoder without its allocator, at this offset. This one stays where it is; [`follow`](BinDecoder::follow) moves
+    /// it to where the walk went.
     #[inline]
     pub fn walk(&self) -> Walk<'a>
         ensures { result ≡ self.now }
@@ -139,12 +139,13 @@ impl<'a> BinDecoder<'a> {
         Walk::at(self.message(), self.index())
     }
 
-    /// Goes to where a walk is, and goes on in its message.
+    /// Goes to where a walk over the same message is.
     #[inline]
-    pub fn follow(&mut self, walk: Walk<'a>)
-        ensures { self.new ≡ walk.entry }
+    pub fn follow(&mut self, walk: &Walk<'a>)
+        requires { walk.now.message ≡ self.old.message }
+        ensures { self.new ≡ walk.now }
     {
-        self.walk = walk;
+        self.walk.move_to(walk.index());
     }
 
     /// How many octets of the message are left.
@@ -213,7 +214,7 @@ impl<'a> BinDecoder<'a> {
     {
         let mut ahead = self.walk();
         let octets = Vec::from_slice(self.alloc, ahead.read_slice(len)?)?;
-        self.walk = ahead;
+        self.follow(&ahead);
         Ok(Restrict::new(octets))
     }
 
@@ -237,7 +238,7 @@ impl<'a> BinDecoder<'a> {
     {
         let mut ahead = self.walk();
         let octets = SmallOctets::from_slice(self.alloc, ahead.read_slice(len)?)?;
-        self.walk = ahead;
+        self.follow(&ahead);
         Ok(Restrict::new(octets))
     }
 
