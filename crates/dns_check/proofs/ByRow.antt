@@ -4,14 +4,14 @@ use Rattle.dns_types.specs.declared.error.DecodeError.{DecodeError}
 use Rattle.dns_types.specs.declared.error.DecodeError.TheVariants as decode
 use Rattle.dns_fields.specs.declared.Kind.{Kind}
 use Rattle.dns_fields.specs.declared.Kind.TheVariants.{Number, Octets, Name, CharacterString, CharacterStrings, Rest, Options, Parameters, Bitmap}
-use Rattle.dns_fields.specs.{Fields.Value, Fields.Values, Fields.Stands, Tlvs.string}
+use Rattle.dns_fields.specs.{Octets.AreOctets, Fields.Value, Fields.Values, Fields.Stands, Tlvs.string}
 use Rattle.dns_names_wire.specs.{State.Reading, Facts.Facts, Terms.Lacks, Terms.Region, Terms.NoRegion, Terms.RefusedRegion, Terms.ReadsIf, Terms.ReadsRegion}
 use Rattle.dns_names_wire.specs.{Terms.IsLong, Terms.AllEnd, Terms.StaysBehind, Terms.StringsReach, Terms.UnlessMemory, Terms.moved}
-use Rattle.dns_names_wire.proofs.{RegionReads.Given, RegionReads.fields_region, RegionReads.filled_region, FieldReads.unless_map}
+use Rattle.dns_names_wire.proofs.{RegionReads.Given, RegionReads.fields_region, RegionReads.filled_region, FieldReads.unless_map, FieldReads.stands_within}
 use Rattle.dns_rows.specs.{declared.row.Part.Part, declared.row.Rule.Rule, Table.kinds_of, Rules.MeetsRow}
 use Rattle.dns_rows.specs.declared.row.Rule.TheVariants as rules
 use Rattle.dns_check.specs.{Parts.Ends, Rows.HasRow, Rows.NoRow, Rows.RowReached, Rows.SkipsRow, Rows.TookRow, Rows.RefusedRow}
-use Rattle.dns_check.specs.ByRow.{NoneTaken, ReadsRow}
+use Rattle.dns_check.specs.ByRow.{NoneTaken, ReadsRow, RowRejected, RowThere}
 use Rattle.dns_check.specs.Checks.{FillsRow}
 
 unless_given : {P : Type 0} (e : DecodeError) → P → UnlessMemory e P
@@ -58,7 +58,7 @@ pub straight_row : {T : Type 0} (f : Facts T) (r : Result T DecodeError) (old ne
     → ReadsIf (kinds_of f.row) (λ vs e. MeetsRow f.row vs) f.fields r old new → ReadsRow f n r old new
 straight_row f (Ok x) old new n long ends g h = fields_region (kinds_of f.row) (MeetsRow f.row) f.fields (Ok x) old new n long ends g h
 straight_row f (Err e) old new n long ends g h =
-    (h.behind, unless_map e _ _ (λ (l : Lacks old (kinds_of f.row) (λ vs e. MeetsRow f.row vs)). record { none = λ vs q s m r. l.none vs q s m }) h.none)
+    (h.behind, unless_map e _ _ (λ (l : Lacks old (kinds_of f.row) (λ vs e. MeetsRow f.row vs)). inl (record { none = λ vs q s m r. l.none vs q s m })) h.none)
 
 -- ---- at an offset of the decoder's message
 
@@ -81,3 +81,36 @@ refused_row row n e old new h = record { behind = h.behind; none = unless_given 
 pub refused_none : (row : List Part) (n : ℕ) (e : DecodeError) (old : Reading) → UnlessMemory e (NoneTaken row n old)
     → UnlessMemory e (NoRegion old.message old.index n (kinds_of row) (MeetsRow row))
 refused_none row n e old h = unless_map e _ _ (none_region row n old) h
+
+-- ---- lists: a value is made of octets that were checked
+
+-- the same of a decoder that stays where it is
+pub there_at : {row : List Part} {n i : ℕ} {d w new : Reading} → AreOctets d.message → n < 65536 → w ≡ d → TookRow row n w new → i ≡ new.index
+    → RowThere row n d (moved d i)
+there_at {row} {n} {i} {d} {w} {new} are short same h is =
+    let t : TookRow row n d new = subst (λ (r : Reading). TookRow row n r new) same h in
+    let m : record { message = new.message; index = new.index } ≡ moved d i = rw (t.behind.message, is) refl in
+    record { octets = are; short = short; took = subst (λ (r : Reading). TookRow row n d r) m t }
+
+-- its fields are those that are there
+pub row_reads : {T : Type 0} (f : Facts T) (x : T) {n : ℕ} {old new : Reading} → IsLong (kinds_of f.row) → (h : RowThere f.row n old new)
+    → f.fields x ≡ h.took.fields.values → ReadsRow f n (Ok x) old new
+row_reads f x {n} {old} {new} long h same = record {
+  behind = h.took.behind;
+  here = λ e.
+      let s : Stands old.message old.index (kinds_of f.row) (f.fields x) (old.index + n) = subst (λ (q : ℕ). Stands old.message old.index (kinds_of f.row) (f.fields x) q) e
+      (subst (λ (vs : Values (kinds_of f.row)). Stands old.message old.index (kinds_of f.row) vs new.index) (sym same) h.took.fields.stands) in
+      record {
+        octets = h.octets;
+        short = h.short;
+        within = stands_within old.message old.index (kinds_of f.row) (f.fields x) (old.index + n) long s;
+        stands = s;
+        holds = subst (MeetsRow f.row) (sym same) h.took.fields.meets;
+      };
+  elsewhere = λ ne. no_row_region f.row n old.message old.index (h.took.elsewhere ne);
+}
+
+-- and nothing was taken
+pub rejected_row : {T : Type 0} (f : Facts T) {n : ℕ} (e : DecodeError) {old new : Reading} → StaysBehind old new → RowRejected f.row n old
+    → ReadsRow f n (Err e) old new
+rejected_row f e behind h = (behind, unless_given e (inr h))

@@ -1,13 +1,13 @@
 //! Records that are read by the rows of their types. A record's reader answers whether there is a value, and takes it in one
 //! pass; the error of RDATA that is rejected is made by its row, so that no error is defined twice.
 
-ghost use Rattle.std.specs.Prelude.{◌≡◌, ◌≤◌, true, ℕ, length as size, IfOk, IfErr};
+ghost use Rattle.std.specs.Prelude.{◌≡◌, ◌≤◌, ◌-◌, true, ℕ, length as size, take, drop, IfOk, IfErr, OnOk, OnErr};
 ghost use Rattle.dns_rows.specs.{Table.kinds_of, Rules.MeetsRow};
 ghost use Rattle.dns_names_wire.specs.Terms.{moved, AllEnd, IsLong, NoRegion, ReadsBy, ReadsIf, ReadsRegion, StaysBehind, UnlessMemory};
 ghost use Rattle.dns_names_wire.specs.Facts.{RecordStands};
 ghost use Rattle.dns_check.specs.Rows.{is_row, RowError, SkipsRow};
 ghost use Rattle.dns_check.specs.Checks.{IsRowError};
-ghost use Rattle.dns_check.specs.ByRow.{all_alone, NoneTaken, ReadsRow, RecordRefuses, TookWhole};
+ghost use Rattle.dns_check.specs.ByRow.{all_alone, NoneTaken, ReadsRow, RecordRefuses, RowRejected, RowThere, TookWhole};
 
 use crate::binary::BinDecodable;
 use crate::check::check_data;
@@ -234,4 +234,61 @@ pub fn read_alone<T: DecodesFields>(decoder: &mut BinDecoder<'_>) -> Result<T, D
             Ok(()) => Err(DecodeError::Memory),
         },
     }
+}
+
+// ---- lists: their octets are checked before a value is made of them
+
+/// Goes over the row of RDATA of this length, and returns where its fields end. The decoder stays where it is. Allocates nothing.
+///
+/// # Errors
+///
+/// That of the first field that is missing or breaks a rule of the row.
+#[inline(never)]
+pub fn row_end(
+    decoder: &BinDecoder<'_>,
+    row: &[Part],
+    length: Restrict<u16>,
+) -> Result<usize, DecodeError>
+    requires row { is_row row.now ≡ true }
+    ensures there { IfOk result (λ end. RowThere row.now length decoder.now (moved decoder.now end)) }
+    ensures inside { IfOk result (λ end. (decoder.now.index ≤ end) × (end ≤ size decoder.now.message)) }
+    ensures rejected { OnErr result (RowRejected row.now length decoder.now) }
+{
+    let mut walk = Walk::at(decoder.message(), decoder.index());
+    match skip_row(
+        &mut walk,
+        row,
+        length.unverified() as usize,
+        &mut usize::MAX,
+    ) {
+        Ok(()) => Ok(walk.index()),
+        Err(e) => Err(e),
+    }
+}
+
+/// Takes the fields of a row, and returns their octets. Allocates nothing.
+///
+/// # Errors
+///
+/// That of the first field that is missing or breaks a rule of the row. The decoder is unchanged then.
+#[inline]
+pub fn take_row<'a>(
+    decoder: &mut BinDecoder<'a>,
+    row: &[Part],
+    length: Restrict<u16>,
+) -> Result<&'a [u8], DecodeError>
+    requires row { is_row row.now ≡ true }
+    ensures there { OnOk result (RowThere row.now length decoder.old decoder.new) }
+    ensures octets { IfOk result (λ octets. octets.now ≡ take (decoder.new.index - decoder.old.index) (drop decoder.old.index decoder.old.message)) }
+    ensures rejected { OnErr result (RowRejected row.now length decoder.old) }
+    ensures unchanged { OnErr result (decoder.new ≡ decoder.old) }
+{
+    let start = decoder.index();
+    let end = match row_end(decoder, row, length) {
+        Ok(end) => end,
+        Err(e) => return Err(e),
+    };
+    let message = decoder.message();
+    move_to(decoder, end);
+    Ok(&message[start..end])
 }
