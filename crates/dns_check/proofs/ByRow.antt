@@ -4,9 +4,10 @@ use Rattle.dns_types.specs.declared.error.DecodeError.{DecodeError}
 use Rattle.dns_types.specs.declared.error.DecodeError.TheVariants as decode
 use Rattle.dns_fields.specs.declared.Kind.{Kind}
 use Rattle.dns_fields.specs.declared.Kind.TheVariants.{Number, Octets, Name, CharacterString, CharacterStrings, Rest, Options, Parameters, Bitmap}
-use Rattle.dns_fields.specs.{Octets.AreOctets, Fields.Value, Fields.Values, Fields.Stands, Tlvs.string}
+use Rattle.dns_fields.specs.{Octets.AreOctets, Fields.EndsItself, Fields.Field, Fields.Value, Fields.Values, Fields.Stands, Tlvs.string}
 use Rattle.dns_names_wire.specs.{State.Reading, Facts.Facts, Terms.Lacks, Terms.Region, Terms.NoRegion, Terms.RefusedRegion, Terms.ReadsIf, Terms.ReadsRegion}
-use Rattle.dns_names_wire.specs.{Terms.IsLong, Terms.AllEnd, Terms.StaysBehind, Terms.StringsReach, Terms.UnlessMemory, Terms.moved}
+use Rattle.dns_names_wire.specs.{Terms.IsLong, Terms.AllEnd, Terms.StaysBehind, Terms.StringsReach, Terms.UnlessMemory, Terms.moved, Terms.TookField, Terms.LacksOctets}
+use Rattle.dns_fields.proofs.{FieldLaws.field_end, FieldLaws.field_same, Numbers.length-bytes}
 use Rattle.dns_names_wire.proofs.{RegionReads.Given, RegionReads.fields_region, RegionReads.filled_region, FieldReads.unless_map, FieldReads.stands_within}
 use Rattle.dns_rows.specs.{declared.row.Part.Part, declared.row.Rule.Rule, Table.kinds_of, Rules.MeetsRow}
 use Rattle.dns_rows.specs.declared.row.Rule.TheVariants as rules
@@ -114,3 +115,22 @@ row_reads f x {n} {old} {new} long h same = record {
 pub rejected_row : {T : Type 0} (f : Facts T) {n : ℕ} (e : DecodeError) {old new : Reading} → StaysBehind old new → RowRejected f.row n old
     → ReadsRow f n (Err e) old new
 rejected_row f e behind h = (behind, unless_given e (inr h))
+
+-- memory ran out
+pub memory_row : {T : Type 0} (f : Facts T) (n : ℕ) {e : DecodeError} {old new : Reading} → StaysBehind old new → e ≡ decode.Memory → ReadsRow f n (Err e) old new
+memory_row f n {e} {old} behind m =
+    (behind, subst (λ (x : DecodeError). UnlessMemory x (NoneTaken f.row n old ⊎ RowRejected f.row n old)) (sym m) tt)
+
+-- the first of the fields that are there is the one that was taken
+pub took_first : {k : Kind} (kinds : List Kind) {v : Value k} (vs : Values (k ∷ kinds)) {old b : Reading} (e : ℕ) → EndsItself k → TookField old k v b
+    → Stands old.message old.index (k ∷ kinds) vs e → (v ≡ vs.0) × Stands b.message b.index kinds vs.1 e
+took_first {k} kinds {v} vs {old} {b} e ends f s =
+    let there : s.0 ≡ b.index = field_end ends s.1 f.field in (
+      field_same f.field (subst (λ (q : ℕ). Field old.message old.index k vs.0 q) there s.1),
+      subst (λ (m : List ℕ). Stands m b.index kinds vs.1 e) (sym f.message) (subst (λ (q : ℕ). Stands old.message q kinds vs.1 e) there s.2),
+    )
+
+-- it is not missing
+pub number_there : {w : ℕ} (kinds : List Kind) (vs : Values (Number w ∷ kinds)) {old : Reading} (e : ℕ) → Stands old.message old.index (Number w ∷ kinds) vs e
+    → LacksOctets old w → ⊥
+number_there {w} kinds vs e s l = omega (arith, l, s.1.is.1.ends, s.1.is.1.within, length-bytes w vs.0)

@@ -132,3 +132,11 @@ parts_stopped {octets} {offset} p lt none c =
     let r = p.only c in
     let x = next_part r.0 lt r.1 r.2 in
     none x.0.0 x.0.1 (offset + length (tlv x.0)) x.2
+
+-- no part follows those that fill the octets
+pub parts_end : {octets : List ℕ} {offset : ℕ} → PartsOn octets offset → AreComplete octets
+    → ((key : ℕ) (body : List ℕ) (to : ℕ) → IsTlvAt octets offset key body to → ⊥) → offset ≡ length octets
+parts_end {octets} {offset} p c none = let r = p.only c in last r.0 r.1 r.2 where
+  last : (rest : List (Numbered (List ℕ))) → At octets offset (tlvs rest) (length octets) → AreTlvs rest → offset ≡ length octets
+  last [] a f = omega (arith, a.ends)
+  last (y ∷ ys) a f = absurd (none y.0 y.1 (offset + length (tlv y)) (record { at = at_front (tlv y) (tlvs ys) a; fits = f.0 }))
