@@ -1,5 +1,6 @@
 //! A step of a cursor.
 
+ghost use Rattle.dns_rows.specs.Table.{kinds_of};
 ghost use Rattle.std.specs.Prelude.{◌≡◌, ◌++◌, ℕ, []};
 ghost use Rattle.dns_fields.specs.Fields.{canonical};
 ghost use Rattle.dns_canonical.specs.Steps.{GivesStep, at_once, field_steps};
@@ -37,14 +38,14 @@ pub trait AtOnce: Record {
     /// Appends the octets before the tail to an empty head, and returns the tail.
     fn at_once<'a>(&'a self, head: &mut Head) -> Tail<'a>
         requires empty { head.old ≡ [] }
-        ensures { canonical Self.facts.kinds (Self.facts.fields self.now) ≡ head.new ++ result };
+        ensures { canonical (kinds_of Self.facts.row) (Self.facts.fields self.now) ≡ head.new ++ result };
 }
 
 /// The whole record in one step, the first.
 #[inline]
 pub fn whole_step<'a, T: AtOnce>(x: &'a T, step: usize, head: &mut Head) -> Option<Step<'a>>
     requires empty { head.old ≡ [] }
-    ensures { (i j : ℕ) → GivesStep (field_steps at_once T.facts.kinds (T.facts.fields x.now)) step i j head.new result }
+    ensures { (i j : ℕ) → GivesStep (field_steps at_once (kinds_of T.facts.row) (T.facts.fields x.now)) step i j head.new result }
 {
     match step {
         0 => Some(Step::to(x.at_once(head), 1)),

@@ -1,21 +1,21 @@
 -- Records that are read by their rows.
-use Rattle.std.proofs.Common.{◌≡◌, ◌≢◌, ℕ, ◌+◌, ◌<◌, ◌≤◌, ◌&&◌, ◌⊎◌, inl, inr, List, [], ◌∷◌, ◌++◌, length, true, false, refl, sym, ◌∙◌, arith, subst, Result, Ok, Err}
+use Rattle.std.proofs.Common.{Bool, ◌≡◌, ◌≢◌, ℕ, ◌+◌, ◌<◌, ◌≤◌, ◌&&◌, ◌⊎◌, inl, inr, List, [], ◌∷◌, ◌++◌, length, true, false, refl, sym, ◌∙◌, arith, subst, Result, Ok, Err}
 use Rattle.dns_types.specs.declared.error.DecodeError.{DecodeError}
 use Rattle.dns_types.specs.declared.error.DecodeError.TheVariants as decode
 use Rattle.dns_fields.specs.declared.Kind.{Kind}
 use Rattle.dns_fields.specs.declared.Kind.TheVariants.{Number, Octets, Name, CharacterString, CharacterStrings, Rest, Options, Parameters, Bitmap}
-use Rattle.dns_fields.specs.{Octets.AreOctets, Fields.EndsItself, Fields.Field, Fields.Value, Fields.Values, Fields.Stands, Tlvs.string}
-use Rattle.dns_names_wire.specs.{State.Reading, Facts.Facts, Terms.Lacks, Terms.Region, Terms.NoRegion, Terms.RefusedRegion, Terms.ReadsIf, Terms.ReadsRegion}
-use Rattle.dns_names_wire.specs.{Terms.IsLong, Terms.AllEnd, Terms.StaysBehind, Terms.StringsReach, Terms.UnlessMemory, Terms.moved, Terms.TookField, Terms.LacksOctets}
-use Rattle.dns_fields.proofs.{FieldLaws.field_end, FieldLaws.field_same, Numbers.length-bytes}
-use Rattle.dns_names_wire.proofs.{RegionReads.Given, RegionReads.fields_region, RegionReads.filled_region, FieldReads.unless_map, FieldReads.stands_within}
+use Rattle.dns_fields.specs.{Fields.EndsItself, Fields.Value, Fields.Values, Fields.Stands, Tlvs.string}
+use Rattle.dns_names_wire.specs.{State.Reading, Facts.Facts, Terms.Lacks, Terms.Refused, Terms.ReadsBy, Facts.RecordStands, Terms.Region, Terms.NoRegion, Terms.RefusedRegion, Terms.ReadsIf, Terms.ReadsTo, Terms.ReadsRegion}
+use Rattle.dns_names_wire.specs.{Terms.IsLong, Terms.AllEnd, Terms.StaysBehind, Terms.StringsReach, Terms.UnlessMemory, Terms.moved}
+use Rattle.dns_names_wire.proofs.{RegionReads.Given, RegionReads.fields_region, RegionReads.filled_region, FieldReads.unless_map}
 use Rattle.dns_rows.specs.{declared.row.Part.Part, declared.row.Rule.Rule, Table.kinds_of, Rules.MeetsRow}
 use Rattle.dns_rows.specs.declared.row.Rule.TheVariants as rules
-use Rattle.dns_check.specs.{Parts.Ends, Rows.HasRow, Rows.NoRow, Rows.RowReached, Rows.SkipsRow, Rows.TookRow, Rows.RefusedRow}
-use Rattle.dns_check.specs.ByRow.{NoneTaken, ReadsRow, RowRejected, RowThere}
-use Rattle.dns_check.specs.Checks.{FillsRow}
+use Rattle.dns_check.proofs.RowTests.{both}
+use Rattle.dns_check.specs.{Parts.Ends, Parts.KindFault, Rows.RowError, Rows.RowFault, Rows.HasRow, Rows.NoRow, Rows.RowReached, Rows.SkipsRow, Rows.TookRow, Rows.RefusedRow}
+use Rattle.dns_check.specs.Checks.{IsRowError}
+use Rattle.dns_check.specs.ByRow.{IsAlone, NoneTaken, ReadsRow, RecordRefuses, all_alone, ends_alone}
 
-unless_given : {P : Type 0} (e : DecodeError) → P → UnlessMemory e P
+pub unless_given : {P : Type 0} (e : DecodeError) → P → UnlessMemory e P
 unless_given decode.Memory p = tt
 unless_given e p = p
 
@@ -49,17 +49,59 @@ none_region row n old h = record { none = λ vs w. h.none vs (old.index + n) w.s
 pub no_row_region : (row : List Part) (n : ℕ) (m : List ℕ) (p : ℕ) → NoRow m p row (p + n) → NoRegion m p n (kinds_of row) (MeetsRow row)
 no_row_region row n m p h = record { none = λ vs w. h.none (record { values = vs; stands = w.stands; meets = w.holds }) }
 
-pub filled_no_region : {row : List Part} {n : ℕ} {m : List ℕ} {p : ℕ} → NoRegion m p n (kinds_of row) (MeetsRow row) → FillsRow m p n row → ⊥
-filled_no_region h f = h.none f.has.values (record { octets = f.octets; short = f.short; within = f.within; stands = f.has.stands; holds = f.has.meets })
-
 -- ---- readers that answer whether there is a value
 
+alone_end : (k : Kind) (r : Rule) → ends_alone k r ≡ true → EndsItself k
+alone_end (Number w) r h = tt
+alone_end (Octets w) r h = tt
+alone_end Name r h = tt
+alone_end CharacterString r h = tt
+alone_end k r h = absurd cc
+
+alone_ends : (row : List Part) → all_alone row ≡ true → AllEnd (kinds_of row)
+alone_ends [] h = tt
+alone_ends (p ∷ row) h = let b = both (ends_alone p.kind p.rule) (all_alone row) h in (alone_end p.kind p.rule b.0, alone_ends row b.1)
+
 -- of fields that all say where they end
-pub straight_row : {T : Type 0} (f : Facts T) (r : Result T DecodeError) (old new : Reading) (n : ℕ) → IsLong (kinds_of f.row) → AllEnd (kinds_of f.row) → Given old n
+pub straight_row : {T : Type 0} (f : Facts T) (r : Result T DecodeError) (old new : Reading) (n : ℕ) → IsAlone f.row → Given old n
     → ReadsIf (kinds_of f.row) (λ vs e. MeetsRow f.row vs) f.fields r old new → ReadsRow f n r old new
-straight_row f (Ok x) old new n long ends g h = fields_region (kinds_of f.row) (MeetsRow f.row) f.fields (Ok x) old new n long ends g h
-straight_row f (Err e) old new n long ends g h =
+straight_row f (Ok x) old new n a g h = fields_region (kinds_of f.row) (MeetsRow f.row) f.fields (Ok x) old new n a.long (alone_ends f.row a.alone) g h
+straight_row f (Err e) old new n a g h =
     (h.behind, unless_map e _ _ (λ (l : Lacks old (kinds_of f.row) (λ vs e. MeetsRow f.row vs)). inl (record { none = λ vs q s m r. l.none vs q s m })) h.none)
+
+-- the last field is one that ends with the RDATA
+abbrev pub ends_whole : Kind → Bool
+ends_whole Rest = true
+ends_whole Options = true
+ends_whole Bitmap = true
+ends_whole k = false
+
+abbrev pub last_whole : List Part → Bool
+last_whole [] = false
+last_whole (p ∷ []) = ends_whole p.kind
+last_whole (p ∷ (l ∷ row)) = last_whole (l ∷ row)
+
+whole_end : (k : Kind) (r : Rule) (v : Value k) (end q : ℕ) → ends_whole k ≡ true → Ends k r end v q → q ≡ end
+whole_end Rest r v end q h e = e
+whole_end Options r v end q h e = e
+whole_end Bitmap r v end q h e = e
+whole_end k r v end q h e = absurd cc
+
+reached_whole : (row : List Part) (vs : Values (kinds_of row)) (end q : ℕ) → last_whole row ≡ true → RowReached row end vs q → q ≡ end
+reached_whole [] vs end q h r = absurd cc
+reached_whole (p ∷ []) vs end q h r = whole_end p.kind p.rule vs.0 end q h r
+reached_whole (p ∷ (l ∷ row)) vs end q h r = reached_whole (l ∷ row) vs.1 end q h r
+
+-- of fields that are read to the length, the last of which ends with the RDATA
+pub exact_row : {T : Type 0} (f : Facts T) (r : Result T DecodeError) (old new : Reading) (n : ℕ) → IsLong (kinds_of f.row) → last_whole f.row ≡ true → Given old n
+    → ReadsTo (kinds_of f.row) (MeetsRow f.row) n f.fields r old new → ReadsRow f n r old new
+exact_row f (Ok x) old new n long whole g h = filled_region (kinds_of f.row) (MeetsRow f.row) f.fields (Ok x) old new n long g h
+exact_row f (Err e) old new n long whole g h = (
+  h.behind,
+  unless_map e _ _ (λ (l : Lacks old (kinds_of f.row) (λ vs q. (q ≡ old.index + n) × MeetsRow f.row vs)). inl (record {
+    none = λ vs q s m r. l.none vs q s (reached_whole f.row vs (old.index + n) q whole r, m);
+  })) h.none,
+)
 
 -- ---- at an offset of the decoder's message
 
@@ -83,54 +125,67 @@ pub refused_none : (row : List Part) (n : ℕ) (e : DecodeError) (old : Reading)
     → UnlessMemory e (NoRegion old.message old.index n (kinds_of row) (MeetsRow row))
 refused_none row n e old h = unless_map e _ _ (none_region row n old) h
 
--- ---- lists: a value is made of octets that were checked
+moved_start : {old d : Reading} {start : ℕ} → StaysBehind old d → start ≡ old.index → moved d start ≡ old
+moved_start {old} {d} {start} h i = rw (h.message, i) refl
 
--- the same of a decoder that stays where it is
-pub there_at : {row : List Part} {n i : ℕ} {d w new : Reading} → AreOctets d.message → n < 65536 → w ≡ d → TookRow row n w new → i ≡ new.index
-    → RowThere row n d (moved d i)
-there_at {row} {n} {i} {d} {w} {new} are short same h is =
-    let t : TookRow row n d new = subst (λ (r : Reading). TookRow row n r new) same h in
-    let m : record { message = new.message; index = new.index } ≡ moved d i = rw (t.behind.message, is) refl in
-    record { octets = are; short = short; took = subst (λ (r : Reading). TookRow row n d r) m t }
+-- the row's error from where a reader began
+pub refused_at : (row : List Part) {own : List Part} {n start : ℕ} {e : DecodeError} {old d new : Reading} → own ≡ row → start ≡ old.index → StaysBehind old d
+    → RefusedRow own n (moved d start) e new → RefusedRow row n old e new
+refused_at row {own} {n} {start} {e} {old} {d} {new} same i behind h =
+    subst (λ (r : List Part). RefusedRow r n old e new) same (subst (λ (x : Reading). RefusedRow own n x e new) (moved_start behind i) h)
 
--- its fields are those that are there
-pub row_reads : {T : Type 0} (f : Facts T) (x : T) {n : ℕ} {old new : Reading} → IsLong (kinds_of f.row) → (h : RowThere f.row n old new)
-    → f.fields x ≡ h.took.fields.values → ReadsRow f n (Ok x) old new
-row_reads f x {n} {old} {new} long h same = record {
-  behind = h.took.behind;
-  here = λ e.
-      let s : Stands old.message old.index (kinds_of f.row) (f.fields x) (old.index + n) = subst (λ (q : ℕ). Stands old.message old.index (kinds_of f.row) (f.fields x) q) e
-      (subst (λ (vs : Values (kinds_of f.row)). Stands old.message old.index (kinds_of f.row) vs new.index) (sym same) h.took.fields.stands) in
-      record {
-        octets = h.octets;
-        short = h.short;
-        within = stands_within old.message old.index (kinds_of f.row) (f.fields x) (old.index + n) long s;
-        stands = s;
-        holds = subst (MeetsRow f.row) (sym same) h.took.fields.meets;
-      };
-  elsewhere = λ ne. no_row_region f.row n old.message old.index (h.took.elsewhere ne);
-}
+pub whole_at : (row : List Part) (n : ℕ) (e : DecodeError) (d new : Reading) (start : ℕ) → StaysBehind (moved d start) new
+    → IsRowError row n (moved d start) e new → IsRowError row n (moved d start) e (moved d new.index)
+whole_at row n e d new start behind h =
+    subst (λ (m : List ℕ). IsRowError row n (moved d start) e (record { message = m; index = new.index })) behind.message h
 
--- and nothing was taken
-pub rejected_row : {T : Type 0} (f : Facts T) {n : ℕ} (e : DecodeError) {old new : Reading} → StaysBehind old new → RowRejected f.row n old
-    → ReadsRow f n (Err e) old new
-rejected_row f e behind h = (behind, unless_given e (inr h))
+-- ---- rows that do not need RDLENGTH
 
--- memory ran out
-pub memory_row : {T : Type 0} (f : Facts T) (n : ℕ) {e : DecodeError} {old new : Reading} → StaysBehind old new → e ≡ decode.Memory → ReadsRow f n (Err e) old new
-memory_row f n {e} {old} behind m =
-    (behind, subst (λ (x : DecodeError). UnlessMemory x (NoneTaken f.row n old ⊎ RowRejected f.row n old)) (sym m) tt)
+fault_any : (k : Kind) (r : Rule) (start n l : ℕ) (old : Reading) (e : DecodeError) (new : Reading) → ends_alone k r ≡ true → KindFault r k start n old e new
+    → KindFault r k start l old e new
+fault_any (Number w) r start n l old e new h f = f
+fault_any (Octets w) r start n l old e new h f = f
+fault_any Name r start n l old e new h f = f
+fault_any CharacterString rules.Tag start n l old e new h f = absurd cc
+fault_any CharacterString r start n l old e new h f = f
+fault_any k r start n l old e new h f = absurd cc
 
--- the first of the fields that are there is the one that was taken
-pub took_first : {k : Kind} (kinds : List Kind) {v : Value k} (vs : Values (k ∷ kinds)) {old b : Reading} (e : ℕ) → EndsItself k → TookField old k v b
-    → Stands old.message old.index (k ∷ kinds) vs e → (v ≡ vs.0) × Stands b.message b.index kinds vs.1 e
-took_first {k} kinds {v} vs {old} {b} e ends f s =
-    let there : s.0 ≡ b.index = field_end ends s.1 f.field in (
-      field_same f.field (subst (λ (q : ℕ). Field old.message old.index k vs.0 q) there s.1),
-      subst (λ (m : List ℕ). Stands m b.index kinds vs.1 e) (sym f.message) (subst (λ (q : ℕ). Stands old.message q kinds vs.1 e) there s.2),
+ends_any : (k : Kind) (r : Rule) (v : Value k) (end last q : ℕ) → ends_alone k r ≡ true → Ends k r end v q → Ends k r last v q
+ends_any (Number w) r v end last q h x = x
+ends_any (Octets w) r v end last q h x = x
+ends_any Name r v end last q h x = x
+ends_any CharacterString rules.Tag v end last q h x = absurd cc
+ends_any CharacterString r v end last q h x = x
+ends_any k r v end last q h x = absurd cc
+
+faults_any : (row : List Part) (start n l : ℕ) (old : Reading) (e : DecodeError) (new : Reading) → all_alone row ≡ true → RowFault row start n old e new
+    → RowFault row start l old e new
+faults_any [] start n l old e new h f = f
+faults_any (p ∷ row) start n l old e new h (inl f) = inl (fault_any p.kind p.rule start n l old e new (both (ends_alone p.kind p.rule) (all_alone row) h).0 f)
+faults_any (p ∷ row) start n l old e new h (inr (v, between, took, asked, ends, f)) = inr (
+  v,
+  between,
+  took,
+  asked,
+  ends_any p.kind p.rule v (start + n) (start + l) between.index (both (ends_alone p.kind p.rule) (all_alone row) h).0 ends,
+  faults_any row start n l between e new (both (ends_alone p.kind p.rule) (all_alone row) h).1 f,
+)
+
+pub error_any : (row : List Part) (n l : ℕ) (old : Reading) (e : DecodeError) (new : Reading) → IsAlone row → RowError row n old e new → RowError row l old e new
+error_any row n l old e new alone (inl h) = absurd (omega (arith, h.short, alone.asked))
+error_any row n l old e new alone (inr h) = inr (omega (arith, alone.asked), faults_any row old.index n l old e new alone.alone h.1)
+
+-- what holds unless memory ran out, where it did not
+pub unless_told : {P : Type 0} (e : DecodeError) → UnlessMemory e P → e ≢ decode.Memory → P
+unless_told decode.Memory h ne = absurd (ne refl)
+unless_told e h ne = h
+
+-- why a record is rejected that is read without an RDLENGTH, and that none is there
+pub refuses_alone : {T : Type 0} (f : Facts T) (n : ℕ) (e own : DecodeError) (old new stopped : Reading) → IsAlone f.row → own ≢ decode.Memory
+    → Refused own old (kinds_of f.row) (λ vs q. MeetsRow f.row vs) stopped → RefusedRow f.row n old e new
+    → ReadsBy (RecordStands f) (Err e) old new × RecordRefuses f old e new
+refuses_alone f n e own old new stopped alone ne r h =
+    let none : Lacks old (kinds_of f.row) (λ vs q. MeetsRow f.row vs) = unless_told own r.none ne in (
+      (h.behind, unless_given e (λ x q s. none.none (f.fields x) q s.0 s.1)),
+      ((λ k. unless_given e (error_any f.row n k old e new alone h.error)), record { behind = h.behind; none = unless_given e none }),
     )
-
--- it is not missing
-pub number_there : {w : ℕ} (kinds : List Kind) (vs : Values (Number w ∷ kinds)) {old : Reading} (e : ℕ) → Stands old.message old.index (Number w ∷ kinds) vs e
-    → LacksOctets old w → ⊥
-number_there {w} kinds vs e s l = omega (arith, l, s.1.is.1.ends, s.1.is.1.within, length-bytes w vs.0)

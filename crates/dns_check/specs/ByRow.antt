@@ -2,19 +2,20 @@
 use Rattle.std.specs.Prelude.{◌≡◌, ◌≢◌, ◌⊎◌, ℕ, ◌+◌, ◌<◌, ◌&&◌, Bool, true, false, List, [], ◌∷◌, Result, Ok, Err}
 use Rattle.dns_types.specs.declared.error.DecodeError.{DecodeError}
 use Rattle.dns_fields.specs.declared.Kind.{Kind}
+use Rattle.dns_fields.specs.declared.Kind.TheVariants.{Number, Octets, Name, CharacterString}
 use Rattle.dns_fields.specs.{Fields.Values, Fields.Stands, Octets.AreOctets}
 use Rattle.dns_names_wire.specs.{State.Reading, Facts.Facts}
-use Rattle.dns_names_wire.specs.Terms.{Refused, Region, StaysBehind, TookRegion, UnlessMemory}
+use Rattle.dns_names_wire.specs.Terms.{IsLong, Refused, Region, StaysBehind, TookRegion, UnlessMemory}
 use Rattle.dns_rows.specs.{declared.row.Part.Part, declared.row.Rule.Rule, Table.kinds_of, Rules.MeetsRow}
 use Rattle.dns_rows.specs.declared.row.Rule.TheVariants as rules
-use Rattle.dns_check.specs.Rows.{RowError, RowReached, TookRow, RefusedRow, ends_itself}
+use Rattle.dns_check.specs.Rows.{RowError, RowReached, RefusedRow, TookRow, asked_length, is_row}
 
 -- no fields of the row are there, of n octets of RDATA, of which the last one ends where it must
 pub record NoneTaken (row : List Part) (n : ℕ) (old : Reading) : Type 0 where
   pub none : (vs : Values (kinds_of row)) (q : ℕ) → Stands old.message old.index (kinds_of row) vs q → MeetsRow row vs
       → RowReached row (old.index + n) vs q → ⊥
 
--- the row of a message is gone over, and its fields are there
+-- the row is gone over, and its fields are there
 pub record RowThere (row : List Part) (n : ℕ) (old new : Reading) : Type 0 where
   pub octets : AreOctets old.message
   pub short : n < 65536
@@ -39,14 +40,24 @@ pub record TookWhole (old : Reading) (n : ℕ) (row : List Part) (vs : Values (k
   pub region : Region old.message old.index n (kinds_of row) (MeetsRow row) vs
 
 -- the field says itself where it ends, and why it is rejected does not depend on RDLENGTH
-abbrev pub ends_alone : Rule → Kind → Bool
-ends_alone (rules.AtLeast n) k = false
-ends_alone rules.Tag k = false
-ends_alone r k = ends_itself k
+abbrev pub ends_alone : Kind → Rule → Bool
+ends_alone (Number w) r = true
+ends_alone (Octets w) r = true
+ends_alone Name r = true
+ends_alone CharacterString rules.Tag = false
+ends_alone CharacterString r = true
+ends_alone k r = false
 
 abbrev pub all_alone : List Part → Bool
 all_alone [] = true
-all_alone (p ∷ row) = ends_alone p.rule p.kind && all_alone row
+all_alone (p ∷ row) = ends_alone p.kind p.rule && all_alone row
+
+-- a row that can be checked and does not need RDLENGTH
+pub record IsAlone (row : List Part) : Type 0 where
+  pub checked : is_row row ≡ true
+  pub asked : asked_length row ≡ 0
+  pub alone : all_alone row ≡ true
+  pub long : IsLong (kinds_of row)
 
 -- why a record is rejected that is read without an RDLENGTH: by its row, whatever RDLENGTH is; and no fields are there
 abbrev pub RecordRefuses : {T : Type 0} → Facts T → Reading → DecodeError → Reading → Type 0

@@ -1,13 +1,13 @@
 //! Records that are read by the rows of their types. A record's reader answers whether there is a value, and takes it in one
 //! pass; the error of RDATA that is rejected is made by its row, so that no error is defined twice.
 
-ghost use Rattle.std.specs.Prelude.{◌≡◌, ◌≤◌, ◌-◌, true, ℕ, length as size, take, drop, IfOk, IfErr, OnOk, OnErr};
+ghost use Rattle.std.specs.Prelude.{◌≡◌, ◌≤◌, ◌↔◌, ◌-◌, IsTrue, true, ℕ, length as size, take, drop, IfOk, IfErr, OnOk, OnErr};
 ghost use Rattle.dns_rows.specs.{Table.kinds_of, Rules.MeetsRow};
-ghost use Rattle.dns_names_wire.specs.Terms.{moved, AllEnd, IsLong, NoRegion, ReadsBy, ReadsIf, ReadsRegion, StaysBehind, UnlessMemory};
+ghost use Rattle.dns_names_wire.specs.Terms.{moved, ReadsBy, ReadsIf, ReadsRegion, StaysBehind, UnlessMemory};
 ghost use Rattle.dns_names_wire.specs.Facts.{RecordStands};
 ghost use Rattle.dns_check.specs.Rows.{is_row, RowError, SkipsRow};
-ghost use Rattle.dns_check.specs.Checks.{IsRowError};
-ghost use Rattle.dns_check.specs.ByRow.{all_alone, NoneTaken, ReadsRow, RecordRefuses, RowRejected, RowThere, TookWhole};
+ghost use Rattle.dns_check.specs.Checks.{IsRowError, NoFill};
+ghost use Rattle.dns_check.specs.ByRow.{IsAlone, ReadsRow, RecordRefuses, RowRejected, RowThere, TookWhole};
 
 use crate::binary::BinDecodable;
 use crate::check::check_data;
@@ -51,18 +51,12 @@ pub trait DecodesFields: Record {
         ensures fields { ReadsIf (kinds_of Self.facts.row) (λ vs _. MeetsRow Self.facts.row vs) Self.facts.fields result decoder.old decoder.new }
         ensures after_read { IfOk result (λ x. (n : ℕ) → Self.facts.after_read n x decoder.old decoder.new) };
 
-    /// There is a field, and each tells where it ends.
-    ghost ends: { IsLong (kinds_of Self.Record.facts.row) × AllEnd (kinds_of Self.Record.facts.row) };
-
-    /// Why a field is rejected does not depend on RDLENGTH.
-    ghost alone: { all_alone Self.Record.facts.row ≡ true };
-
-    /// The row can be checked.
-    ghost checked: { is_row Self.Record.facts.row ≡ true };
+    /// The row can be checked, and each of its fields tells where it ends, so that nothing depends on RDLENGTH.
+    ghost alone: { IsAlone Self.Record.facts.row };
 }
 
 impl<T: DecodesFields> DecodesRow for T {
-    ghost checked = { T.checked };
+    ghost checked = { T.alone.checked };
 
     /// Reads the fields, whatever RDLENGTH is: if they end elsewhere, the value is that of the fields that are there.
     #[inline]
@@ -133,42 +127,12 @@ impl<T: DecodesRow> RecordDataDecodable for T {
     }
 }
 
-/// Reads RDATA that fills exactly this length.
-///
-/// # Errors
-///
-/// `Memory` if an allocation failed. Otherwise `IncorrectRDataLengthRead`, with both numbers, if another number of octets than
-/// RDLENGTH was taken, or else the error of the first field that is missing or breaks a rule of the type's row.
-#[inline(always)]
-pub fn read_whole<T: DecodesRow + Drop>(
-    decoder: &mut BinDecoder<'_>,
-    length: Restrict<u16>,
-) -> Result<T, DecodeError>
-    ensures found { IfOk result (λ x. TookWhole decoder.old length T.facts.row (T.facts.fields x) decoder.new) }
-    ensures refused { IfErr result (λ e. UnlessMemory e (NoRegion decoder.old.message decoder.old.index length (kinds_of T.facts.row) (MeetsRow T.facts.row))) }
-    ensures why { IfErr result (λ e. UnlessMemory e (IsRowError T.facts.row length decoder.old e decoder.new)) }
-    ensures behind { StaysBehind decoder.old decoder.new }
-    ensures after_read { IfOk result (λ x. T.facts.after_read length x decoder.old decoder.new) }
-{
-    let start = decoder.index();
-    match T::read_row(decoder, length) {
-        Err(DecodeError::Memory) => Err(DecodeError::Memory),
-        Err(_) => Err(whole_error(decoder, start, T::row(), length)),
-        outcome => {
-            if decoder.index() - start == length.unverified() as usize {
-                return outcome;
-            }
-            Err(whole_error(decoder, start, T::row(), length))
-        }
-    }
-}
-
-// The error of RDATA that does not fill this length from an offset: the octets that were taken are counted before. Never inlined,
-// so that reading a value keeps little for it.
+/// The error of RDATA that does not fill this length from an offset: the octets that were taken are counted before an error of the
+/// row. Never inlined, so that reading a value keeps little for it.
 #[cold]
 #[inline(never)]
-#[tactic(auto, using(crate::proofs::ByRow::filled_no_region))]
-fn whole_error(
+#[tactic(auto, using(crate::proofs::ByRow::whole_at, crate::proofs::ByRow::unless_given))]
+pub fn whole_error(
     decoder: &mut BinDecoder<'_>,
     start: usize,
     row: &[Part],
@@ -176,8 +140,8 @@ fn whole_error(
 ) -> DecodeError
     requires row { is_row row.now ≡ true }
     requires inside { start ≤ size decoder.old.message }
-    requires none { NoRegion decoder.old.message start length (kinds_of row.now) (MeetsRow row.now) }
-    ensures why { IsRowError row.now length (moved decoder.old start) result decoder.new }
+    ensures refused { UnlessMemory result (NoFill decoder.old.message start length row.now) }
+    ensures why { UnlessMemory result (IsRowError row.now length (moved decoder.old start) result decoder.new) }
     ensures behind { StaysBehind (moved decoder.old start) decoder.new }
 {
     let mut walk = Walk::at(decoder.message(), start);
@@ -192,6 +156,36 @@ fn whole_error(
         Err(e) => e,
         // Unreachable: the record's reader found no value in the same octets.
         Ok(()) => DecodeError::Memory,
+    }
+}
+
+/// Reads RDATA that fills exactly this length.
+///
+/// # Errors
+///
+/// `Memory` if an allocation failed. Otherwise `IncorrectRDataLengthRead`, with both numbers, if another number of octets than
+/// RDLENGTH was taken, or else the error of the first field that is missing or breaks a rule of the type's row.
+#[inline(always)]
+pub fn read_whole<T: DecodesRow + Drop>(
+    decoder: &mut BinDecoder<'_>,
+    length: Restrict<u16>,
+) -> Result<T, DecodeError>
+    ensures found { IfOk result (λ x. TookWhole decoder.old length T.facts.row (T.facts.fields x) decoder.new) }
+    ensures refused { IfErr result (λ e. UnlessMemory e (NoFill decoder.old.message decoder.old.index length T.facts.row)) }
+    ensures why { IfErr result (λ e. UnlessMemory e (IsRowError T.facts.row length decoder.old e decoder.new)) }
+    ensures behind { StaysBehind decoder.old decoder.new }
+    ensures after_read { IfOk result (λ x. T.facts.after_read length x decoder.old decoder.new) }
+{
+    let start = decoder.index();
+    match T::read_row(decoder, length) {
+        Err(DecodeError::Memory) => Err(DecodeError::Memory),
+        Err(_) => Err(whole_error(decoder, start, T::row(), length)),
+        outcome => {
+            if decoder.index() - start == length.unverified() as usize {
+                return outcome;
+            }
+            Err(whole_error(decoder, start, T::row(), length))
+        }
     }
 }
 
@@ -227,13 +221,20 @@ pub fn read_alone<T: DecodesFields>(decoder: &mut BinDecoder<'_>) -> Result<T, D
     let start = decoder.index();
     match T::read_fields(decoder) {
         Ok(x) => Ok(x),
-        Err(DecodeError::Memory) => Err(DecodeError::Memory),
+        Err(e) if is_memory(&e) => Err(e),
         Err(_) => match row_result(decoder, start, T::row(), Restrict::new(0)) {
             Err(e) => Err(e),
             // Unreachable: the reader found no fields in the same octets.
             Ok(()) => Err(DecodeError::Memory),
         },
     }
+}
+
+// Whether memory ran out.
+fn is_memory(e: &DecodeError) -> bool
+    ensures { IsTrue result ↔ (e.now ≡ DecodeError.Memory) }
+{
+    matches!(e, DecodeError::Memory)
 }
 
 // ---- lists: their octets are checked before a value is made of them

@@ -6,16 +6,20 @@ use Rattle.dns_fields.specs.{Octets.AreOctets, Fields.Values}
 use Rattle.dns_types.specs.{declared.error.DecodeError.DecodeError, declared.record_type.RecordType.RecordType, RecordTypes.number_of}
 use Rattle.dns_types.specs.declared.error.DecodeError.TheVariants as decode
 use Rattle.dns_types.specs.declared.record_type.RecordType.TheVariants as types
-use Rattle.dns_names_wire.specs.{State.Reading, Terms.StaysBehind, Terms.UnlessMemory, Terms.TookRegion, Terms.ReadsRegion}
-use Rattle.dns_names_wire.proofs.FieldReads.{stays}
+use Rattle.dns_names_wire.specs.{State.Reading, Terms.StaysBehind, Terms.UnlessMemory, Terms.Region}
+use Rattle.dns_names_wire.proofs.FieldReads.{stays, unless_map}
 use Rattle.dns_rdata_base.specs.{declared.null.NULL.NULL, NULL.null_shape, NULL.null_fields}
 use Rattle.dns_rows.specs.Table.{TypeRow, fields as row, unread, formatless, table, kinds_of}
 use Rattle.dns_rdata.specs.declared.record_data.RData.{RData}
 use Rattle.dns_rdata.specs.declared.record_data.RData.TheVariants as rdata
 use Rattle.dns_rdata.specs.Data.{parts_of, MeetsRule, IsFormatless, IsNever, FieldsOf, shape, MeetsCondition, type_of}
 use Rattle.dns_rdata.specs.Data.{IsUnknownType, IsValue, Fills, NoValue, IsEmittable, IsNeverRead}
-use Rattle.dns_rdata.specs.{Laws.ReadsCanonical, ReadErrors.IsReadError, ReadFailures.IsViewError, ReadFailures.IsErrorFrom, ReadFailures.FailsFrom}
+use Rattle.dns_rdata.specs.{Laws.ReadsCanonical, ReadErrors.IsReadError}
+use Rattle.dns_rows.specs.declared.row.{Part.Part}
+use Rattle.dns_rows.specs.declared.row.TheConstants as rows
+use Rattle.dns_check.specs.{Checks.NoFill, Checks.IsRowError, ByRow.TookWhole}
 use Rattle.dns_rdata.proofs.DataLaws.{fills_emittable, reads_canonical}
+use Rattle.dns_rdata.proofs.Views.{row_none, row_why}
 
 -- ---- a value
 
@@ -29,29 +33,14 @@ pub record HasRead (t : RecordType) (n : ℕ) (v : RData) (old new : Reading) : 
 pub of_read : {X E : Type 0} {r : Result X E} {x : X} (P : X → Type 0) → IfOk r P → r ≡ Ok x → P x
 of_read P h e = subst (λ z. IfOk z P) e h
 
--- fields of the type that a record's reader took, by as many octets as there are
-took_whole : {old new : Reading} {n start : ℕ} (t : RecordType) (vs : Values (shape t)) (v : RData) → start ≡ old.index → new.index - start ≡ n
-    → TookRegion old n (shape t) (MeetsCondition t) vs new → IsValue t vs v → HasRead t n v old new
-took_whole {old} {new} {n} t vs v starts counted w value =
-    let after : new.index ≡ old.index + n = omega (arith, starts, counted, w.behind.index) in
-    record { fills = record { values = vs; region = w.here after; value = value }; after = after; behind = w.behind }
-
-took_ok : {X : Type 0} (t : RecordType) (fields : X → Values (shape t)) (n : ℕ) (old new : Reading) {r : Result X DecodeError} {x : X}
-    → ReadsRegion (shape t) (MeetsCondition t) fields n r old new → r ≡ Ok x → TookRegion old n (shape t) (MeetsCondition t) (fields x) new
-took_ok t fields n old new h e = subst (λ z. ReadsRegion (shape t) (MeetsCondition t) fields n z old new) e h
-
--- what a record's reader gives, by as many octets as there are, is a value
-pub has_read : {X : Type 0} {n start : ℕ} {old stopped new : Reading} (t : RecordType) (f : X → RData) (fields : X → Values (shape t)) (r : Result X DecodeError)
-    (x : X) → start ≡ old.index → ReadsRegion (shape t) (MeetsCondition t) fields n r old stopped → (r ≡ Ok x) × (new ≡ stopped) × (stopped.index - start ≡ n)
-    → IsValue t (fields x) (f x) → HasRead t n (f x) old new
-has_read {n = n} {old = old} {stopped = stopped} t f fields r x starts region whole value =
-    rw whole.1 (took_whole t (fields x) (f x) starts whole.2 (took_ok t fields n old stopped region whole.0) value)
-
--- a record's reader goes on from where the decoder was
-pub region_behind : {X : Type 0} (t : RecordType) (fields : X → Values (shape t)) (n : ℕ) (old new : Reading) (r : Result X DecodeError)
-    → ReadsRegion (shape t) (MeetsCondition t) fields n r old new → StaysBehind old new
-region_behind t fields n old new (Ok x) h = h.behind
-region_behind t fields n old new (Err e) h = h.behind
+-- the fields of the type that a record's reader took, which fill the octets, are those of a value
+pub has_read : {X : Type 0} {n : ℕ} {old new : Reading} (t : RecordType) (f : X → RData) (fields : X → Values (shape t)) (x : X) → new.message ≡ old.message
+    → new.index ≡ old.index + n → Region old.message old.index n (shape t) (MeetsCondition t) (fields x) → IsValue t (fields x) (f x) → HasRead t n (f x) old new
+has_read t f fields x message index region value = record {
+  fills = record { values = fields x; region = region; value = value };
+  after = index;
+  behind = record { message = message; index = omega (arith, index) };
+}
 
 -- ---- types without a format of their own
 
@@ -83,20 +72,22 @@ abbrev fields_as : (q : TypeRow) → Values (kinds_of (parts_of q)) → FieldsOf
 fields_as q vs = record { kinds = kinds_of (parts_of q); values = vs }
 
 -- any octets are the fields of such a type
-took_formatless : (q : TypeRow) {old new : Reading} {n : ℕ} (vs : Values null_shape) → IsFormatless q → TookRegion old n null_shape (λ _. Unit {0}) vs new
-    → (ws : Values (kinds_of (parts_of q))) × TookRegion old n (kinds_of (parts_of q)) (MeetsRule q) ws new
-    × (record { kinds = null_shape; values = vs } ≡ fields_as q ws)
-took_formatless (row parts) vs h w = absurd h
-took_formatless unread vs h w = absurd h
-took_formatless formatless vs h w = (vs, w, refl)
+formatless_region : (q : TypeRow) {m : List ℕ} {p n : ℕ} (vs : Values null_shape) → IsFormatless q → Region m p n null_shape (λ _. Unit {0}) vs
+    → (ws : Values (kinds_of (parts_of q))) × Region m p n (kinds_of (parts_of q)) (MeetsRule q) ws × (record { kinds = null_shape; values = vs } ≡ fields_as q ws)
+formatless_region (row parts) vs h w = absurd h
+formatless_region unread vs h w = absurd h
+formatless_region formatless vs h w = (vs, w, refl)
 
-pub unknown_read : {n start : ℕ} {old stopped new : Reading} (t : RecordType) (r : Result NULL DecodeError) (x : NULL) → IsUnknownType t → start ≡ old.index
-    → ReadsRegion null_shape (λ _. Unit {0}) null_fields n r old stopped → (r ≡ Ok x) × (new ≡ stopped) × (stopped.index - start ≡ n)
+pub unknown_read : {n : ℕ} {old new : Reading} (t : RecordType) (x : NULL) → IsUnknownType t → TookWhole old n rows.NULL (null_fields x) new
     → HasRead t n (rdata.Unknown t x) old new
-unknown_read {n = n} {old = old} {stopped = stopped} t r x none starts region whole =
-    let took : TookRegion old n null_shape (λ _. Unit {0}) (null_fields x) stopped = took_ok types.NULL null_fields n old stopped region whole.0 in
-    let w = took_formatless (table t) (null_fields x) none took in
-    rw whole.1 (took_whole t w.0 (rdata.Unknown t x) starts whole.2 w.1 (record { type = refl; fields = w.2; can_be_read = none }))
+unknown_read {n} {old} t x none took =
+    let w = formatless_region (table t) {old.message} {old.index} {n} (null_fields x) none took.region in
+    has_read t (λ x. rdata.Unknown t x) (λ x. w.0) x took.message took.index w.1 (record { type = refl; fields = w.2; can_be_read = none })
+
+formatless_parts : (q : TypeRow) → IsFormatless q → parts_of q ≡ rows.NULL
+formatless_parts (row parts) h = absurd h
+formatless_parts unread h = absurd h
+formatless_parts formatless h = refl
 
 -- ---- type 0, which has no fields
 
@@ -150,52 +141,40 @@ gives {t} {u} {n} {v} {old} {new} is h =
       emittable = fills_emittable f;
     }
 
--- the view's error is that of the octets that the reader went over
-view_fails : {t : RecordType} {n start : ℕ} {e : DecodeError} {old stopped new : Reading} → (IsNeverRead t → ⊥) → start ≡ old.index
-    → old.index ≤ length old.message → StaysBehind old stopped → IsErrorFrom t n start e stopped new → Clauses t n (Err e) old new
-view_fails {t} {n} {start} {e} {old} {stopped} {new} read starts inside b h =
-    let same : record { message = stopped.message; index = start } ≡ old =
-    ap (λ (m : List ℕ). record { message = m; index = start }) b.message ∙ ap (λ (i : ℕ). record { message = old.message; index = i }) starts in
-    let there : IsViewError t n e old new =
-    subst (λ (d : Reading). IsViewError t n e d new) same (h read (omega (arith, starts, inside, ap length b.message))) in
-    record {
-      found = tt;
-      after = tt;
-      kind = tt;
-      refused = there.refused;
-      why = there.why;
-      never = λ never. absurd (read never);
-      behind = there.behind;
-      canonical = tt;
-      emittable = tt;
-    }
+row_error : (t : RecordType) (n : ℕ) (e : DecodeError) (old new : Reading) → (IsNeverRead t → ⊥) → UnlessMemory e (IsRowError (parts_of (table t)) n old e new)
+    → IsReadError t n old new e
+row_error t n decode.Memory old new read h = tt
+row_error t n e old new read h = (row_why t n old new e read h).0
 
--- or memory ran out
-memory_fails : (t : RecordType) (n : ℕ) {e : DecodeError} {old new : Reading} → (IsNeverRead t → ⊥) → StaysBehind old new → e ≡ decode.Memory
-    → Clauses t n (Err e) old new
-memory_fails t n {e} {old} {new} read b is = rw is (record {
+-- memory ran out, or the row gives the error
+error_fails : (t : RecordType) (n : ℕ) (e : DecodeError) (old new : Reading) → (IsNeverRead t → ⊥) → UnlessMemory e (NoFill old.message old.index n (parts_of (table t)))
+    → UnlessMemory e (IsRowError (parts_of (table t)) n old e new) → StaysBehind old new → Clauses t n (Err e) old new
+error_fails t n e old new read none why b = record {
   found = tt;
   after = tt;
   kind = tt;
-  refused = tt;
-  why = tt;
+  refused = unless_map e _ _ (row_none old.message old.index n t) none;
+  why = row_error t n e old new read why;
   never = λ never. absurd (read never);
   behind = b;
   canonical = tt;
   emittable = tt;
-})
-
-error_fails : {t : RecordType} {n start : ℕ} {e : DecodeError} {old stopped new : Reading} → (IsNeverRead t → ⊥) → start ≡ old.index
-    → old.index ≤ length old.message → StaysBehind old stopped → FailsFrom t n start e stopped new → Clauses t n (Err e) old new
-error_fails {t} {n = n} {old = old} read starts inside b (inl h) = memory_fails t n read (subst (λ (d : Reading). StaysBehind old d) (sym h.1) b) h.0
-error_fails read starts inside b (inr h) = view_fails read starts inside b h
+}
 
 -- where an arm gives no value
-pub fails : {t u : RecordType} {n start : ℕ} {e : DecodeError} {old stopped new : Reading} (r : Result RData DecodeError) → t ≡ u → IsErrAnd r (λ y. y ≡ e)
-    → (IsNeverRead u → ⊥) → start ≡ old.index → old.index ≤ length old.message → StaysBehind old stopped → FailsFrom u n start e stopped new
-    → Clauses t n r old new
-fails {t} {u} r is err read starts inside b h =
-    let p = err_from_is_err_and r err in rw (is, p.1, p.2) (error_fails {t = u} read starts inside b h)
+pub fails : {u : RecordType} (t : RecordType) {n : ℕ} {e : DecodeError} {old new : Reading} (r : Result RData DecodeError) → u ≡ t → IsErrAnd r (λ y. y ≡ e)
+    → (IsNeverRead t → ⊥) → UnlessMemory e (NoFill old.message old.index n (parts_of (table t)))
+    → UnlessMemory e (IsRowError (parts_of (table t)) n old e new) → StaysBehind old new → Clauses u n r old new
+fails {u} t {n} {e} {old} {new} r is err read none why b =
+    let p = err_from_is_err_and r err in rw (is, p.1, p.2) (error_fails t n e old new read none why b)
+
+-- the same of a type without a format of its own
+pub unknown_fails : (t : RecordType) {n : ℕ} {e : DecodeError} {old new : Reading} (r : Result RData DecodeError) → IsUnknownType t → IsErrAnd r (λ y. y ≡ e)
+    → UnlessMemory e (NoFill old.message old.index n rows.NULL) → UnlessMemory e (IsRowError rows.NULL n old e new) → StaysBehind old new → Clauses t n r old new
+unknown_fails t {n} {e} {old} {new} r none err no why b =
+    let same = sym (formatless_parts (table t) none) in
+    fails t r refl err (unknown_once t none) (subst (λ (x : List Part). UnlessMemory e (NoFill old.message old.index n x)) same no)
+    (subst (λ (x : List Part). UnlessMemory e (IsRowError x n old e new)) same why) b
 
 unread_type : {t : RecordType} → (t ≡ types.ANY) ⊎ ((t ≡ types.AXFR) ⊎ (t ≡ types.IXFR)) → IsNeverRead t
 unread_type (inl e) = rw e tt
@@ -217,22 +196,6 @@ never_fails t n d h = let never = unread_type h in record {
   emittable = tt;
 }
 
--- type 0, by as many octets as there are
-abbrev zero_value : Result RData DecodeError
-zero_value = Ok rdata.ZERO
-
-abbrev value_or_zero : Result RData DecodeError → RData
-value_or_zero (Ok v) = v
-value_or_zero (Err e) = rdata.ZERO
-
-zero_ok : {t : RecordType} {n start : ℕ} {old new : Reading} (v : RData) → t ≡ types.ZERO → start ≡ old.index → old.index ≤ length old.message
-    → AreOctets old.message → v ≡ rdata.ZERO → new ≡ old → old.index - start ≡ n → Clauses t n (Ok v) old new
-zero_ok v is starts inside octets zero same counted = rw (zero, same) (gives is (zero_read (omega (arith, counted, starts)) inside octets))
-
-pub zero_clauses : {t : RecordType} (n : ℕ) {start : ℕ} {old new : Reading} (r : Result RData DecodeError) → t ≡ types.ZERO → start ≡ old.index
-    → old.index ≤ length old.message → AreOctets old.message
-    → IfOk r (λ v. (zero_value ≡ Ok v) × (new ≡ old) × (old.index - start ≡ n)) → IfErr r (λ e. FailsFrom t n start e old new)
-    → Clauses t n r old new
-zero_clauses n (Ok v) is starts inside octets whole error =
-    zero_ok v is starts inside octets (sym (ap value_or_zero whole.0)) whole.1 whole.2
-zero_clauses n {old = old} (Err e) is starts inside octets whole error = error_fails (λ never. subst IsNeverRead is never) starts inside (stays old) error
+-- type 0
+pub zero_gives : {t : RecordType} {n : ℕ} {d : Reading} → t ≡ types.ZERO → n ≡ 0 → d.index ≤ length d.message → AreOctets d.message → Clauses t n (Ok rdata.ZERO) d d
+zero_gives is none inside octets = gives is (zero_read none inside octets)

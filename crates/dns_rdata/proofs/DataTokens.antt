@@ -1,4 +1,5 @@
 -- Tokens of each type.
+use Rattle.dns_rows.specs.Table.{kinds_of}
 use Rattle.std.proofs.Common.{◌↔◌, ◌≡◌, ◌≢◌, ℕ, List, [], ◌∷◌, Option, Some, None, Result, Ok, Err, IfErr, ◌⊎◌, inl, inr, refl, sym, ap, subst, map, length, arith, ◌∙◌}
 use Rattle.std.specs.{Cow.cow_str_bytes, declared.vec.IntoIter.IntoIter, declared.borrow.CowStr.CowStr, declared.alloc.Global.Global, Result.IsErrAnd}
 use Rattle.std.specs.{Result.IfOk, Result.result_map_both, Vec.Iter.into_iter_steps, Vec.Iter.into_iter_items, Vec.Iter.into_iter_len, Vec.Iter.into_iter_deque}
@@ -113,12 +114,12 @@ back_of origin (rdata.ANAME x) h = record { values = name_fields x.0; stand = st
 back_of origin (rdata.CNAME x) h = record { values = name_fields x.0; stand = straight_back origin name_shape (name_fields x.0) (h, tt); value = record { type = refl; fields = refl; can_be_read = tt } }
 back_of origin (rdata.NS x) h = record { values = name_fields x.0; stand = straight_back origin name_shape (name_fields x.0) (h, tt); value = record { type = refl; fields = refl; can_be_read = tt } }
 back_of origin (rdata.PTR x) h = record { values = name_fields x.0; stand = straight_back origin name_shape (name_fields x.0) (h, tt); value = record { type = refl; fields = refl; can_be_read = tt } }
-back_of origin (rdata.MX x) h = record { values = mx_facts.fields x; stand = straight_back origin mx_facts.kinds (mx_facts.fields x) h; value = record { type = refl; fields = refl; can_be_read = tt } }
+back_of origin (rdata.MX x) h = record { values = mx_facts.fields x; stand = straight_back origin (kinds_of mx_facts.row) (mx_facts.fields x) h; value = record { type = refl; fields = refl; can_be_read = tt } }
 back_of origin (rdata.SMIMEA x) h =
     record { values = tlsa_fields x.0; stand = tlsa_back.back x.0 h; value = record { type = refl; fields = refl; can_be_read = h.enums } }
 back_of origin (rdata.SOA x) h =
     record { values = soa_fields x; stand = (soa_back origin).back x h; value = record { type = refl; fields = refl; can_be_read = h.seconds } }
-back_of origin (rdata.SRV x) h = record { values = srv_facts.fields x; stand = straight_back origin srv_facts.kinds (srv_facts.fields x) h; value = record { type = refl; fields = refl; can_be_read = tt } }
+back_of origin (rdata.SRV x) h = record { values = srv_facts.fields x; stand = straight_back origin (kinds_of srv_facts.row) (srv_facts.fields x) h; value = record { type = refl; fields = refl; can_be_read = tt } }
 back_of origin (rdata.SSHFP x) h =
     record { values = sshfp_fields x; stand = sshfp_back.back x h; value = record { type = refl; fields = refl; can_be_read = h.enums } }
 back_of origin (rdata.TLSA x) h =

@@ -1,4 +1,5 @@
 -- The order of RDATA: by canonical octets, by type, by variant, and by the fields.
+use Rattle.dns_rows.specs.Table.{kinds_of}
 use Rattle.std.specs.Prelude.{◌≡◌, ◌==◌, ℕ, IsTrue, not, List, [], ◌∷◌}
 use Rattle.std.specs.{Option.option_cmp, Ordering.on, Ordering.then_cmp, Ordering.nat_cmp, declared.cmp.Ordering.Ordering}
 use Rattle.std.specs.Cmp.{IsTotalOrder, then_total, on_total}
@@ -84,7 +85,7 @@ OrdersRead v w answer = (t : RecordType) (m : List ℕ) (p n : ℕ) (m' : List �
 
 -- the fields of a record
 abbrev pub fields_by : {T : Type 0} → Facts T → T → FieldsOf
-fields_by f x = record { kinds = f.kinds; values = f.fields x }
+fields_by f x = record { kinds = kinds_of f.row; values = f.fields x }
 
 -- they are of two variants
 abbrev pub Differ : RData → RData → Type 0

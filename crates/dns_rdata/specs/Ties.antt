@@ -1,4 +1,5 @@
 -- `==` of RDATA is true exactly if its order is Equal.
+use Rattle.dns_rows.specs.Table.{kinds_of}
 use Rattle.std.specs.Prelude.{◌≡◌, Bool, true, false, ◌&&◌, if◌then◌else◌, Option, Some, None, List, [], ◌∷◌, refl}
 use Rattle.std.proofs.Common.{ap, ◌∙◌, sym, true≢false, arith, ◌+◌, ◌*◌, ◌/◌, ◌%◌}
 use Rattle.std.specs.{Option.option_cmp, Option.option_eq, Ordering.nat_cmp, Ordering.is_eq, Ordering.ordering_then, declared.cmp.Ordering.Ordering}
@@ -86,7 +87,7 @@ same_octets (rdata.HINFO x) (rdata.HINFO y) h =
     octets_equal base.HINFO.hinfo_shape (base.HINFO.hinfo_fields x) (base.HINFO.hinfo_fields y) h
 same_octets (rdata.HTTPS x) (rdata.HTTPS y) h = svcb_octets x.0 y.0 h
 same_octets (rdata.MX x) (rdata.MX y) h =
-    octets_equal base.NameRecords.mx_facts.kinds (base.NameRecords.mx_facts.fields x)
+    octets_equal (kinds_of base.NameRecords.mx_facts.row) (base.NameRecords.mx_facts.fields x)
     (base.NameRecords.mx_facts.fields y) h
 same_octets (rdata.NAPTR x) (rdata.NAPTR y) h =
     octets_equal base.NAPTR.naptr_shape (base.NAPTR.naptr_fields x) (base.NAPTR.naptr_fields y) h
@@ -114,7 +115,7 @@ same_octets (rdata.SMIMEA x) (rdata.SMIMEA y) h =
 same_octets (rdata.SOA x) (rdata.SOA y) h =
     octets_equal base.SOA.soa_shape (base.SOA.soa_fields x) (base.SOA.soa_fields y) h
 same_octets (rdata.SRV x) (rdata.SRV y) h =
-    octets_equal base.NameRecords.srv_facts.kinds (base.NameRecords.srv_facts.fields x)
+    octets_equal (kinds_of base.NameRecords.srv_facts.row) (base.NameRecords.srv_facts.fields x)
     (base.NameRecords.srv_facts.fields y) h
 same_octets (rdata.SSHFP x) (rdata.SSHFP y) h =
     let s = same_keys certs.SSHFP.sshfp_key_shape (certs.SSHFP.sshfp_keys x) (certs.SSHFP.sshfp_keys y) h in

@@ -38,24 +38,17 @@ macro_rules! equal_each {
     };
 }
 
-// Matches the type: first the given arms, then one for each record, which reads the RDATA and returns the value, if that
-// took RDLENGTH octets, and else the error.
+// Matches the type: first the given arms, then one for each record, which returns its value, or the error of RDATA that it does not
+// fill.
 macro_rules! read_each {
     (
-        ($record_type:expr, $decoder:ident, $start:ident, $length:ident, $($pattern:pat => $other:expr),+; $code:ident => $last:expr)
+        ($record_type:expr, $decoder:ident, $length:ident, $($pattern:pat => $other:expr),+; $code:ident => $last:expr)
         $(($record:ident $rank:literal))+
     ) => {
         match $record_type {
             $($pattern => $other,)+
             $(RecordType::$record => {
-                let data = $record::read_data($decoder, $length);
-                return Ok(RData::$record(of_length(
-                    data,
-                    $decoder,
-                    $start,
-                    RecordType::$record,
-                    $length,
-                )?));
+                return Ok(RData::$record(read_whole::<$record>($decoder, $length)?));
             })+
             $code => $last,
         }

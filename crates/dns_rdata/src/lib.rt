@@ -4,7 +4,6 @@
 pub mod canonical;
 mod each;
 pub mod order;
-mod reading;
 pub mod record_data;
 mod tokens;
 pub mod traits;

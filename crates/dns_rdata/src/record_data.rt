@@ -1,5 +1,6 @@
 //! RDATA of any type.
 
+ghost use Rattle.dns_rows.specs.Table.{kinds_of};
 ghost use Rattle.std.specs.Prelude.{◌≡◌, ◌≢◌, ◌&&◌, ◌+◌, ◌-◌, ◌<◌, ◌++◌, ◌↔◌, ℕ, List, length as size, IsTrue, Some, None, Result, Err, IfOk, IfErr, OnOk};
 ghost use Rattle.std.specs.{Cmp.partial_equiv_from_equiv, Fmt.DisplaysOnOk, Fmt.DisplaysStyledOnOk};
 ghost use Rattle.dns_fields.specs.Equal.{values_eq};
@@ -14,17 +15,18 @@ ghost use Rattle.dns_rdata.specs.{Laws.TellsApart, Laws.address_of, Laws.target_
 ghost use Rattle.dns_rdata.specs.declared.record_data.RData.TheVariants as rdata;
 
 use crate::each::{clone_each, each, equal_each, read_each, with_records};
-use crate::reading::of_length;
 use crate::traits::RecordData;
 use crate::view::RDataRef;
 use crate::{
     A, AAAA, ANAME, CAA, CERT, CNAME, CSYNC, HINFO, HTTPS, MX, NAPTR, NS, NULL, OPENPGPKEY, OPT,
     PTR, SMIMEA, SOA, SRV, SSHFP, SVCB, TLSA, TXT,
 };
+use dns_check::reading::{read_whole, whole_error};
 use dns_names_wire::{
     BinDecoder, BinEncodable, BinEncoder, DecodeError, EncodesFields, Name, ProtoError,
-    RDataEncoding, RecordDataDecodable, RecordType, Restrict, emit_in,
+    RDataEncoding, RecordType, Restrict, emit_in,
 };
+use dns_rows::row;
 use dns_rdata_base::ordered::is_equal;
 use std::alloc::AllocError;
 use std::fmt;
@@ -177,8 +179,7 @@ impl RData {
     /// }
     /// ```
     // Each arm compares the number of octets with RDLENGTH and returns by itself. If all arms met in one statement, or
-    // if another function returned the value, the value would be copied once more. Errors are made by a function of their
-    // own (`read_error`), so that reading a value keeps nothing for them.
+    // if another function returned the value, the value would be copied once more.
     #[inline(never)]
     pub fn read(
         decoder: &mut BinDecoder<'_>,
@@ -202,14 +203,18 @@ impl RData {
         ensures emittable { IfOk result IsEmittable }
     {
         let start = decoder.index();
-        read_each!(record_type, decoder, start, length,
-            RecordType::ZERO => return of_length(Ok(RData::ZERO), decoder, start, record_type, length),
+        read_each!(record_type, decoder, length,
+            RecordType::ZERO => {
+                if length.unverified() == 0 {
+                    return Ok(RData::ZERO);
+                }
+                return Err(whole_error(decoder, start, &row::ZERO, length));
+            },
             RecordType::ANY | RecordType::AXFR | RecordType::IXFR => {
                 return Err(DecodeError::UnknownRecordTypeValue(record_type.into()));
             };
             code => {
-                let data = NULL::read_data(decoder, length);
-                let rdata = of_length(data, decoder, start, code, length)?;
+                let rdata = read_whole::<NULL>(decoder, length)?;
                 return Ok(RData::Unknown { code, rdata });
             }
         )
@@ -415,7 +420,7 @@ fn emit_whole_record<T: EncodesFields + RecordData>(
     value: &T,
     encoder: &mut BinEncoder<'_>,
 ) -> Result<(), ProtoError>
-    requires { (r : Result (Unit {0}) ProtoErrorValue) (old new : Writing) → EmitsAs RDataEncoding.Other T.facts.kinds (T.facts.fields value.now) r old new
+    requires { (r : Result (Unit {0}) ProtoErrorValue) (old new : Writing) → EmitsAs RDataEncoding.Other (kinds_of T.facts.row) (T.facts.fields value.now) r old new
         → EmitsAs RDataEncoding.Other (fields_of (T.wrapped value.now)).kinds (fields_of (T.wrapped value.now)).values r old new }
     ensures { EmitsData RDataEncoding.Other (T.wrapped value.now) result encoder.old encoder.new }
 {

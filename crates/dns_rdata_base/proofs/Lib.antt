@@ -1,5 +1,4 @@
 pub mod Addresses
-pub mod Lacking
 pub mod NumberLaws
 pub mod NumberedLaws
 pub mod QuickOrders

@@ -5,7 +5,7 @@ use Rattle.dns_fields.specs.Fields.{Values}
 use Rattle.dns_fields.specs.declared.Kind.{Kind, TheVariants.Octets}
 use Rattle.dns_rows.specs.Table.{kinds_of}
 use Rattle.dns_rows.specs.declared.row.TheConstants as rows
-use Rattle.dns_names_wire.specs.{State.Reading, Terms.LacksOctets, Facts.Facts, Facts.ending}
+use Rattle.dns_names_wire.specs.{Facts.Facts, Facts.plain}
 use Rattle.dns_tokens.specs.Forms.{TokenRow, token, ignored, ipv4}
 use Rattle.dns_rdata_base.specs.declared.a.A.{A}
 use Rattle.dns_types.specs.declared.error.DecodeError.TheVariants as decode
@@ -25,9 +25,5 @@ a_text x = ipv4_text (ipv4_octets x.0)
 abbrev pub a_tokens : TokenRow a_shape
 a_tokens = token ipv4 ignored
 
--- Why an address is rejected: fewer than its octets are left. They are read.
-abbrev pub IsAError : Reading → DecodeError → Reading → Type 0
-IsAError old e new = (e ≡ decode.InsufficientBytes) × LacksOctets old 4 × (new.index ≡ length old.message)
-
 abbrev pub a_facts : Facts A
-a_facts = ending a_shape (λ _. Unit {0}) a_fields IsAError
+a_facts = plain rows.A a_fields

@@ -7,7 +7,7 @@ use Rattle.dns_fields.specs.Fields.{Values}
 use Rattle.dns_fields.specs.declared.Kind.{Kind, TheVariants.Octets}
 use Rattle.dns_rows.specs.Table.{kinds_of}
 use Rattle.dns_rows.specs.declared.row.TheConstants as rows
-use Rattle.dns_names_wire.specs.{State.Reading, Terms.LacksOctets, Facts.Facts, Facts.ending}
+use Rattle.dns_names_wire.specs.{State.Reading, Terms.LacksOctets, Facts.Facts, Facts.plain}
 use Rattle.dns_tokens.specs.Forms.{TokenRow, token, ignored, ipv6}
 use Rattle.dns_rdata_base.specs.declared.aaaa.AAAA.{AAAA}
 
@@ -26,10 +26,5 @@ aaaa_text x = ipv6_text (ipv6_segments x.0)
 abbrev pub aaaa_tokens : TokenRow aaaa_shape
 aaaa_tokens = token ipv6 ignored
 
--- Why an address is rejected: fewer than its octets are left. Whole pairs of them are read.
-abbrev pub IsAaaaError : Reading → DecodeError → Reading → Type 0
-IsAaaaError old e new = (e ≡ decode.InsufficientBytes) × LacksOctets old 16
-    × (new.index ≡ old.index + (length old.message - old.index) / 2 * 2)
-
 abbrev pub aaaa_facts : Facts AAAA
-aaaa_facts = ending aaaa_shape (λ _. Unit {0}) aaaa_fields IsAaaaError
+aaaa_facts = plain rows.AAAA aaaa_fields

@@ -6,7 +6,7 @@ use Rattle.dns_rows.specs.Table.{kinds_of}
 use Rattle.dns_rows.specs.declared.row.TheConstants as rows
 use Rattle.dns_types.specs.declared.error.DecodeError.{DecodeError}
 use Rattle.dns_types.specs.declared.error.DecodeError.TheVariants as decode
-use Rattle.dns_names_wire.specs.{State.Reading, Terms.TookField, Terms.LacksText, Facts.Facts, Facts.ending}
+use Rattle.dns_names_wire.specs.{State.Reading, Terms.TookField, Terms.LacksText, Facts.Facts, Facts.plain}
 use Rattle.dns_tokens.specs.Forms.{TokenRow, token, ignored, kept}
 use Rattle.dns_rdata_base.specs.{Lossy.lossy, declared.hinfo.HINFO.HINFO}
 
@@ -25,13 +25,5 @@ hinfo_text x = lossy x.cpu ++ codes " " ++ lossy x.os
 abbrev pub hinfo_tokens : TokenRow hinfo_shape
 hinfo_tokens = token kept (token kept ignored)
 
--- the first string lacks octets, or the second one after it
-abbrev pub LacksTwoTexts : Reading → Reading → Type 0
-LacksTwoTexts old new = LacksText old new
-    ⊎ ((cpu : List ℕ) × (between : Reading) × TookField old CharacterString cpu between × LacksText between new)
-
-abbrev pub IsHinfoError : Reading → DecodeError → Reading → Type 0
-IsHinfoError old e new = (e ≡ decode.Memory) ⊎ ((e ≡ decode.InsufficientBytes) × LacksTwoTexts old new)
-
 abbrev pub hinfo_facts : Facts HINFO
-hinfo_facts = ending hinfo_shape (λ _. Unit {0}) hinfo_fields IsHinfoError
+hinfo_facts = plain rows.HINFO hinfo_fields

@@ -9,7 +9,6 @@ pub mod NameRecords
 pub mod Numbered
 pub mod OPENPGPKEY
 pub mod Ordered
-pub mod FieldErrors
 pub mod SOA
 pub mod TXT
 pub mod Taking

@@ -8,9 +8,9 @@ use Rattle.dns_fields.specs.{declared.Kind.TheVariants.CharacterString, declared
 use Rattle.dns_rows.specs.{Table.kinds_of, Rules.AreLetters, Rules.MeetsRow}
 use Rattle.dns_rows.specs.declared.row.TheConstants as rows
 use Rattle.dns_labels.specs.Text.{name_text}
-use Rattle.dns_names_wire.specs.{State.Reading, Terms.Took, Facts.Facts, Facts.ending}
+use Rattle.dns_names_wire.specs.{State.Reading, Terms.Took, Facts.Facts, Facts.plain}
 use Rattle.dns_tokens.specs.Forms.{Form, TokenRow, token, ignored, number, kept, name}
-use Rattle.dns_rdata_base.specs.{Lossy.lossy, FieldErrors.IsLack, declared.naptr.NAPTR.NAPTR}
+use Rattle.dns_rdata_base.specs.{Lossy.lossy, declared.naptr.NAPTR.NAPTR}
 
 -- order, preference
 abbrev pub naptr_numbers_shape : List Kind
@@ -37,20 +37,8 @@ naptr_fields x = (x.order, (x.preference, (x.flags, (x.services, (x.regexp, (x.r
 abbrev pub MeetsNaptrCondition : Values naptr_shape → Type 0
 MeetsNaptrCondition vs = MeetsRow rows.NAPTR vs
 
--- the flags, after order and preference, have another octet
-pub record BadFlags (old : Reading) (e : DecodeError) (new : Reading) : Type 0 where
-  pub error : e ≡ decode.NaptrFlagsInvalid
-  pub order : ℕ
-  pub preference : ℕ
-  pub flags : List ℕ
-  pub took : Took old (Number 2 ∷ Number 2 ∷ CharacterString ∷ []) (order, (preference, (flags, tt))) new
-  pub bad : AreLetters flags → ⊥
-
-abbrev pub IsNaptrError : Reading → DecodeError → Reading → Type 0
-IsNaptrError old e new = IsLack naptr_shape old e new ⊎ BadFlags old e new
-
 abbrev pub naptr_facts : Facts NAPTR
-naptr_facts = ending naptr_shape MeetsNaptrCondition naptr_fields IsNaptrError
+naptr_facts = plain rows.NAPTR naptr_fields
 
 -- the fields, a blank between, the strings in quotes
 abbrev pub naptr_text : NAPTR → List ℕ

@@ -21,9 +21,5 @@ null_fields x = (x.anything, tt)
 abbrev pub null_text : NULL → List ℕ
 null_text x = encode_of standard x.anything
 
--- fewer than n octets are left, and none is taken
-abbrev pub IsNullError : ℕ → Reading → DecodeError → Reading → Type 0
-IsNullError n old e new = (new ≡ old) × ((e ≡ decode.Memory) ⊎ ((e ≡ decode.InsufficientBytes) × LacksOctets old n))
-
 abbrev pub null_facts : Facts NULL
-null_facts = filling null_shape (λ _. Unit {0}) null_fields IsNullError (λ _. Unit {0})
+null_facts = filling rows.NULL null_fields (λ _. Unit {0})

@@ -8,7 +8,7 @@ use Rattle.dns_rows.specs.declared.row.TheConstants as rows
 use Rattle.dns_types.specs.declared.error.DecodeError.{DecodeError}
 use Rattle.dns_names_wire.specs.{State.Reading, Facts.Facts, Facts.filling}
 use Rattle.dns_tokens.specs.Forms.{TokenRow, token, nothing, base64}
-use Rattle.dns_rdata_base.specs.{NULL.IsNullError, declared.openpgpkey.OPENPGPKEY.OPENPGPKEY}
+use Rattle.dns_rdata_base.specs.{declared.openpgpkey.OPENPGPKEY.OPENPGPKEY}
 
 -- all octets are the key
 abbrev pub openpgpkey_shape : List Kind
@@ -25,8 +25,5 @@ openpgpkey_text x = encode_of standard x.public_key
 abbrev pub openpgpkey_tokens : TokenRow openpgpkey_shape
 openpgpkey_tokens = token base64 nothing
 
-abbrev pub IsOpenpgpkeyError : ℕ → Reading → DecodeError → Reading → Type 0
-IsOpenpgpkeyError = IsNullError
-
 abbrev pub openpgpkey_facts : Facts OPENPGPKEY
-openpgpkey_facts = filling openpgpkey_shape (λ _. Unit {0}) openpgpkey_fields IsOpenpgpkeyError (λ _. Unit {0})
+openpgpkey_facts = filling rows.OPENPGPKEY openpgpkey_fields (λ _. Unit {0})

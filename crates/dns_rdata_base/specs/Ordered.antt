@@ -24,10 +24,8 @@ by_keys kinds keys f = record f { order = on keys (values_cmp kinds) }
 -- values that hold one of another type, as that one
 abbrev pub via : {T U : Type 0} → (U → T) → Facts T → Facts U
 via held f = record {
-  kinds = f.kinds;
-  condition = f.condition;
+  row = f.row;
   fields = λ x. f.fields (held x);
-  rejects = f.rejects;
   after_read = λ n x old new. f.after_read n (held x) old new;
   order = on held f.order;
 }

@@ -8,7 +8,7 @@ use Rattle.dns_labels.specs.Text.{name_text}
 use Rattle.std.specs.{Fmt.signed_decimal, Int.cast_unsigned, Int.w32}
 use Rattle.dns_names_wire.specs.Facts.{Facts}
 use Rattle.dns_tokens.specs.{Forms.TokenRow, Forms.token, Forms.ignored, Forms.ttl, Forms.name, Printed.IsPrintedName}
-use Rattle.dns_rdata_base.specs.{FieldErrors.straight, declared.soa.SOA.SOA}
+use Rattle.dns_rdata_base.specs.{declared.soa.SOA.SOA}
 
 -- serial, refresh, retry, expire, minimum
 abbrev pub soa_numbers_shape : List Kind
@@ -35,7 +35,7 @@ pub record HasSeconds (x : SOA) : Type 0 where
   pub expire : FitsSigned w32 x.expire
 
 abbrev pub soa_facts : Facts SOA
-soa_facts = record (straight soa_shape soa_fields) { after_read = λ n x old new. HasSeconds x }
+soa_facts = record (plain rows.SOA soa_fields) { after_read = λ n x old new. HasSeconds x }
 
 -- the fields, a blank between
 abbrev pub soa_text : SOA → List ℕ

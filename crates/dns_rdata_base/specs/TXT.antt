@@ -26,24 +26,11 @@ txt_text x = flat_map lossy x.txt_data
 abbrev pub txt_tokens : TokenRow txt_shape
 txt_tokens = every_text
 
--- after some strings, before n octets are read, the next string lacks octets
-pub record LacksString (n : ℕ) (old new : Reading) : Type 0 where
-  pub strings : List (List ℕ)
-  pub between : Reading
-  pub took : TookField old CharacterStrings strings between
-  pub before : between.index < old.index + n
-  pub lacks : LacksText between new
-
-abbrev pub IsTxtError : ℕ → Reading → DecodeError → Reading → Type 0
-IsTxtError n old e new = (e ≡ decode.Memory) ⊎ ((e ≡ decode.InsufficientBytes) × LacksString n old new)
-
 -- the strings that were taken reach the length, or pass it, and the last of them begins before it
 abbrev pub txt_facts : Facts TXT
 txt_facts = record {
-  kinds = txt_shape;
-  condition = λ _. Unit {0};
+  row = rows.TXT;
   fields = txt_fields;
-  rejects = IsTxtError;
   after_read = λ n x old new. TookField old CharacterStrings x.txt_data new × StringsReach (old.index + n) x.txt_data new.index;
   order = on txt_fields (values_cmp txt_shape);
 }

@@ -1,5 +1,6 @@
 //! A: an IPv4 address (RFC 1035, 3.4.1).
 
+ghost use Rattle.std.specs.Prelude.{refl};
 ghost use Rattle.std.specs.Prelude.{◌≡◌, ◌≢◌, ◌+◌, ◌<◌, ◌≤◌, ◌++◌, ℕ, List, [], ◌∷◌, length, length as list_length, decimal, OnErr, IfErr, Some, take};
 ghost use Rattle.std.specs.Net.{Grammar.Parses, Grammar.IsIpv4Text, Addr.ipv4_octets};
 ghost use Rattle.dns_names_wire.specs.Terms.{ReadsIf, ReadsBy, Emits, LacksOctets, Always, IsTruncated};
@@ -11,10 +12,9 @@ ghost use Rattle.dns_types.specs.declared.error.ParseError.TheVariants as parse;
 use crate::traits::TakesOctet;
 use crate::{OrderedRecord, unless_tied};
 use dns_canonical::{AtOnce, Head, Tail, octets_cmp};
-use dns_names_wire::{
-    AddrParseError, BinDecodable, BinDecoder, BinEncodable, BinEncoder, DecodeError, DecodesFields,
-    ParseError, ProtoError, Record,
-};
+use dns_rows::{Part, row};
+use dns_check::{BinDecodable, DecodesFields};
+use dns_names_wire::{AddrParseError, BinDecoder, BinEncodable, BinEncoder, DecodeError, ParseError, ProtoError, Record};
 use dns_tokens::next_ipv4;
 use std::cmp::Ordering;
 use std::convert::AsStr;
@@ -91,10 +91,15 @@ impl TakesOctet for A {
 
 impl Record for A {
     ghost facts = { a_facts };
+
+    #[inline]
+    fn row() -> &'static [Part] {
+        &row::A
+    }
 }
 
 impl DecodesFields for A {
-    ghost ends = { (tt, (tt, tt)) };
+    ghost alone = { record { checked = refl; asked = refl; alone = refl; long = tt } };
 
     #[inline]
     fn read_fields(decoder: &mut BinDecoder<'_>) -> Result<A, DecodeError> {

@@ -1,5 +1,6 @@
 //! AAAA: an IPv6 address (RFC 3596, 2.2).
 
+ghost use Rattle.std.specs.Prelude.{refl};
 ghost use Rattle.std.specs.Prelude.{◌≡◌, ◌≢◌, ◌+◌, ◌-◌, ◌*◌, ◌/◌, ◌<◌, ◌≤◌, ℕ, List, [], ◌∷◌, length, length as list_length, OnErr, IfErr, Some};
 ghost use Rattle.std.specs.{Net.Addr.ipv6_segments, Net.Addr.ipv6_octets, Net.Grammar.Parses, Net.Grammar.IsIpv6Text, Cmp.Rules.hashing};
 ghost use Rattle.dns_names_wire.specs.Terms.{ReadsIf, ReadsBy, Emits, LacksOctets, Always, IsTruncated};
@@ -13,10 +14,9 @@ ghost use Rattle.dns_types.specs.declared.error.ParseError.TheVariants as parse;
 use crate::traits::TakesOctet;
 use crate::{OrderedRecord, unless_tied};
 use dns_canonical::{AtOnce, Head, Tail, octets_cmp};
-use dns_names_wire::{
-    AddrParseError, BinDecodable, BinDecoder, BinEncodable, BinEncoder, DecodeError, DecodesFields,
-    ParseError, ProtoError, Record,
-};
+use dns_rows::{Part, row};
+use dns_check::{BinDecodable, DecodesFields};
+use dns_names_wire::{AddrParseError, BinDecoder, BinEncodable, BinEncoder, DecodeError, ParseError, ProtoError, Record};
 use dns_tokens::next_ipv6;
 use std::cmp::Ordering;
 use std::convert::AsStr;
@@ -94,10 +94,15 @@ impl TakesOctet for AAAA {
 
 impl Record for AAAA {
     ghost facts = { aaaa_facts };
+
+    #[inline]
+    fn row() -> &'static [Part] {
+        &row::AAAA
+    }
 }
 
 impl DecodesFields for AAAA {
-    ghost ends = { (tt, (tt, tt)) };
+    ghost alone = { record { checked = refl; asked = refl; alone = refl; long = tt } };
 
     #[inline]
     fn read_fields(decoder: &mut BinDecoder<'_>) -> Result<AAAA, DecodeError> {

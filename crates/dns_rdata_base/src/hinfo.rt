@@ -1,7 +1,9 @@
 //! HINFO: a machine and its system (RFC 1035, 3.3.2).
 
+ghost use Rattle.std.specs.Prelude.{refl};
 ghost use Rattle.std.specs.{Prelude.◌≡◌, Prelude.ℕ, Prelude.[], Prelude.Some, Box.boxed_slice_items, String.string_bytes};
-ghost use Rattle.dns_names_wire.specs.{Facts.RecordRefuses, Facts.RecordStands, Terms.Emits};
+ghost use Rattle.dns_names_wire.specs.{Facts.RecordStands, Terms.Emits};
+ghost use Rattle.dns_check.specs.ByRow.{RecordRefuses};
 ghost use Rattle.dns_fields.specs.Fields.{all_emittable};
 ghost use Rattle.dns_canonical.specs.Steps.{AllShort, GivesStep, field_steps};
 ghost use Rattle.dns_rdata_base.specs.{HINFO.hinfo_shape, HINFO.hinfo_fields, HINFO.hinfo_facts, HINFO.hinfo_text, HINFO.hinfo_tokens, Steps.hinfo_begins};
@@ -10,10 +12,9 @@ ghost use Rattle.dns_tokens.specs.Reads.{ReadsTokenRow};
 use crate::{OrderedRecord, cmp_each_field};
 use bstr::BStr;
 use dns_canonical::{Head, Step, text_behind};
-use dns_names_wire::{
-    BinDecodable, BinDecoder, BinEncodable, BinEncoder, DecodeError, DecodesFields, ParseError,
-    ProtoError, Record, SmallOctets,
-};
+use dns_rows::{Part, row};
+use dns_check::{BinDecodable, DecodesFields, read_alone};
+use dns_names_wire::{BinDecoder, BinEncodable, BinEncoder, DecodeError, ParseError, ProtoError, Record, SmallOctets};
 use dns_tokens::next_kept;
 use std::alloc::Global;
 use std::boxed::BoxedSlice;
@@ -83,10 +84,15 @@ impl HINFO {
 
 impl Record for HINFO {
     ghost facts = { hinfo_facts };
+
+    #[inline]
+    fn row() -> &'static [Part] {
+        &row::HINFO
+    }
 }
 
 impl DecodesFields for HINFO {
-    ghost ends = { (tt, (tt, (tt, tt))) };
+    ghost alone = { record { checked = refl; asked = refl; alone = refl; long = tt } };
 
     fn read_fields(decoder: &mut BinDecoder<'_>) -> Result<HINFO, DecodeError> {
         let alloc = decoder.allocator();
@@ -112,7 +118,7 @@ impl BinDecodable for HINFO {
     /// - [`Memory`](DecodeError::Memory): an allocation failed.
     #[inline]
     fn read(decoder: &mut BinDecoder<'_>) -> Result<HINFO, DecodeError> {
-        HINFO::read_fields(decoder)
+        read_alone::<HINFO>(decoder)
     }
 }
 

@@ -1,5 +1,5 @@
 //! RDATA of addresses, names, strings and any octets.
-#![tactic(auto, using(dns_names_wire::proofs::FieldReads::reading, dns_names_wire::proofs::FieldWrites::writing, dns_tokens::proofs::Steps::reading, dns_canonical::proofs::Comparing::then_equal, dns_canonical::proofs::Comparing::then_assoc))]
+#![tactic(auto, using(dns_names_wire::proofs::FieldReads::reading, dns_names_wire::proofs::FieldWrites::writing, dns_check::proofs::ByRow::exact_row, dns_tokens::proofs::Steps::reading, dns_canonical::proofs::Comparing::then_equal, dns_canonical::proofs::Comparing::then_assoc))]
 
 pub mod a;
 pub mod aaaa;
@@ -19,7 +19,6 @@ pub mod txt;
 
 pub use a::A;
 pub use aaaa::AAAA;
-pub use dns_names_wire::{DecodesFields, RecordDataDecodable};
 pub use hinfo::{HINFO, hinfo_is_emittable, hinfo_step};
 pub use mx::MX;
 pub use name::{ANAME, CNAME, NS, PTR, name_step};

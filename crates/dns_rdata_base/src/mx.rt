@@ -1,5 +1,7 @@
 //! MX: a mail exchange (RFC 1035, 3.3.9).
 
+ghost use Rattle.std.specs.Prelude.{refl};
+ghost use Rattle.dns_rows.specs.Table.{kinds_of};
 ghost use Rattle.std.specs.{Prelude.◌≡◌, Prelude.Some, Option.option_copied};
 ghost use Rattle.dns_fields.specs.declared.RDataEncoding.TheVariants as modes;
 ghost use Rattle.dns_rdata_base.specs.NameRecords.{mx_facts};
@@ -7,10 +9,9 @@ ghost use Rattle.dns_tokens.specs.{Reads.ReadsTokenRow, Straight.straight_tokens
 
 use crate::{OrderedRecord, cmp_each_field, unless_tied};
 use dns_canonical::{AtOnce, Head, Tail, name_behind, two_behind};
-use dns_names_wire::{
-    BinDecodable, BinDecoder, BinEncodable, BinEncoder, DecodeError, DecodesFields, EncodesFields,
-    Name, ParseError, ProtoError, RDataEncoding, Record,
-};
+use dns_rows::{Part, row};
+use dns_check::DecodesFields;
+use dns_names_wire::{BinDecoder, BinEncodable, BinEncoder, DecodeError, EncodesFields, Name, ParseError, ProtoError, RDataEncoding, Record};
 use dns_tokens::{next_name, next_u16, number_field};
 use std::alloc::Global;
 use std::cmp::Ordering;
@@ -60,7 +61,7 @@ impl MX {
         origin: Option<&Name>,
     ) -> Result<MX, ParseError>
         requires can { I.can_next tokens }
-        ensures { ReadsTokenRow I.next_gives S.text (straight_tokens (option_copied origin.entry) mx_facts.kinds) mx_facts.fields result tokens }
+        ensures { ReadsTokenRow I.next_gives S.text (straight_tokens (option_copied origin.entry) (kinds_of mx_facts.row)) mx_facts.fields result tokens }
     {
         let preference = next_u16(&mut tokens, number_field!("MX preference"))?;
         let exchange = next_name(alloc, &mut tokens, origin, "MX exchange")?;
@@ -70,10 +71,15 @@ impl MX {
 
 impl Record for MX {
     ghost facts = { mx_facts };
+
+    #[inline]
+    fn row() -> &'static [Part] {
+        &row::MX
+    }
 }
 
 impl DecodesFields for MX {
-    ghost ends = { (tt, (tt, (tt, tt))) };
+    ghost alone = { record { checked = refl; asked = refl; alone = refl; long = tt } };
 
     fn read_fields(decoder: &mut BinDecoder<'_>) -> Result<MX, DecodeError> {
         let preference = decoder.read_u16()?.unverified();

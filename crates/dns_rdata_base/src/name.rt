@@ -1,5 +1,6 @@
 //! Records of one name: CNAME, NS, PTR (RFC 1035, 3.3) and ANAME.
 
+ghost use Rattle.std.specs.Prelude.{refl};
 ghost use Rattle.std.specs.{Prelude.◌≡◌, Prelude.ℕ, Prelude.[], Prelude.Some, Option.option_copied};
 ghost use Rattle.dns_fields.specs.declared.RDataEncoding.TheVariants as modes;
 ghost use Rattle.dns_canonical.specs.Steps.{GivesStep, at_once, field_steps};
@@ -8,10 +9,9 @@ ghost use Rattle.dns_tokens.specs.{Reads.ReadsTokenRow, Straight.straight_tokens
 
 use crate::{OrderedRecord, unless_tied};
 use dns_canonical::{Head, Step, Tail, name_behind};
-use dns_names_wire::{
-    BinDecodable, BinDecoder, BinEncodable, BinEncoder, DecodeError, DecodesFields, EncodesFields,
-    Name, ParseError, ProtoError, RDataEncoding, Record,
-};
+use dns_rows::{Part, row};
+use dns_check::DecodesFields;
+use dns_names_wire::{BinDecoder, BinEncodable, BinEncoder, DecodeError, EncodesFields, Name, ParseError, ProtoError, RDataEncoding, Record};
 use dns_tokens::next_name;
 use std::alloc::Global;
 use std::cmp::Ordering;
@@ -62,10 +62,15 @@ impl CNAME {
 
 impl Record for CNAME {
     ghost facts = { cname_facts };
+
+    #[inline]
+    fn row() -> &'static [Part] {
+        &row::NAME
+    }
 }
 
 impl DecodesFields for CNAME {
-    ghost ends = { (tt, (tt, tt)) };
+    ghost alone = { record { checked = refl; asked = refl; alone = refl; long = tt } };
 
     fn read_fields(decoder: &mut BinDecoder<'_>) -> Result<CNAME, DecodeError> {
         Ok(CNAME(Name::read(decoder)?))
@@ -144,10 +149,15 @@ impl NS {
 
 impl Record for NS {
     ghost facts = { ns_facts };
+
+    #[inline]
+    fn row() -> &'static [Part] {
+        &row::NAME
+    }
 }
 
 impl DecodesFields for NS {
-    ghost ends = { (tt, (tt, tt)) };
+    ghost alone = { record { checked = refl; asked = refl; alone = refl; long = tt } };
 
     fn read_fields(decoder: &mut BinDecoder<'_>) -> Result<NS, DecodeError> {
         Ok(NS(Name::read(decoder)?))
@@ -226,10 +236,15 @@ impl PTR {
 
 impl Record for PTR {
     ghost facts = { ptr_facts };
+
+    #[inline]
+    fn row() -> &'static [Part] {
+        &row::NAME
+    }
 }
 
 impl DecodesFields for PTR {
-    ghost ends = { (tt, (tt, tt)) };
+    ghost alone = { record { checked = refl; asked = refl; alone = refl; long = tt } };
 
     fn read_fields(decoder: &mut BinDecoder<'_>) -> Result<PTR, DecodeError> {
         Ok(PTR(Name::read(decoder)?))
@@ -308,10 +323,15 @@ impl ANAME {
 
 impl Record for ANAME {
     ghost facts = { aname_facts };
+
+    #[inline]
+    fn row() -> &'static [Part] {
+        &row::NAME
+    }
 }
 
 impl DecodesFields for ANAME {
-    ghost ends = { (tt, (tt, tt)) };
+    ghost alone = { record { checked = refl; asked = refl; alone = refl; long = tt } };
 
     fn read_fields(decoder: &mut BinDecoder<'_>) -> Result<ANAME, DecodeError> {
         Ok(ANAME(Name::read(decoder)?))

@@ -1,5 +1,6 @@
 //! NAPTR: a rule that rewrites a name (RFC 3403, 4).
 
+ghost use Rattle.std.specs.Prelude.{refl};
 ghost use Rattle.std.specs.{Prelude.◌≡◌, Prelude.ℕ, Prelude.[], Prelude.Some, Option.option_copied, Box.boxed_slice_items, Char.is_ascii_alphanumeric, List.list_all};
 ghost use Rattle.dns_names_wire.specs.{Terms.Emits};
 ghost use Rattle.dns_rdata_base.specs.NAPTR.{naptr_numbers_shape, naptr_numbers, naptr_rest_shape, naptr_rest, naptr_shape, naptr_fields};
@@ -13,10 +14,9 @@ ghost use Rattle.dns_fields.specs.declared.RDataEncoding.TheVariants as modes;
 use crate::{OrderedRecord, cmp_each_field, unless_tied};
 use bstr::BStr;
 use dns_canonical::{Head, Step, Tail, name_behind, text_behind, two_behind};
-use dns_names_wire::{
-    BinDecodable, BinDecoder, BinEncodable, BinEncoder, DecodeError, DecodesFields, EncodesFields,
-    Name, Octets, ParseError, ProtoError, RDataEncoding, Record,
-};
+use dns_rows::{Part, row};
+use dns_check::DecodesFields;
+use dns_names_wire::{BinDecoder, BinEncodable, BinEncoder, DecodeError, EncodesFields, Name, Octets, ParseError, ProtoError, RDataEncoding, Record};
 use dns_tokens::{next_kept, next_name, next_token, next_u16, number_field};
 use std::alloc::Global;
 use std::boxed::BoxedSlice;
@@ -146,10 +146,15 @@ fn next_flags<S: AsStr + Drop, I: Iterator<Item = S>>(
 
 impl Record for NAPTR {
     ghost facts = { naptr_facts };
+
+    #[inline]
+    fn row() -> &'static [Part] {
+        &row::NAPTR
+    }
 }
 
 impl DecodesFields for NAPTR {
-    ghost ends = { (tt, (tt, (tt, (tt, (tt, (tt, (tt, tt))))))) };
+    ghost alone = { record { checked = refl; asked = refl; alone = refl; long = tt } };
 
     /// Reads the fields. The flags are tested as soon as they are read: if one of their octets is no letter and no
     /// digit, it fails with [`NaptrFlagsInvalid`](DecodeError::NaptrFlagsInvalid).

@@ -1,15 +1,15 @@
 //! NULL: any octets (RFC 1035, section 3.3.10).
 
+ghost use Rattle.std.specs.Prelude.{refl};
 ghost use Rattle.std.specs.Prelude.{◌≡◌, ◌≢◌, [], Some};
 ghost use Rattle.dns_names_wire.specs.{Terms.Emits};
 ghost use Rattle.dns_rdata_base.specs.NULL.{null_shape, null_fields, null_facts, null_text};
 
 use crate::OrderedRecord;
 use crate::rest::rest_cmp_canonical;
-use dns_names_wire::{
-    BinDecoder, BinEncodable, BinEncoder, DecodeError, ProtoError, Record, RecordDataDecodable,
-    Restrict, SmallOctets,
-};
+use dns_rows::{Part, row};
+use dns_check::DecodesRow;
+use dns_names_wire::{BinDecoder, BinEncodable, BinEncoder, DecodeError, ProtoError, Record, Restrict, SmallOctets};
 use dns_tokens::Base64Text;
 use std::alloc::Global;
 use std::cmp::Ordering;
@@ -54,19 +54,22 @@ impl NULL {
 
 impl Record for NULL {
     ghost facts = { null_facts };
+
+    #[inline]
+    fn row() -> &'static [Part] {
+        &row::NULL
+    }
 }
 
-impl RecordDataDecodable for NULL {
+impl DecodesRow for NULL {
+    ghost checked = { refl };
+
     /// Reads all octets of RDLENGTH. Allocates once if they are more than 64.
-    ///
-    /// # Errors
-    ///
-    /// Nothing is read then.
-    ///
-    /// - [`InsufficientBytes`](DecodeError::InsufficientBytes): fewer octets are left.
-    /// - [`Memory`](DecodeError::Memory): the allocation failed.
     #[inline]
-    fn read_data(decoder: &mut BinDecoder<'_>, length: Restrict<u16>) -> Result<NULL, DecodeError> {
+    fn read_row(
+        decoder: &mut BinDecoder<'_>,
+        length: Restrict<u16>,
+    ) -> Result<NULL, DecodeError> {
         // For the proof: brings in that the message is octets and the index is at most its length.
         let _start = decoder.index();
         let octets = decoder.read_small(length.unverified() as usize)?;

@@ -1,5 +1,6 @@
 //! OPENPGPKEY: a public key (RFC 7929, 2.1).
 
+ghost use Rattle.std.specs.Prelude.{refl};
 ghost use Rattle.std.specs.Prelude.{◌≡◌, Some};
 ghost use Rattle.dns_names_wire.specs.{Terms.Emits};
 ghost use Rattle.dns_rdata_base.specs.OPENPGPKEY.{openpgpkey_shape, openpgpkey_fields, openpgpkey_facts, openpgpkey_text, openpgpkey_tokens};
@@ -7,10 +8,9 @@ ghost use Rattle.dns_tokens.specs.Reads.{ReadsTokenRow};
 
 use crate::OrderedRecord;
 use crate::rest::rest_cmp_canonical;
-use dns_names_wire::{
-    BinDecoder, BinEncodable, BinEncoder, DecodeError, ParseError, ProtoError, Record,
-    RecordDataDecodable, Restrict, SmallOctets,
-};
+use dns_rows::{Part, row};
+use dns_check::DecodesRow;
+use dns_names_wire::{BinDecoder, BinEncodable, BinEncoder, DecodeError, ParseError, ProtoError, Record, Restrict, SmallOctets};
 use dns_tokens::{Base64Text, base64_field, next_base64, no_more};
 use std::alloc::Global;
 use std::cmp::Ordering;
@@ -60,19 +60,19 @@ impl OPENPGPKEY {
 
 impl Record for OPENPGPKEY {
     ghost facts = { openpgpkey_facts };
+
+    #[inline]
+    fn row() -> &'static [Part] {
+        &row::OPENPGPKEY
+    }
 }
 
-impl RecordDataDecodable for OPENPGPKEY {
+impl DecodesRow for OPENPGPKEY {
+    ghost checked = { refl };
+
     /// Reads all octets of RDLENGTH. Allocates once if they are more than 64.
-    ///
-    /// # Errors
-    ///
-    /// Nothing is read then.
-    ///
-    /// - [`InsufficientBytes`](DecodeError::InsufficientBytes): fewer octets are left.
-    /// - [`Memory`](DecodeError::Memory): the allocation failed.
     #[inline]
-    fn read_data(
+    fn read_row(
         decoder: &mut BinDecoder<'_>,
         length: Restrict<u16>,
     ) -> Result<OPENPGPKEY, DecodeError> {

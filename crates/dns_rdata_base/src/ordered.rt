@@ -1,5 +1,6 @@
 //! Records that are ordered by their fields.
 
+ghost use Rattle.dns_rows.specs.Table.{kinds_of};
 ghost use Rattle.std.specs.{declared.cmp.Ordering.TheVariants.Equal, Prelude.◌≡◌, Prelude.true};
 ghost use Rattle.dns_fields.specs.Fields.{all_emittable};
 ghost use Rattle.dns_canonical.specs.Fronts.{AllEndAlike, fields_cmp};
@@ -12,7 +13,7 @@ use std::cmp::Ordering;
 pub trait OrderedRecord: Record + PartialEq {
     /// The order of the canonical octets, where the fields tell it without a cursor. `Equal` only of equal records.
     fn cmp_canonical_fields(&self, other: &Self) -> Option<Ordering>
-        ensures { IfSomeOrder Self.facts.kinds (Self.facts.fields self.now) (Self.facts.fields other.now) (Self.eq self.now other.now) result };
+        ensures { IfSomeOrder (kinds_of Self.facts.row) (Self.facts.fields self.now) (Self.facts.fields other.now) (Self.eq self.now other.now) result };
 
     /// The order by the fields in turn, each by its value.
     fn cmp_values(&self, other: &Self) -> Ordering
@@ -56,11 +57,11 @@ pub fn unless_tied<T: Record + PartialEq>(
     b: &T,
     in_place: bool,
 ) -> Option<Ordering>
-    requires order { order ≡ fields_cmp Equal T.facts.kinds (T.facts.fields a.now) (T.facts.fields b.now) }
-    requires ends { AllEndAlike T.facts.kinds (T.facts.fields a.now) (T.facts.fields b.now) }
-    requires first { all_emittable T.facts.kinds (T.facts.fields a.now) ≡ true }
-    requires second { all_emittable T.facts.kinds (T.facts.fields b.now) ≡ true }
-    ensures { IfSomeOrder T.facts.kinds (T.facts.fields a.now) (T.facts.fields b.now) (T.eq a.now b.now) result }
+    requires order { order ≡ fields_cmp Equal (kinds_of T.facts.row) (T.facts.fields a.now) (T.facts.fields b.now) }
+    requires ends { AllEndAlike (kinds_of T.facts.row) (T.facts.fields a.now) (T.facts.fields b.now) }
+    requires first { all_emittable (kinds_of T.facts.row) (T.facts.fields a.now) ≡ true }
+    requires second { all_emittable (kinds_of T.facts.row) (T.facts.fields b.now) ≡ true }
+    ensures { IfSomeOrder (kinds_of T.facts.row) (T.facts.fields a.now) (T.facts.fields b.now) (T.eq a.now b.now) result }
 {
     let is_found = order.is_ne() || if in_place { a == b } else { is_equal(a, b) };
     if is_found { Some(order) } else { None }

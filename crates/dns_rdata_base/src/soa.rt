@@ -1,11 +1,12 @@
 //! SOA: the start of a zone of authority (RFC 1035, 3.3.13).
 
+ghost use Rattle.std.specs.Prelude.{refl};
 ghost use Rattle.std.specs.Prelude.{◌≡◌, ◌+◌, ◌++◌, ◌%◌, ℕ, [], IfErr, IfOk, Some};
 ghost use Rattle.std.specs.{Int.bytes_high_first, Int.cast_unsigned, Int.w32, Ordering.nat_cmp, Ordering.ordering_then, Cmp.Lexicographic.slice_cmp};
 ghost use Rattle.std.specs.{declared.cmp.Ordering.TheVariants.Equal, Option.option_copied};
 ghost use Rattle.dns_names_wire.specs.{Facts.same, Facts.same_equiv, Facts.same_partial, Terms.ReadsIf, Terms.Emits, Terms.Always};
 ghost use Rattle.dns_rdata_base.specs.SOA.{soa_shape, soa_fields, soa_facts, soa_numbers_shape, soa_numbers, soa_numbers_of, soa_text, soa_tokens, HasSeconds};
-ghost use Rattle.dns_rdata_base.specs.{FieldErrors.IsLack, Steps.soa_begins};
+ghost use Rattle.dns_rdata_base.specs.{Steps.soa_begins};
 ghost use Rattle.dns_tokens.specs.Reads.{ReadsTokenRow};
 ghost use Rattle.dns_fields.specs.Fields.{canonical, field_octets};
 ghost use Rattle.dns_fields.specs.declared.Kind.{TheVariants.Number};
@@ -14,10 +15,9 @@ ghost use Rattle.dns_fields.specs.declared.RDataEncoding.TheVariants as modes;
 
 use crate::{OrderedRecord, in_order, unless_tied};
 use dns_canonical::{Head, Step, Tail, four_behind, name_behind};
-use dns_names_wire::{
-    BinDecodable, BinDecoder, BinEncodable, BinEncoder, DecodeError, DecodesFields, EncodesFields,
-    Name, ParseError, ProtoError, RDataEncoding, Record,
-};
+use dns_rows::{Part, row};
+use dns_check::DecodesFields;
+use dns_names_wire::{BinDecoder, BinEncodable, BinEncoder, DecodeError, EncodesFields, Name, ParseError, ProtoError, RDataEncoding, Record};
 use dns_tokens::{next_name, next_signed_ttl, next_ttl, time_field};
 use std::alloc::Global;
 use std::cmp::Ordering;
@@ -123,10 +123,8 @@ impl SOA {
 
 impl SOA {
     // Reads serial, refresh, retry, expire and minimum.
-    #[tactic(auto, using(dns_names_wire::proofs::FieldReads::reading, crate::proofs::Lacking::lacking))]
     fn read_numbers(decoder: &mut BinDecoder<'_>) -> Result<(u32, i32, i32, i32, u32), DecodeError>
         ensures fields { ReadsIf soa_numbers_shape (Always soa_numbers_shape) soa_numbers result decoder.old decoder.new }
-        ensures refused { IfErr result (λ e. IsLack soa_numbers_shape decoder.old e decoder.new) }
     {
         let serial = decoder.read_u32()?.unverified();
         let refresh = decoder.read_i32()?.unverified();
@@ -166,10 +164,15 @@ fn five_numbers(a: u32, b: u32, c: u32, d: u32, e: u32) -> [u8; 20]
 
 impl Record for SOA {
     ghost facts = { soa_facts };
+
+    #[inline]
+    fn row() -> &'static [Part] {
+        &row::SOA
+    }
 }
 
 impl DecodesFields for SOA {
-    ghost ends = { (tt, (tt, (tt, (tt, (tt, (tt, (tt, (tt, tt)))))))) };
+    ghost alone = { record { checked = refl; asked = refl; alone = refl; long = tt } };
 
     fn read_fields(decoder: &mut BinDecoder<'_>) -> Result<SOA, DecodeError> {
         let mname = Name::read(decoder)?;

@@ -1,5 +1,7 @@
 //! SRV: a host of a service (RFC 2782).
 
+ghost use Rattle.std.specs.Prelude.{refl};
+ghost use Rattle.dns_rows.specs.Table.{kinds_of};
 ghost use Rattle.std.specs.{Prelude.◌≡◌, Prelude.Some, Option.option_copied};
 ghost use Rattle.dns_fields.specs.declared.RDataEncoding.TheVariants as modes;
 ghost use Rattle.dns_names_wire.specs.{Terms.Emits};
@@ -8,10 +10,9 @@ ghost use Rattle.dns_tokens.specs.{Reads.ReadsTokenRow, Straight.straight_tokens
 
 use crate::{OrderedRecord, cmp_each_field, unless_tied};
 use dns_canonical::{AtOnce, Head, Tail, name_behind, two_behind};
-use dns_names_wire::{
-    BinDecodable, BinDecoder, BinEncodable, BinEncoder, DecodeError, DecodesFields, EncodesFields,
-    Name, ParseError, ProtoError, RDataEncoding, Record,
-};
+use dns_rows::{Part, row};
+use dns_check::DecodesFields;
+use dns_names_wire::{BinDecoder, BinEncodable, BinEncoder, DecodeError, EncodesFields, Name, ParseError, ProtoError, RDataEncoding, Record};
 use dns_tokens::{next_name, next_u16, number_field};
 use std::alloc::Global;
 use std::cmp::Ordering;
@@ -71,7 +72,7 @@ impl SRV {
         origin: Option<&Name>,
     ) -> Result<SRV, ParseError>
         requires can { I.can_next tokens }
-        ensures { ReadsTokenRow I.next_gives S.text (straight_tokens (option_copied origin.entry) srv_facts.kinds) srv_facts.fields result tokens }
+        ensures { ReadsTokenRow I.next_gives S.text (straight_tokens (option_copied origin.entry) (kinds_of srv_facts.row)) srv_facts.fields result tokens }
     {
         let priority = next_u16(&mut tokens, number_field!("SRV priority"))?;
         let weight = next_u16(&mut tokens, number_field!("SRV weight"))?;
@@ -88,10 +89,15 @@ impl SRV {
 
 impl Record for SRV {
     ghost facts = { srv_facts };
+
+    #[inline]
+    fn row() -> &'static [Part] {
+        &row::SRV
+    }
 }
 
 impl DecodesFields for SRV {
-    ghost ends = { (tt, (tt, (tt, (tt, (tt, tt))))) };
+    ghost alone = { record { checked = refl; asked = refl; alone = refl; long = tt } };
 
     fn read_fields(decoder: &mut BinDecoder<'_>) -> Result<SRV, DecodeError> {
         let priority = decoder.read_u16()?.unverified();

@@ -1,5 +1,6 @@
 //! TXT: character strings (RFC 1035, 3.3.14).
 
+ghost use Rattle.std.specs.Prelude.{refl};
 ghost use Rattle.std.specs.Prelude.{◌≡◌, ◌≤◌, ℕ, List, [], map, length as list_length, IfOk, Some};
 ghost use Rattle.std.specs.{Cmp.Lexicographic.slice_cmp, String.string_bytes, Iterator.IsFinite, Ordering.nat_cmp, List.flat_map};
 ghost use Rattle.dns_fields.specs.{declared.Kind.TheVariants.CharacterStrings, Fields.Field, Fields.all_emittable};
@@ -12,10 +13,9 @@ ghost use Rattle.dns_tokens.specs.Reads.{ReadsTokenRow};
 use crate::OrderedRecord;
 use bstr::BStr;
 use dns_canonical::{Head, Step, text_behind};
-use dns_names_wire::{
-    BinDecoder, BinEncodable, BinEncoder, DecodeError, Octets, ParseError, ProtoError, Record,
-    RecordDataDecodable, Restrict,
-};
+use dns_check::DecodesRow;
+use dns_rows::{Part, row};
+use dns_names_wire::{BinDecoder, BinEncodable, BinEncoder, DecodeError, Octets, ParseError, ProtoError, Record, Restrict};
 use dns_tokens::all_texts;
 use dns_types::Strings;
 use std::alloc::{AllocError, Global};
@@ -81,9 +81,16 @@ impl TXT {
 
 impl Record for TXT {
     ghost facts = { txt_facts };
+
+    #[inline]
+    fn row() -> &'static [Part] {
+        &row::TXT
+    }
 }
 
-impl RecordDataDecodable for TXT {
+impl DecodesRow for TXT {
+    ghost checked = { refl };
+
     /// Reads character strings until RDLENGTH is reached or passed. If it is passed, the strings do not fill the RDATA,
     /// and the value has the strings that were read. Allocates once for the list, and once for each string.
     ///
@@ -92,7 +99,7 @@ impl RecordDataDecodable for TXT {
     /// - [`InsufficientBytes`](DecodeError::InsufficientBytes): a string lacks octets. The strings before it, and its
     ///   length octet if it is there, are read.
     /// - [`Memory`](DecodeError::Memory): an allocation failed.
-    fn read_data(decoder: &mut BinDecoder<'_>, length: Restrict<u16>) -> Result<TXT, DecodeError> {
+    fn read_row(decoder: &mut BinDecoder<'_>, length: Restrict<u16>) -> Result<TXT, DecodeError> {
         let length = length.unverified() as usize;
         let end = decoder.index() + length;
         let alloc = decoder.allocator();

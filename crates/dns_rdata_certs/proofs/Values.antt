@@ -1,11 +1,12 @@
 -- Records by their fields: each record that was read is told by them, and any fields make one. What is compared of two
 -- records that were read is the same exactly where their fields are.
-use Rattle.std.proofs.Common.{◌≡◌, ◌↔◌, ℕ, List, length, Result, Ok, Err, refl, sym, ap}
-use Rattle.std.specs.Result.{IfOk}
+use Rattle.std.proofs.Common.{◌≡◌, ◌↔◌, ◌<◌, ℕ, List, length, Result, Ok, Err, refl, sym, ap, arith}
 use Rattle.dns_types.specs.declared.error.DecodeError.{DecodeError}
-use Rattle.dns_names_wire.specs.{Terms.ReadsRegion, State.Reading}
+use Rattle.dns_fields.specs.Octets.{AreOctets}
+use Rattle.dns_names_wire.specs.{Terms.Lacks, Terms.ReadsTo, State.Reading}
+use Rattle.dns_names_wire.proofs.FieldReads.{unless_map}
 use Rattle.dns_fields.specs.Fields.{Values, Same}
-use Rattle.dns_rdata_certs.specs.CERT.{cert_shape, cert_fields, cert_key_shape, cert_keys, IsReadCert, MeetsCertCondition, cert_facts, ReadsWholeCert}
+use Rattle.dns_rdata_certs.specs.CERT.{cert_shape, cert_fields, cert_key_shape, cert_keys, IsReadCert, MeetsCertCondition, ReadsWholeCert}
 use Rattle.dns_rdata_certs.specs.TLSA.{tlsa_shape}
 use Rattle.dns_rdata_certs.specs.{SSHFP.sshfp_shape, SSHFP.sshfp_fields, SSHFP.sshfp_key_shape, SSHFP.sshfp_keys, SSHFP.IsReadSshfp, declared.sshfp.SSHFP.SSHFP}
 use Rattle.dns_rdata_certs.specs.{Enums.fingerprint_type_number, Enums.fingerprint_type_variant, Enums.fingerprint_type_of, declared.smimea.SMIMEA.SMIMEA}
@@ -86,8 +87,8 @@ cert_keys-same a b x y =
     keyed_same cert_type_number cert_type_variant cert_type_of x.type y.type (λ s. (s.0, rest.0 s.1), λ s. (s.0, rest.1 s.1))
 
 -- a certificate that is read from octets of its own
-pub whole_cert : (octets : List ℕ) (new : Reading) (r : Result CERT DecodeError)
-    → ReadsRegion cert_shape MeetsCertCondition cert_fields (length octets) r (record { message = octets; index = 0 }) new
-    → IfOk r (λ x. cert_facts.after_read (length octets) x (record { message = octets; index = 0 }) new) → ReadsWholeCert octets r
-whole_cert octets new (Ok x) h m = h.here m.1
-whole_cert octets new (Err e) h m = h.none
+pub whole_cert : (octets : List ℕ) (new : Reading) (r : Result CERT DecodeError) → AreOctets octets → length octets < 65536
+    → ReadsTo cert_shape MeetsCertCondition (length octets) cert_fields r (record { message = octets; index = 0 }) new → ReadsWholeCert octets r
+whole_cert octets new (Ok x) o short h = record { octets = o; short = short; within = omega arith; stands = rw (← h.1.0) h.0.stands; holds = h.1.1 }
+whole_cert octets new (Err e) o short h = unless_map e _ _ (λ (l : Lacks (record { message = octets; index = 0 }) cert_shape (λ vs q. (q ≡ length octets) × MeetsCertCondition vs)).
+    record { none = λ vs w. l.none vs (length octets) w.stands (refl, w.holds) }) h.none

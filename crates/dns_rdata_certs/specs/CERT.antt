@@ -49,36 +49,6 @@ cert_text x = cert_type_text x.cert_type ++ codes " " ++ decimal x.key_tag ++ co
 
 -- ---- errors
 
--- a length without room for a certificate: nothing is taken
-pub record ShortCert (n : ℕ) (old : Reading) (e : DecodeError) (new : Reading) : Type 0 where
-  pub error : e ≡ decode.IncorrectRDataLengthRead n 6
-  pub short : n ≤ 5
-  pub unchanged : new ≡ old
-
--- the five octets before the certificate are not all there, and the fields that are there are taken
-pub record TruncatedCertFields (n : ℕ) (old : Reading) (e : DecodeError) (new : Reading) : Type 0 where
-  pub error : e ≡ decode.InsufficientBytes
-  pub long : 5 < n
-  pub lacks : LacksOctets old 5
-  pub index : new.index ≡ old.index + (length old.message - old.index) / 2 * 2
-
--- the fields before the certificate are taken, and it lacks octets
-pub record TruncatedCert (n : ℕ) (old : Reading) (e : DecodeError) (new : Reading) : Type 0 where
-  pub error : e ≡ decode.InsufficientBytes
-  pub long : 5 < n
-  pub lacks : LacksOctets old n
-  pub index : new.index ≡ old.index + 5
-
--- the fields before the certificate are taken, and memory for it runs out
-pub record NoCertMemory (n : ℕ) (old : Reading) (e : DecodeError) (new : Reading) : Type 0 where
-  pub error : e ≡ decode.Memory
-  pub long : 5 < n
-  pub index : new.index ≡ old.index + 5
-
-abbrev pub IsCertError : ℕ → Reading → DecodeError → Reading → Type 0
-IsCertError n old e new = ShortCert n old e new
-    ⊎ (TruncatedCertFields n old e new ⊎ (TruncatedCert n old e new ⊎ NoCertMemory n old e new))
-
 -- the octets are a whole certificate record, and are rejected if they are none
 abbrev pub ReadsWholeCert : List ℕ → Result CERT DecodeError → Type 0
 ReadsWholeCert octets (Ok x) = Region octets 0 (length octets) cert_shape MeetsCertCondition (cert_fields x)
@@ -92,4 +62,4 @@ IsWholeCertError n e =
     ⊎ ((5 < n) × (n ≤ 65535) × (e ≡ decode.Memory)))
 
 abbrev pub cert_facts : Facts CERT
-cert_facts = by_keys cert_key_shape cert_keys (filling cert_shape MeetsCertCondition cert_fields IsCertError IsReadCert)
+cert_facts = by_keys cert_key_shape cert_keys (filling rows.CERT cert_fields IsReadCert)

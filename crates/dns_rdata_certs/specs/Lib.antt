@@ -1,7 +1,6 @@
 pub mod CERT
 pub mod Enums
 pub mod HEX
-pub mod Rests
 pub mod SMIMEA
 pub mod SSHFP
 pub mod TLSA

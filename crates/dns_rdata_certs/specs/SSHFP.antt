@@ -8,7 +8,7 @@ use Rattle.dns_rows.specs.Table.{kinds_of}
 use Rattle.dns_rows.specs.declared.row.TheConstants as rows
 use Rattle.dns_names_wire.specs.{State.Reading, Facts.Facts, Facts.filling}
 use Rattle.dns_rdata_base.specs.{Numbered.keyed, Ordered.by_keys}
-use Rattle.dns_rdata_certs.specs.{Rests.IsRestError, declared.sshfp.SSHFP.SSHFP}
+use Rattle.dns_rdata_certs.specs.{declared.sshfp.SSHFP.SSHFP}
 use Rattle.dns_rdata_certs.specs.Enums.{sshfp_algorithm_number, sshfp_algorithm_variant, sshfp_algorithm_of, fingerprint_type_number}
 use Rattle.dns_rdata_certs.specs.Enums.{fingerprint_type_variant, fingerprint_type_of}
 
@@ -38,10 +38,6 @@ sshfp_text x = decimal (sshfp_algorithm_number x.algorithm) ++ codes " "
     ++ decimal (fingerprint_type_number x.fingerprint_type) ++ codes " "
     ++ encode_lower x.fingerprint
 
--- two octets of fixed fields
-abbrev pub IsSshfpError : ℕ → Reading → DecodeError → Reading → Type 0
-IsSshfpError n old e new = IsRestError 2 n old e new
-
 abbrev pub sshfp_facts : Facts SSHFP
 sshfp_facts =
-    by_keys sshfp_key_shape sshfp_keys (filling sshfp_shape (λ _. Unit {0}) sshfp_fields IsSshfpError IsReadSshfp)
+    by_keys sshfp_key_shape sshfp_keys (filling rows.SSHFP sshfp_fields IsReadSshfp)

@@ -10,7 +10,7 @@ use Rattle.dns_names_wire.specs.{State.Reading, Facts.Facts, Facts.filling}
 use Rattle.dns_rdata_base.specs.{Numbered.keyed, Ordered.by_keys}
 use Rattle.dns_rdata_certs.specs.Enums.{selector_number, selector_variant, selector_of, matching_number, matching_variant, matching_of}
 use Rattle.dns_rdata_certs.specs.Enums.{cert_usage_number, cert_usage_variant, cert_usage_of}
-use Rattle.dns_rdata_certs.specs.{Rests.IsRestError, declared.tlsa.TLSA.TLSA}
+use Rattle.dns_rdata_certs.specs.{declared.tlsa.TLSA.TLSA}
 
 -- usage, selector, matching type, data
 abbrev pub tlsa_shape : List Kind
@@ -39,9 +39,5 @@ abbrev pub tlsa_text : TLSA → List ℕ
 tlsa_text x = decimal (cert_usage_number x.cert_usage) ++ codes " " ++ decimal (selector_number x.selector) ++ codes " "
     ++ decimal (matching_number x.matching) ++ codes " " ++ encode_lower x.cert_data
 
--- three octets of fixed fields
-abbrev pub IsTlsaError : ℕ → Reading → DecodeError → Reading → Type 0
-IsTlsaError n old e new = IsRestError 3 n old e new
-
 abbrev pub tlsa_facts : Facts TLSA
-tlsa_facts = by_keys tlsa_key_shape tlsa_keys (filling tlsa_shape (λ _. Unit {0}) tlsa_fields IsTlsaError IsReadTlsa)
+tlsa_facts = by_keys tlsa_key_shape tlsa_keys (filling rows.TLSA tlsa_fields IsReadTlsa)

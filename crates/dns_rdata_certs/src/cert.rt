@@ -1,20 +1,19 @@
 //! CERT: a certificate (RFC 4398, 2).
 
-ghost use Rattle.std.specs.Prelude.{◌≡◌, IsTrue, length as list_length, true, IfErr, IfOk, Some};
+ghost use Rattle.std.specs.Prelude.{◌≡◌, ◌<◌, ◌⊎◌, refl, IsTrue, length as list_length, true, IfErr, IfOk, Some};
 ghost use Rattle.std.specs.String.{string_bytes};
-ghost use Rattle.dns_names_wire.specs.Terms.{Emits};
+ghost use Rattle.dns_names_wire.specs.Terms.{Emits, LacksOctets, ReadsTo};
 ghost use Rattle.dns_rdata_certs.specs.{Enums.cert_algorithm_number, Enums.cert_type_number, CERT.ReadsWholeCert, CERT.IsWholeCertError, TokenRows.cert_tokens};
-ghost use Rattle.dns_rdata_certs.specs.CERT.{cert_shape, cert_fields, cert_facts, cert_key_shape, cert_keys, IsReadCert, cert_text, cert_data_text};
+ghost use Rattle.dns_rdata_certs.specs.CERT.{MeetsCertCondition, cert_shape, cert_fields, cert_facts, cert_key_shape, cert_keys, IsReadCert, cert_text, cert_data_text};
 ghost use Rattle.dns_tokens.specs.{Reads.ReadsToken, Reads.ReadsTokenRow, Reads.GoesOn, Forms.base64};
 
 mod enums;
 
 use base64::engine::general_purpose::STANDARD;
 use dns_canonical::{AtOnce, Head, Tail, one_behind, rest_behind, two_behind};
-use dns_names_wire::{
-    BinDecoder, BinEncodable, BinEncoder, DecodeError, ParseError, ProtoError, Record,
-    RecordDataDecodable, Restrict, SmallOctets,
-};
+use dns_check::DecodesRow;
+use dns_rows::{Part, row};
+use dns_names_wire::{BinDecoder, BinEncodable, BinEncoder, DecodeError, ParseError, ProtoError, Record, Restrict, SmallOctets};
 use dns_rdata_base::rest::rest_order;
 use dns_rdata_base::{OrderedRecord, cmp_each_field};
 use dns_tokens::{Base64Text, Field, base64_field, next_base64, next_u8, next_u16};
@@ -101,8 +100,31 @@ impl CERT {
         if read > 65535 {
             return Err(DecodeError::IncorrectRDataLengthRead { read, len: 65535 });
         }
+        if read < 6 {
+            return Err(DecodeError::IncorrectRDataLengthRead { read, len: 6 });
+        }
         let mut decoder = BinDecoder::new(alloc, octets);
-        CERT::read_data(&mut decoder, Restrict::new(read as u16))
+        CERT::read_filled(&mut decoder, read)
+    }
+
+    // Reads the fields that fill so many octets.
+    #[inline]
+    fn read_filled(decoder: &mut BinDecoder<'_>, len: usize) -> Result<CERT, DecodeError>
+        requires { 5 < len }
+        ensures fields { ReadsTo cert_shape MeetsCertCondition len cert_fields result decoder.old decoder.new }
+        ensures enums { IfOk result IsReadCert }
+        ensures lacking { IfErr result (λ e. (e ≡ DecodeError.Memory) ⊎ LacksOctets decoder.old len) }
+    {
+        let cert_type = CertType::from(decoder.read_u16()?.unverified());
+        let key_tag = decoder.read_u16()?.unverified();
+        let algorithm = Algorithm::from(decoder.read_u8()?.unverified());
+        let cert_data = decoder.read_small(len - 5)?.unverified();
+        Ok(CERT {
+            cert_type,
+            key_tag,
+            algorithm,
+            cert_data,
+        })
     }
 
     /// Reads four tokens: type and key tag, decimal numbers of 16 bits; algorithm, one of 8 bits; and the certificate
@@ -149,36 +171,26 @@ fn next_data<S: AsStr + Drop, I: Iterator<Item = S>>(
 
 impl Record for CERT {
     ghost facts = { cert_facts };
+
+    #[inline]
+    fn row() -> &'static [Part] {
+        &row::CERT
+    }
 }
 
-impl RecordDataDecodable for CERT {
+impl DecodesRow for CERT {
+    ghost checked = { refl };
+
     /// Reads five octets of numbers, and the rest of RDLENGTH. Allocates once if the rest is more than 64 octets.
-    ///
-    /// # Errors
-    ///
-    /// - [`IncorrectRDataLengthRead`](DecodeError::IncorrectRDataLengthRead) of RDLENGTH and 6: RDLENGTH is below 6.
-    ///   Nothing is read.
-    /// - [`InsufficientBytes`](DecodeError::InsufficientBytes): octets are missing. The numbers that are there are
-    ///   read.
-    /// - [`Memory`](DecodeError::Memory): the allocation failed.
     #[inline]
-    fn read_data(decoder: &mut BinDecoder<'_>, length: Restrict<u16>) -> Result<CERT, DecodeError> {
+    fn read_row(decoder: &mut BinDecoder<'_>, length: Restrict<u16>) -> Result<CERT, DecodeError> {
         // For the proof: brings in that the message is octets and the index is at most its length.
         let _start = decoder.index();
         let len = length.unverified() as usize;
         if len < 6 {
-            return Err(DecodeError::IncorrectRDataLengthRead { read: len, len: 6 });
+            return Err(DecodeError::InsufficientBytes);
         }
-        let cert_type = CertType::from(decoder.read_u16()?.unverified());
-        let key_tag = decoder.read_u16()?.unverified();
-        let algorithm = Algorithm::from(decoder.read_u8()?.unverified());
-        let cert_data = decoder.read_small(len - 5)?.unverified();
-        Ok(CERT {
-            cert_type,
-            key_tag,
-            algorithm,
-            cert_data,
-        })
+        CERT::read_filled(decoder, len)
     }
 }
 

@@ -1,5 +1,5 @@
 //! RDATA of certificates, keys and fingerprints.
-#![tactic(auto, using(dns_names_wire::proofs::FieldReads::reading, dns_names_wire::proofs::RegionReads::filled_region, dns_tokens::proofs::Steps::reading, dns_canonical::proofs::Comparing::then_equal, dns_canonical::proofs::Comparing::then_assoc))]
+#![tactic(auto, using(dns_names_wire::proofs::FieldReads::reading, dns_check::proofs::ByRow::exact_row, dns_tokens::proofs::Steps::reading, dns_canonical::proofs::Comparing::then_equal, dns_canonical::proofs::Comparing::then_assoc))]
 
 // Matches over an enum with numbers. The enum's list calls the macro with what was given for it, the enum's name, an
 // entry for each variant of one number, and one for each variant with its number inside: name, number, rank in the

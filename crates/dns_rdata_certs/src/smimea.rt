@@ -1,5 +1,6 @@
 //! SMIMEA: a certificate of a mail user (RFC 8162, 2).
 
+ghost use Rattle.std.specs.Prelude.{refl};
 ghost use Rattle.std.specs.{Prelude.◌≡◌, Prelude.IfOk, Prelude.Some, Iterator.IsFinite};
 ghost use Rattle.dns_names_wire.specs.{Terms.Emits};
 ghost use Rattle.dns_rdata_certs.specs.{SMIMEA.smimea_facts, TLSA.tlsa_shape, TLSA.tlsa_fields, TLSA.tlsa_text, TLSA.IsReadTlsa, TokenRows.tlsa_tokens};
@@ -7,10 +8,9 @@ ghost use Rattle.dns_tokens.specs.Reads.{ReadsTokenRow};
 
 use crate::tlsa::{CertUsage, Matching, Selector, TLSA};
 use dns_canonical::{AtOnce, Head, Tail};
-use dns_names_wire::{
-    BinDecoder, BinEncodable, BinEncoder, DecodeError, ParseError, ProtoError, Record,
-    RecordDataDecodable, Restrict,
-};
+use dns_check::DecodesRow;
+use dns_rows::{Part, row};
+use dns_names_wire::{BinDecoder, BinEncodable, BinEncoder, DecodeError, ParseError, ProtoError, Record, Restrict};
 use dns_rdata_base::OrderedRecord;
 use std::alloc::Global;
 use std::cmp::Ordering;
@@ -59,16 +59,23 @@ impl SMIMEA {
 
 impl Record for SMIMEA {
     ghost facts = { smimea_facts };
+
+    #[inline]
+    fn row() -> &'static [Part] {
+        &row::TLSA
+    }
 }
 
-impl RecordDataDecodable for SMIMEA {
-    /// Reads the fields of TLSA, and fails as that does.
+impl DecodesRow for SMIMEA {
+    ghost checked = { refl };
+
+    /// Reads the fields of TLSA.
     #[inline]
-    fn read_data(
+    fn read_row(
         decoder: &mut BinDecoder<'_>,
         length: Restrict<u16>,
     ) -> Result<SMIMEA, DecodeError> {
-        match TLSA::read_data(decoder, length) {
+        match TLSA::read_row(decoder, length) {
             Ok(certificate) => Ok(SMIMEA(certificate)),
             Err(e) => Err(e),
         }

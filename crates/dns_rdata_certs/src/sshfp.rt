@@ -1,5 +1,6 @@
 //! SSHFP: the fingerprint of a host's key (RFC 4255, 3.1).
 
+ghost use Rattle.std.specs.Prelude.{refl};
 ghost use Rattle.std.specs.Prelude.{◌≡◌, IfOk, IsTrue, Some, true};
 ghost use Rattle.dns_names_wire.specs.{Terms.Emits};
 ghost use Rattle.dns_rdata_certs.specs.SSHFP.{sshfp_shape, sshfp_fields, sshfp_facts, sshfp_key_shape, sshfp_keys, sshfp_text, IsReadSshfp};
@@ -12,10 +13,9 @@ mod fingerprint_type;
 use crate::hexadecimal::{HEX, Hexadecimal};
 pub use algorithm::Algorithm;
 use dns_canonical::{AtOnce, Head, Tail, one_behind, rest_behind};
-use dns_names_wire::{
-    BinDecoder, BinEncodable, BinEncoder, DecodeError, ParseError, ProtoError, Record,
-    RecordDataDecodable, Restrict, SmallOctets,
-};
+use dns_check::DecodesRow;
+use dns_rows::{Part, row};
+use dns_names_wire::{BinDecoder, BinEncodable, BinEncoder, DecodeError, ParseError, ProtoError, Record, Restrict, SmallOctets};
 use dns_rdata_base::rest::rest_order;
 use dns_rdata_base::{OrderedRecord, cmp_each_field};
 use dns_tokens::{Field, next_token, next_u8, no_more, number_field};
@@ -118,19 +118,19 @@ fn next_hex<S: AsStr + Drop, I: Iterator<Item = S>>(
 
 impl Record for SSHFP {
     ghost facts = { sshfp_facts };
+
+    #[inline]
+    fn row() -> &'static [Part] {
+        &row::SSHFP
+    }
 }
 
-impl RecordDataDecodable for SSHFP {
+impl DecodesRow for SSHFP {
+    ghost checked = { refl };
+
     /// Reads two octets of numbers, and the rest of RDLENGTH. Allocates once if the rest is more than 64 octets.
-    ///
-    /// # Errors
-    ///
-    /// - [`IncorrectRDataLengthRead`](DecodeError::IncorrectRDataLengthRead) of 2 and RDLENGTH: RDLENGTH is below 2.
-    /// - [`InsufficientBytes`](DecodeError::InsufficientBytes): octets are missing. The numbers that are there are
-    ///   read.
-    /// - [`Memory`](DecodeError::Memory): the allocation failed.
     #[inline]
-    fn read_data(
+    fn read_row(
         decoder: &mut BinDecoder<'_>,
         length: Restrict<u16>,
     ) -> Result<SSHFP, DecodeError> {

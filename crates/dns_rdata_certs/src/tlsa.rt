@@ -1,5 +1,6 @@
 //! TLSA: a certificate of a service (RFC 6698, 2.1).
 
+ghost use Rattle.std.specs.Prelude.{refl};
 ghost use Rattle.std.specs.{Prelude.◌≡◌, Prelude.IfOk, Prelude.IsTrue, Prelude.Some, Prelude.true, Iterator.IsFinite};
 ghost use Rattle.dns_names_wire.specs.{Terms.Emits};
 ghost use Rattle.dns_rdata_certs.specs.TLSA.{tlsa_shape, tlsa_fields, tlsa_facts, tlsa_key_shape, tlsa_keys, tlsa_text, IsReadTlsa};
@@ -11,10 +12,9 @@ mod enums;
 
 use crate::hexadecimal::{HEX, Hexadecimal};
 use dns_canonical::{AtOnce, Head, Tail, one_behind, rest_behind};
-use dns_names_wire::{
-    BinDecoder, BinEncodable, BinEncoder, DecodeError, ParseError, ProtoError, Record,
-    RecordDataDecodable, Restrict, SmallOctets,
-};
+use dns_check::DecodesRow;
+use dns_rows::{Part, row};
+use dns_names_wire::{BinDecoder, BinEncodable, BinEncoder, DecodeError, ParseError, ProtoError, Record, Restrict, SmallOctets};
 use dns_rdata_base::rest::rest_order;
 use dns_rdata_base::{OrderedRecord, cmp_each_field};
 use dns_tokens::{Field, join_tokens, next_u8, number_field};
@@ -128,19 +128,19 @@ fn all_hex<S: AsStr + Drop, I: Iterator<Item = S>>(
 
 impl Record for TLSA {
     ghost facts = { tlsa_facts };
+
+    #[inline]
+    fn row() -> &'static [Part] {
+        &row::TLSA
+    }
 }
 
-impl RecordDataDecodable for TLSA {
+impl DecodesRow for TLSA {
+    ghost checked = { refl };
+
     /// Reads three octets of numbers, and the rest of RDLENGTH. Allocates once if the rest is more than 64 octets.
-    ///
-    /// # Errors
-    ///
-    /// - [`IncorrectRDataLengthRead`](DecodeError::IncorrectRDataLengthRead) of 3 and RDLENGTH: RDLENGTH is below 3.
-    /// - [`InsufficientBytes`](DecodeError::InsufficientBytes): octets are missing. The numbers that are there are
-    ///   read.
-    /// - [`Memory`](DecodeError::Memory): the allocation failed.
     #[inline(always)]
-    fn read_data(decoder: &mut BinDecoder<'_>, length: Restrict<u16>) -> Result<TLSA, DecodeError> {
+    fn read_row(decoder: &mut BinDecoder<'_>, length: Restrict<u16>) -> Result<TLSA, DecodeError> {
         let start = decoder.index();
         let cert_usage = CertUsage::from(decoder.read_u8()?.unverified());
         let selector = Selector::from(decoder.read_u8()?.unverified());

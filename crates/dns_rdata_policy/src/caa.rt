@@ -1,26 +1,24 @@
 //! CAA: a property of a domain's issuers of certificates (RFC 8659).
 
-ghost use Rattle.std.specs.Prelude.{◌≡◌, ◌≤◌, ◌<◌, ◌+◌, ℕ, [], false, take, get_or, length as list_length, IsTrue, IfErr, IfOk, Some};
-ghost use Rattle.std.specs.Char.{is_ascii_alphanumeric};
-ghost use Rattle.dns_names_wire.specs.Terms.{ReadsTo, TookField, StaysBehind, Emits, Extends, IsMessage};
+ghost use Rattle.std.specs.Prelude.{◌≡◌, ◌<◌, ◌↔◌, ℕ, [], refl, length as list_length, IsTrue, IfErr, IfOk, Some};
+ghost use Rattle.dns_names_wire.specs.Terms.{Emits, Extends, IsMessage};
 ghost use Rattle.dns_names_wire.specs.Facts.{same, same_equiv, same_partial};
-ghost use Rattle.dns_rdata_policy.specs.{CAA.caa_text, CAA.IsReadCaa, CAA.IsTagError, CAA.IsCaaError, TokenRows.caa_tokens, Steps.caa_begins};
-ghost use Rattle.dns_rdata_policy.specs.CAA.{caa_shape, caa_flags, caa_fields, caa_facts, MeetsCaaCondition, caa_key_shape, caa_keys};
-ghost use Rattle.dns_rows.specs.Rules.{AreLetters, IsTag};
+ghost use Rattle.dns_rdata_policy.specs.{CAA.caa_text, CAA.IsReadCaa, TokenRows.caa_tokens, Steps.caa_begins};
+ghost use Rattle.dns_rdata_policy.specs.CAA.{caa_shape, caa_flags, caa_fields, caa_facts, caa_key_shape, caa_keys};
+ghost use Rattle.dns_rows.specs.Rules.{IsTag};
 ghost use Rattle.dns_canonical.specs.Steps.{AllShort, GivesStep, field_steps};
 ghost use Rattle.dns_tokens.specs.Reads.{ReadsTokenRow};
-ghost use Rattle.dns_fields.specs.{Fields.all_emittable, declared.Kind.TheVariants.Octets as OctetsKind};
+ghost use Rattle.dns_fields.specs.Fields.{all_emittable};
 
 mod issuer;
 mod values;
 
 use bstr::BStr;
 use dns_canonical::{Head, Step, Tail, one_behind, rest_behind, text_behind};
-use dns_names_wire::{
-    BinDecoder, BinEncodable, BinEncoder, DecodeError, ParseError, ProtoError, Record,
-    RecordDataDecodable, Restrict, SmallOctets,
-};
-use dns_rdata_base::{OrderedRecord, cmp_each_field, in_order};
+use dns_check::DecodesRow;
+use dns_rows::{Part, row};
+use dns_names_wire::{BinDecoder, BinEncodable, BinEncoder, DecodeError, ParseError, ProtoError, Record, Restrict, SmallOctets};
+use dns_rdata_base::{OrderedRecord, cmp_each_field, in_order, verify_flags};
 use dns_tokens::{Field, next_kept, next_u8, number_field};
 pub use issuer::{KeyValue, read_iodef, read_issuer};
 use std::alloc::{AllocError, Global};
@@ -75,30 +73,6 @@ impl CAA {
         Ok(())
     }
 
-    // Reads the fields that fill the length.
-    #[inline]
-    fn read_filled(decoder: &mut BinDecoder<'_>, length: Restrict<u16>) -> Result<CAA, DecodeError>
-        ensures fields { ReadsTo caa_shape MeetsCaaCondition length caa_fields result decoder.old decoder.new }
-        ensures flags { IfOk result IsReadCaa }
-        ensures refused { IfErr result (λ e. IsCaaError length decoder.old e decoder.new) }
-    {
-        let alloc = decoder.allocator();
-        // For the proof: brings in that the message is octets and the index is at most its length.
-        let _start = decoder.index();
-        let flags = decoder.read_u8()?.unverified();
-        let size = decoder.read_u8()?.unverified() as usize;
-        let len = length.unverified() as usize;
-        let tag = read_tag(decoder, len, size)?;
-        let tag = SmallOctets::from_slice(alloc, tag)?;
-        let value = decoder.read_small(len - size - 2)?.unverified();
-        Ok(CAA {
-            issuer_critical: flags >= 128,
-            reserved_flags: flags % 128,
-            tag,
-            value,
-        })
-    }
-
     /// Reads three tokens: flags, a decimal number of 8 bits, of which 0x80 is `issuer_critical`; tag and value, octet
     /// by octet. Further tokens are not read.
     ///
@@ -127,78 +101,47 @@ impl CAA {
     }
 }
 
-// Reads a tag of this size in a record of this length, octet by octet.
-fn read_tag<'a>(
-    decoder: &mut BinDecoder<'a>,
-    len: usize,
-    size: usize,
-) -> Result<&'a [u8], DecodeError>
-    requires { size ≤ 255 }
-    ensures taken { IfOk result (λ tag. TookField decoder.old (OctetsKind size) tag.now decoder.new) }
-    ensures tag { IfOk result (λ tag. IsTag tag.now × (size + 2 ≤ len)) }
-    ensures refused { IfErr result (λ e. IsTagError len size decoder.old e decoder.new) }
-    ensures behind { StaysBehind decoder.old decoder.new }
+// Whether these octets are a tag.
+fn is_tag(octets: &[u8]) -> bool
+    ensures { IsTrue result ↔ IsTag octets.now }
 {
-    if len < size + 2 {
-        return Err(DecodeError::IncorrectRDataLengthRead {
-            read: len,
-            len: size + 2,
-        });
-    }
-    if size == 0 || size > 15 {
-        return Err(DecodeError::CaaTagInvalid);
-    }
-    let left = decoder.unread().unverified();
-    let there = &left[..size.min(left.len())];
-    let letters = count_letters(there);
-    if letters < there.len() {
-        let _taken = decoder.read_slice(letters + 1)?;
-        return Err(DecodeError::CaaTagInvalid);
-    }
-    Ok(decoder.read_in_steps(size, 1)?.unverified())
-}
-
-// How many of the first octets are letters and digits of ASCII.
-fn count_letters(octets: &[u8]) -> usize
-    ensures within { result ≤ list_length octets.now }
-    ensures letters { AreLetters (take result octets.now) }
-    ensures stops { result < list_length octets.now → is_ascii_alphanumeric (get_or octets.now result 0) ≡ false }
-{
-    let mut count = 0;
-    for octet in octets {
-        if !octet.is_ascii_alphanumeric() {
-            break;
-        }
-        count += 1;
-    }
-    count
+    let some = octets.len() > 0;
+    let short = octets.len() < 16;
+    some && short && verify_flags(octets)
 }
 
 impl Record for CAA {
     ghost facts = { caa_facts };
+
+    #[inline]
+    fn row() -> &'static [Part] {
+        &row::CAA
+    }
 }
 
-impl RecordDataDecodable for CAA {
+impl DecodesRow for CAA {
+    ghost checked = { refl };
+
     /// Reads an octet of flags, the tag, and the rest of RDLENGTH. Allocates once if the rest is more than 64 octets.
-    ///
-    /// # Errors
-    ///
-    /// In this order:
-    ///
-    /// - [`InsufficientBytes`](DecodeError::InsufficientBytes): the flags or the length of the tag are missing. The
-    ///   flags are read if they are there.
-    /// - [`IncorrectRDataLengthRead`](DecodeError::IncorrectRDataLengthRead) of RDLENGTH and the tag's length plus 2:
-    ///   the tag passes RDLENGTH.
-    /// - [`CaaTagInvalid`](DecodeError::CaaTagInvalid): the tag has no octet or more than 15, or one that is no ASCII
-    ///   letter and no digit. Octets up to that one are read.
-    /// - `InsufficientBytes`: octets of tag or value are missing. Those of the tag are read, those of the value are
-    ///   not.
-    /// - [`Memory`](DecodeError::Memory): the allocation failed.
     #[inline]
-    fn read_data(decoder: &mut BinDecoder<'_>, length: Restrict<u16>) -> Result<CAA, DecodeError> {
-        // For the proof: brings in that the message is octets and the index is at most its length.
-        let _start = decoder.index();
-        CAA::read_filled(decoder, length)
+    fn read_row(decoder: &mut BinDecoder<'_>, length: Restrict<u16>) -> Result<CAA, DecodeError> {
+        let alloc = decoder.allocator();
+        let start = decoder.index();
+        let flags = decoder.read_u8()?.unverified();
+        let tag = decoder.read_character_data()?.unverified();
+        let read = decoder.index() - start;
+        let len = length.unverified() as usize;
+        if !is_tag(tag) || len < read {
+            return Err(DecodeError::CaaTagInvalid);
+        }
+        let value = decoder.read_small(len - read)?.unverified();
+        let tag = SmallOctets::from_slice(alloc, tag)?;
+        Ok(CAA {
+            issuer_critical: flags >= 128,
+            reserved_flags: flags % 128,
+            tag,
+            value,
+        })
     }
 }
 

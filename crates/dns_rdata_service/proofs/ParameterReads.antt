@@ -9,7 +9,7 @@ use Rattle.dns_names_wire.proofs.FieldReads.{stands_inside}
 use Rattle.dns_rows.specs.Rules.{MeetsRow}
 use Rattle.dns_rows.specs.declared.row.TheConstants as rows
 use Rattle.dns_check.specs.{ByRow.ReadsRow, ByRow.RowThere, Tlvs.TlvThere}
-use Rattle.dns_check.proofs.{Alone.between_is, Alone.parameters_alone, ByRow.row_reads, ByRow.took_first, HeldLists.EndsAt, HeldLists.NoTlv, HeldLists.first_of, HeldLists.none_left}
+use Rattle.dns_check.proofs.{Alone.between_is, Alone.parameters_alone, CheckedFirst.row_reads, CheckedFirst.took_first, HeldLists.EndsAt, HeldLists.NoTlv, HeldLists.first_of, HeldLists.none_left}
 use Rattle.dns_check.proofs.ParameterLists.{OneOf, StandEach, one_once, parameters_each}
 use Rattle.dns_rdata_service.specs.SVCB.{IsReadSvcb, TookService, svcb_facts, svcb_fields, svcb_shape}
 use Rattle.dns_rdata_service.specs.declared.svcb.SVCB.{SVCB}

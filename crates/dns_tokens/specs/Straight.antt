@@ -1,5 +1,6 @@
 -- Records of numbers and names, in order: their tokens, their text, and which of them print in tokens that give them
 -- back.
+use Rattle.dns_rows.specs.Table.{kinds_of}
 use Rattle.std.specs.Prelude.{ℕ, ◌<◌, ◌^◌, ◌*◌, min, List, [], ◌∷◌, ◌++◌, codes, decimal, Option}
 use Rattle.dns_fields.specs.{Labels.DomainName, declared.Kind.Kind, declared.Kind.TheVariants.Number}
 use Rattle.dns_fields.specs.{declared.Kind.TheVariants.Name, Fields.Values}
@@ -37,4 +38,4 @@ spaced (first ∷ tokens) = spaced_from first tokens
 
 -- the fields of a record, a blank between two
 abbrev pub straight_text : {T : Type 0} → Facts T → T → List ℕ
-straight_text f x = spaced (field_texts f.kinds (f.fields x))
+straight_text f x = spaced (field_texts (kinds_of f.row) (f.fields x))

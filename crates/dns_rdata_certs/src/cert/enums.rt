@@ -8,7 +8,8 @@ ghost use Rattle.dns_names_wire.specs.Terms.{ReadsBy, LacksOctets, IsTruncated};
 ghost use Rattle.dns_rdata_certs.specs.Enums.{cert_type_number, cert_type_variant, cert_type_of, cert_type_text, cert_algorithm_number};
 ghost use Rattle.dns_rdata_certs.specs.Enums.{cert_algorithm_variant, cert_algorithm_of, cert_algorithm_text};
 
-use dns_names_wire::{BinDecodable, BinDecoder, DecodeError};
+use dns_check::BinDecodable;
+use dns_names_wire::{BinDecoder, DecodeError};
 use std::cmp::Ordering;
 use std::fmt;
 use std::hash::{Hash, Hasher};

@@ -1,5 +1,5 @@
 use Rattle.std.proofs.Common.{arith, rules}
-use Rattle.dns_check.proofs.{ByRow.there_at, RowTests.row_tested}
+use Rattle.dns_check.proofs.{CheckedFirst.there_at, RowTests.row_tested}
 use Rattle.dns_check.proofs.reading.row_end.Goals as goal
 
 pub skip_row-requires-clause-row : goal.skip_row-requires-clause-row

@@ -1,7 +1,5 @@
 use Rattle.std.proofs.lemmas.Result.{err_from_is_err_and}
 use Rattle.dns_names_wire.proofs.FieldReads.{refused_then, refused_first}
-use Rattle.dns_rdata_base.specs.SOA.{soa_numbers_shape}
-use Rattle.dns_rdata_base.proofs.Lacking.{exit_lack, is_lack_far}
 use Rattle.dns_rdata_base.proofs.soa.SOADecodesFields.read_fields.Goals as goal
 
 pub returns-in_err-rname-clause-fields : goal.returns-in_err-rname-clause-fields
@@ -13,7 +11,3 @@ pub returns-in_err-serial-clause-fields : goal.returns-in_err-serial-clause-fiel
 returns-in_err-serial-clause-fields c =
     let p = err_from_is_err_and c.from_residual-in_err-serial.result c.from_residual-in_err-serial.ensures.1 in
     rw (p.1, p.2) (refused_then c.in_ok-mname.ensures.field tt (refused_then c.in_ok-rname.ensures.field tt c.in_err-serial.ensures.fields))
-
-pub returns-in_err-serial-clause-refused : goal.returns-in_err-serial-clause-refused
-returns-in_err-serial-clause-refused c = exit_lack _ _ _ c.from_residual-in_err-serial.ensures.1
-    (λ n. is_lack_far soa_numbers_shape _ _ c.in_ok-mname.ensures.field c.in_ok-rname.ensures.field c.in_err-serial.ensures.refused)

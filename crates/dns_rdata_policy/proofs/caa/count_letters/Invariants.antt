@@ -1,6 +1,0 @@
-use Rattle.std.proofs.Common.{◌≡◌, take}
-use Rattle.dns_rows.specs.Rules.{AreLetters}
-use Rattle.dns_rdata_policy.proofs.caa.count_letters.Given as goal
-
-abbrev pub invariant-loop-octet : goal.invariant-loop-octet
-invariant-loop-octet l = (l.count ≡ l.octet-index) × AreLetters (take l.octet-index l.octets)
