@@ -2,7 +2,8 @@
 use Rattle.std.proofs.Common.{◌≡◌, ℕ, ◌+◌, ◌-◌, ◌≤◌, inl, inr, List, ◌++◌, length, take, drop, sym, ap, ◌∙◌, arith, subst}
 use Rattle.std.proofs.lemmas.List.{take_all, drop-drop, length-take, length-drop}
 use Rattle.std.proofs.Math.Seq.{take-add}
-use Rattle.dns_fields.specs.declared.Kind.TheVariants.{Options, Parameters, Bitmap}
+use Rattle.dns_fields.specs.declared.Kind.{Kind}
+use Rattle.dns_fields.specs.declared.Kind.TheVariants.{CharacterStrings, Options, Parameters, Bitmap}
 use Rattle.dns_fields.specs.{Octets.At, Tlvs.IsTruncated, Fields.Value, Fields.IsField, Fields.Field}
 
 -- octets between two offsets
@@ -55,6 +56,10 @@ parameters_alone v same f = record {
     rising = f.is.rising;
   };
 }
+
+pub strings_alone : {m s : List ℕ} {i q : ℕ} (v : Value CharacterStrings) → s ≡ take (q - i) (drop i m) → Field m i CharacterStrings v q
+    → Field s 0 CharacterStrings v (length s)
+strings_alone v same f = record { is = (f.is.0, at_alone f.is.1 same) }
 
 pub options_alone : {m s : List ℕ} {i q : ℕ} (v : Value Options) → s ≡ take (q - i) (drop i m) → IsField m i Options v q → IsField s 0 Options v (length s)
 options_alone v same (inl c) = inl (record { read = c.read; at = at_alone c.at same; fit = c.fit; held = c.held })

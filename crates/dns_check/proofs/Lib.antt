@@ -19,3 +19,4 @@ pub mod OptionLists
 pub mod Alone
 pub mod TlvParts
 pub mod ByRow
+pub mod CheckedFirst

@@ -166,7 +166,7 @@ pub record ReadsOptions (old : Reading) (n end : ℕ) (done : List (Numbered Opt
   pub took : CompleteOptions old.message old.index done d.index
   pub rest : OptionsLeft old.message n old.index end → OptionsLeft old.message n d.index end
 
-held_more : (xs : List (Numbered (List ℕ))) (a : List (Numbered OptionValue)) (x : Numbered (List ℕ)) (v : OptionValue) → AllHeld OptionHeld xs a
+pub held_more : (xs : List (Numbered (List ℕ))) (a : List (Numbered OptionValue)) (x : Numbered (List ℕ)) (v : OptionValue) → AllHeld OptionHeld xs a
     → OptionHeld x.0 x.1 v → AllHeld OptionHeld (xs ++ x ∷ []) (a ++ (x.0, v) ∷ [])
 held_more [] [] x v f h = (refl, h, tt)
 held_more (y ∷ ys) (a ∷ as') x v f h = (f.0, f.1, held_more ys as' x v f.2 h)

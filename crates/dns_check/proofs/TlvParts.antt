@@ -1,12 +1,12 @@
 -- Keys or codes, each with a length and so many octets, that fill octets.
 use Rattle.std.proofs.Common.{◌≡◌, ℕ, zero, suc, ◌+◌, ◌^◌, ◌<◌, ◌≤◌, List, [], ◌∷◌, ◌++◌, length, take, drop, get_or, drop-cons, add-one}
 use Rattle.std.proofs.Common.{refl, sym, ap, ◌∙◌, arith, subst}
-use Rattle.std.proofs.lemmas.List.{length-take, length-drop, append-nil}
+use Rattle.std.proofs.lemmas.List.{length-append, length-take, length-drop, append-nil}
 use Rattle.std.proofs.lemmas.{Nat.be_bytes_2, Grind.flat_map-append}
 use Rattle.std.specs.Int.{bytes_high_first, from_be_bytes, w16}
 use Rattle.dns_fields.specs.{Octets.At, Tlvs.Numbered, Tlvs.tlv, Tlvs.tlvs, Tlvs.IsTlv, Tlvs.AreTlvs}
 use Rattle.dns_names_wire.proofs.Strings.{at_front, at_rest, at_then}
-use Rattle.dns_check.specs.{Parameters.IsTlvAt, Tlvs.TlvThere, Tlvs.AreComplete}
+use Rattle.dns_check.specs.{Parameters.IsTlvAt, Tlvs.TlvThere, Tlvs.AreComplete, Tlvs.CompleteBy}
 use Rattle.dns_check.proofs.Splits.{all_append}
 
 -- the octets that are there from p on are at p
@@ -72,15 +72,6 @@ pub record PartsOn (octets : List ℕ) (offset : ℕ) : Type 0 where
   pub fit : AreTlvs read
   pub only : AreComplete octets → (rest : List (Numbered (List ℕ))) × At octets offset (tlvs rest) (length octets) × AreTlvs rest
 
-pub parts_first : (octets : List ℕ) → PartsOn octets 0
-parts_first octets = record {
-  inside = omega arith;
-  read = [];
-  at = record { ends = omega arith; within = omega arith; same = refl };
-  fit = tt;
-  only = λ c. (c.read, c.at, c.fit);
-}
-
 pub tlvs_more : (xs : List (Numbered (List ℕ))) (x : Numbered (List ℕ)) → tlvs xs ++ tlv x ≡ tlvs (xs ++ x ∷ [])
 tlvs_more xs x = sym (flat_map-append tlv xs (x ∷ []) ∙ ap (λ (t : List ℕ). tlvs xs ++ t) (append-nil (tlv x)))
 
@@ -92,19 +83,48 @@ next_part : {octets : List ℕ} {offset : ℕ} (rest : List (Numbered (List ℕ)
 next_part [] lt a f = absurd (omega (arith, a.ends))
 next_part (y ∷ ys) lt a f = (y, ys, record { at = at_front (tlv y) (tlvs ys) a; fits = f.0 }, at_rest (tlv y) (tlvs ys) a, f.1)
 
-pub parts_more : {octets : List ℕ} {offset end : ℕ} → PartsOn octets offset → offset < length octets → end ≤ length octets → TlvThere octets offset end
-    → ((key : ℕ) (body : List ℕ) (to : ℕ) → IsTlvAt octets offset key body to → end ≡ to) → PartsOn octets end
-parts_more {octets} {offset} {end} p lt room t is = record {
-  inside = room;
-  read = p.read ++ (t.key, t.body) ∷ [];
-  at = subst (λ (o : List ℕ). At octets 0 o end) (tlvs_more p.read (t.key, t.body)) (at_then p.at t.is.at);
-  fit = all_append IsTlv p.read ((t.key, t.body) ∷ []) p.fit (t.is.fits, tt);
-  only = λ c.
-      let r = p.only c in
-      let x = next_part r.0 lt r.1 r.2 in
-      let there : offset + length (tlv x.0) ≡ end = sym (is x.0.0 x.0.1 (offset + length (tlv x.0)) x.2) in
-      (x.1, subst (λ (k : ℕ). At octets k (tlvs x.1) (length octets)) there x.3, x.4);
+-- and so many were gone over
+pub record PartsCounted (octets : List ℕ) (count offset : ℕ) : Type 0 where
+  pub on : PartsOn octets offset
+  pub number : count ≡ length on.read
+  pub few : count ≤ offset
+
+pub parts_first : (octets : List ℕ) → PartsCounted octets 0 0
+parts_first octets = record {
+  on = record {
+    inside = omega arith;
+    read = [];
+    at = record { ends = omega arith; within = omega arith; same = refl };
+    fit = tt;
+    only = λ c. (c.read, c.at, c.fit);
+  };
+  number = refl;
+  few = omega arith;
 }
+
+pub parts_more : {octets : List ℕ} {count offset end : ℕ} → PartsCounted octets count offset → offset < length octets → end ≤ length octets → offset + 4 ≤ end
+    → TlvThere octets offset end → ((key : ℕ) (body : List ℕ) (to : ℕ) → IsTlvAt octets offset key body to → end ≡ to) → PartsCounted octets (count + 1) end
+parts_more {octets} {count} {offset} {end} c lt room long t is = record {
+  on = record {
+    inside = room;
+    read = c.on.read ++ (t.key, t.body) ∷ [];
+    at = subst (λ (o : List ℕ). At octets 0 o end) (tlvs_more c.on.read (t.key, t.body)) (at_then c.on.at t.is.at);
+    fit = all_append IsTlv c.on.read ((t.key, t.body) ∷ []) c.on.fit (t.is.fits, tt);
+    only = λ e.
+        let r = c.on.only e in
+        let x = next_part r.0 lt r.1 r.2 in
+        let there : offset + length (tlv x.0) ≡ end = sym (is x.0.0 x.0.1 (offset + length (tlv x.0)) x.2) in
+        (x.1, subst (λ (k : ℕ). At octets k (tlvs x.1) (length octets)) there x.3, x.4);
+  };
+  number = omega (arith, c.number, length-append c.on.read ((t.key, t.body) ∷ []));
+  few = omega (arith, c.few, long);
+}
+
+-- the end is reached
+pub parts_done : {octets : List ℕ} {count offset : ℕ} → PartsCounted octets count offset → length octets ≤ offset → CompleteBy octets count
+parts_done {octets} {count} {offset} c past =
+    let all : offset ≡ length octets = omega (arith, c.on.inside, past) in
+    record { parts = record { read = c.on.read; at = subst (λ (q : ℕ). At octets 0 (tlvs c.on.read) q) all c.on.at; fit = c.on.fit }; number = c.number }
 
 pub parts_stopped : {octets : List ℕ} {offset : ℕ} → PartsOn octets offset → offset < length octets
     → ((key : ℕ) (body : List ℕ) (to : ℕ) → IsTlvAt octets offset key body to → ⊥) → AreComplete octets → ⊥
@@ -112,3 +132,11 @@ parts_stopped {octets} {offset} p lt none c =
     let r = p.only c in
     let x = next_part r.0 lt r.1 r.2 in
     none x.0.0 x.0.1 (offset + length (tlv x.0)) x.2
+
+-- no part follows those that fill the octets
+pub parts_end : {octets : List ℕ} {offset : ℕ} → PartsOn octets offset → AreComplete octets
+    → ((key : ℕ) (body : List ℕ) (to : ℕ) → IsTlvAt octets offset key body to → ⊥) → offset ≡ length octets
+parts_end {octets} {offset} p c none = let r = p.only c in last r.0 r.1 r.2 where
+  last : (rest : List (Numbered (List ℕ))) → At octets offset (tlvs rest) (length octets) → AreTlvs rest → offset ≡ length octets
+  last [] a f = omega (arith, a.ends)
+  last (y ∷ ys) a f = absurd (none y.0 y.1 (offset + length (tlv y)) (record { at = at_front (tlv y) (tlvs ys) a; fits = f.0 }))

@@ -17,4 +17,6 @@ pub mod reading;
 pub mod tlvs;
 
 pub use binary::BinDecodable;
-pub use reading::{DecodesFields, DecodesRow, RecordDataDecodable, read_alone, read_whole};
+pub use reading::{
+    DecodesFields, DecodesRow, RecordDataDecodable, read_alone, read_whole, row_end, take_row,
+};

@@ -1,13 +1,13 @@
 //! Records that are read by the rows of their types. A record's reader answers whether there is a value, and takes it in one
 //! pass; the error of RDATA that is rejected is made by its row, so that no error is defined twice.
 
-ghost use Rattle.std.specs.Prelude.{◌≡◌, ◌≤◌, ◌↔◌, IsTrue, true, ℕ, length as size, IfOk, IfErr};
+ghost use Rattle.std.specs.Prelude.{◌≡◌, ◌≤◌, ◌↔◌, ◌-◌, IsTrue, true, ℕ, length as size, take, drop, IfOk, IfErr, OnOk, OnErr};
 ghost use Rattle.dns_rows.specs.{Table.kinds_of, Rules.MeetsRow};
 ghost use Rattle.dns_names_wire.specs.Terms.{moved, ReadsBy, ReadsIf, ReadsRegion, StaysBehind, UnlessMemory};
 ghost use Rattle.dns_names_wire.specs.Facts.{RecordStands};
 ghost use Rattle.dns_check.specs.Rows.{is_row, RowError, SkipsRow};
 ghost use Rattle.dns_check.specs.Checks.{IsRowError, NoFill};
-ghost use Rattle.dns_check.specs.ByRow.{IsAlone, ReadsRow, RecordRefuses, TookWhole};
+ghost use Rattle.dns_check.specs.ByRow.{IsAlone, ReadsRow, RecordRefuses, RowRejected, RowThere, TookWhole};
 
 use crate::binary::BinDecodable;
 use crate::check::check_data;
@@ -71,21 +71,10 @@ impl<T: DecodesFields> DecodesRow for T {
     }
 }
 
-// The same decoder at an offset of its message.
-fn move_to(decoder: &mut BinDecoder<'_>, index: usize)
-    requires { index ≤ size decoder.old.message }
-    ensures { decoder.new ≡ moved decoder.old index }
-{
-    if let Ok(there) = decoder.clone(index) {
-        *decoder = there;
-    }
-}
-
 // Goes over the row of RDATA of this length from an offset. The decoder is then where that stops. Never inlined, so that reading
 // a value keeps little for it.
 #[cold]
 #[inline(never)]
-#[tactic(auto, using(crate::proofs::ByRow::skips_at))]
 fn row_result(
     decoder: &mut BinDecoder<'_>,
     start: usize,
@@ -103,7 +92,7 @@ fn row_result(
         length.unverified() as usize,
         &mut usize::MAX,
     );
-    move_to(decoder, walk.index());
+    decoder.follow(&walk);
     own
 }
 
@@ -131,7 +120,7 @@ impl<T: DecodesRow> RecordDataDecodable for T {
 /// row. Never inlined, so that reading a value keeps little for it.
 #[cold]
 #[inline(never)]
-#[tactic(auto, using(crate::proofs::ByRow::whole_at, crate::proofs::ByRow::unless_given))]
+#[tactic(auto, using(crate::proofs::ByRow::unless_given))]
 pub fn whole_error(
     decoder: &mut BinDecoder<'_>,
     start: usize,
@@ -151,7 +140,7 @@ pub fn whole_error(
         length.unverified() as usize,
         &mut usize::MAX,
     );
-    move_to(decoder, walk.index());
+    decoder.follow(&walk);
     match outcome {
         Err(e) => e,
         // Unreachable: the record's reader found no value in the same octets.
@@ -235,4 +224,61 @@ fn is_memory(e: &DecodeError) -> bool
     ensures { IsTrue result ↔ (e.now ≡ DecodeError.Memory) }
 {
     matches!(e, DecodeError::Memory)
+}
+
+// ---- lists: their octets are checked before a value is made of them
+
+/// Goes over the row of RDATA of this length, and returns where its fields end. The decoder stays where it is. Allocates nothing.
+///
+/// # Errors
+///
+/// That of the first field that is missing or breaks a rule of the row.
+#[inline(never)]
+pub fn row_end(
+    decoder: &BinDecoder<'_>,
+    row: &[Part],
+    length: Restrict<u16>,
+) -> Result<usize, DecodeError>
+    requires row { is_row row.now ≡ true }
+    ensures there { IfOk result (λ end. RowThere row.now length decoder.now (moved decoder.now end)) }
+    ensures inside { IfOk result (λ end. (decoder.now.index ≤ end) × (end ≤ size decoder.now.message)) }
+    ensures rejected { OnErr result (RowRejected row.now length decoder.now) }
+{
+    let mut walk = Walk::at(decoder.message(), decoder.index());
+    match skip_row(
+        &mut walk,
+        row,
+        length.unverified() as usize,
+        &mut usize::MAX,
+    ) {
+        Ok(()) => Ok(walk.index()),
+        Err(e) => Err(e),
+    }
+}
+
+/// Takes the fields of a row, and returns their octets. Allocates nothing.
+///
+/// # Errors
+///
+/// That of the first field that is missing or breaks a rule of the row. The decoder is unchanged then.
+#[inline]
+pub fn take_row<'a>(
+    decoder: &mut BinDecoder<'a>,
+    row: &[Part],
+    length: Restrict<u16>,
+) -> Result<&'a [u8], DecodeError>
+    requires row { is_row row.now ≡ true }
+    ensures there { OnOk result (RowThere row.now length decoder.old decoder.new) }
+    ensures octets { IfOk result (λ octets. octets.now ≡ take (decoder.new.index - decoder.old.index) (drop decoder.old.index decoder.old.message)) }
+    ensures rejected { OnErr result (RowRejected row.now length decoder.old) }
+    ensures unchanged { OnErr result (decoder.new ≡ decoder.old) }
+{
+    let start = decoder.index();
+    let end = match row_end(decoder, row, length) {
+        Ok(end) => end,
+        Err(e) => return Err(e),
+    };
+    let message = decoder.message();
+    move_to(decoder, end);
+    Ok(&message[start..end])
 }

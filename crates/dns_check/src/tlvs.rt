@@ -1,7 +1,7 @@
 //! Keys or codes, each with a length and so many octets, one after the other (RFC 6891, 6.1.2; RFC 9460, 2.2).
 
 ghost use Rattle.std.specs.Prelude.{◌≡◌, ◌+◌, ◌<◌, ◌≤◌, ℕ, List, true, false, length, IfSome, IfNone};
-ghost use Rattle.dns_check.specs.{Parameters.IsTlvAt, Tlvs.TlvThere, Tlvs.AreComplete};
+ghost use Rattle.dns_check.specs.{Parameters.IsTlvAt, Tlvs.TlvThere, Tlvs.AreComplete, Tlvs.CompleteBy};
 
 /// Returns where the part ends that begins at the offset, or `None` if the octets end inside it.
 #[inline]
@@ -22,17 +22,31 @@ pub fn end_of(octets: &[u8], offset: usize) -> Option<usize>
     Some(offset + 4 + size)
 }
 
+/// Returns how many parts fill the octets, or `None` if parts do not.
+pub fn count_parts(octets: &[u8]) -> Option<usize>
+    ensures some { IfSome result (λ n. CompleteBy octets.now n) }
+    ensures none { IfNone result (AreComplete octets.now → ⊥) }
+{
+    let mut offset = 0;
+    let mut count = 0;
+    'parts: while offset < octets.len() {
+        match end_of(octets, offset) {
+            Some(end) => offset = end,
+            None => return None,
+        }
+        count += 1;
+    }
+    Some(count)
+}
+
 /// Returns whether parts fill the octets.
+#[inline]
 pub fn are_complete(octets: &[u8]) -> bool
     ensures yes { result ≡ true → AreComplete octets.now }
     ensures no { result ≡ false → AreComplete octets.now → ⊥ }
 {
-    let mut offset = 0;
-    'parts: while offset < octets.len() {
-        match end_of(octets, offset) {
-            Some(end) => offset = end,
-            None => return false,
-        }
+    match count_parts(octets) {
+        Some(_) => true,
+        None => false,
     }
-    true
 }

@@ -9,6 +9,5 @@ pub mod Lent
 pub mod Order
 pub mod OrderLaws
 pub mod Indices
-pub mod OptionReads
 pub mod Steps
 pub mod Heads

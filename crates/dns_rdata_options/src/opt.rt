@@ -21,10 +21,11 @@ mod text;
 pub(crate) mod walks;
 
 pub use code::EdnsCode;
+use dns_check::{DecodesRow, take_row};
 use dns_names_wire::{
-    BinDecoder, BinEncodable, BinEncoder, DecodeError, ProtoError, Record, RecordDataDecodable,
-    Restrict,
+    BinDecoder, BinEncodable, BinEncoder, DecodeError, ProtoError, Record, Restrict,
 };
+use dns_rows::{Part, row};
 pub use net::IpNet;
 pub use option::EdnsOption;
 use order::{hash_sorted, sorted_cmp};
@@ -181,26 +182,25 @@ impl OPT {
 
 impl Record for OPT {
     ghost facts = { record opt_facts { order = opt_cmp } };
+
+    #[inline]
+    fn row() -> &'static [Part] {
+        &row::OPT
+    }
 }
 
-impl RecordDataDecodable for OPT {
-    /// Reads options up to RDLENGTH and keeps their order. If RDLENGTH ends right after a code, or within the octets of
-    /// an option whose length is at most RDLENGTH, the record is truncated: the result has no options, and nothing is
+impl DecodesRow for OPT {
+    ghost checked = { refl };
+
+    /// Checks the options up to RDLENGTH, and then keeps them in order. If RDLENGTH ends right after a code, or within the octets
+    /// of an option whose length is at most RDLENGTH, the record is truncated: the result has no options, and nothing is
     /// allocated. Otherwise this allocates once for the list, and once for each option that is not a client subnet.
-    ///
-    /// # Errors
-    ///
-    /// The first of these that is met, from the front:
-    ///
-    /// - [`InsufficientBytes`](DecodeError::InsufficientBytes): the message ends within a code, a length or the octets
-    ///   of an option. The decoder is then at the end of the message.
-    /// - [`IncorrectRDataLengthRead`](DecodeError::IncorrectRDataLengthRead), with the octets read and RDLENGTH: a code
-    ///   or a length goes past RDLENGTH. With RDLENGTH and the option's length: the option's is greater.
-    /// - What `EdnsOption::try_from` returns. The decoder is then after the option's octets.
     #[inline(always)]
-    fn read_data(decoder: &mut BinDecoder<'_>, length: Restrict<u16>) -> Result<OPT, DecodeError> {
-        let _start = decoder.index();
-        reading::read_options(decoder, length.unverified())
+    fn read_row(decoder: &mut BinDecoder<'_>, length: Restrict<u16>) -> Result<OPT, DecodeError> {
+        match take_row(decoder, &row::OPT, length) {
+            Ok(octets) => Ok(reading::options_in(decoder.allocator(), octets)?),
+            Err(e) => Err(e),
+        }
     }
 }
 

@@ -1,17 +1,14 @@
 -- SVCB: how a service is reached (RFC 9460, 2.2).
-use Rattle.std.specs.Prelude.{◌≡◌, ◌⊎◌, ℕ, ◌+◌, ◌≤◌, ◌<◌, ◌==◌, if◌then◌else◌, List, [], ◌∷◌, ◌++◌, Option, Some, None, map, codes, decimal}
+use Rattle.std.specs.Prelude.{ℕ, ◌+◌, ◌≤◌, ◌<◌, ◌==◌, if◌then◌else◌, List, [], ◌∷◌, ◌++◌, Option, Some, None, map, codes, decimal}
 use Rattle.std.specs.{List.flat_map, Ordering.on}
-use Rattle.dns_types.specs.declared.error.DecodeError.{DecodeError}
-use Rattle.dns_types.specs.declared.error.DecodeError.TheVariants as decode
-use Rattle.dns_fields.specs.{Labels.DomainName, declared.Kind.Kind, declared.Kind.TheVariants.Number, Order.values_cmp}
+use Rattle.dns_fields.specs.{declared.Kind.Kind, declared.Kind.TheVariants.Number, Order.values_cmp}
 use Rattle.dns_fields.specs.{declared.Kind.TheVariants.Name, declared.Kind.TheVariants.Parameters, Fields.Values}
 use Rattle.dns_rows.specs.{Table.kinds_of, Rules.MeetsRow}
 use Rattle.dns_rows.specs.declared.row.TheConstants as rows
 use Rattle.dns_labels.specs.Text.{name_text}
 use Rattle.dns_names_wire.specs.{State.Reading, Terms.Took, Facts.Facts}
-use Rattle.dns_rdata_base.specs.FieldErrors.{IsLack}
 use Rattle.dns_rdata_service.specs.{SvcParamKey.key_number, SvcParamKey.key_text, SvcParamValue.value_text, declared.svcb.SVCB.SVCB}
-use Rattle.dns_rdata_service.specs.Parameters.{Parameter, parameter_of, own_parameter, AreRead, IsParametersError}
+use Rattle.dns_rdata_service.specs.Parameters.{Parameter, parameter_of, own_parameter, AreRead}
 use Rattle.dns_rdata_service.specs.declared.svcb.value.SvcParamValue.{SvcParamValue}
 
 -- priority, target name, parameters
@@ -20,10 +17,6 @@ svcb_shape = kinds_of rows.SVCB
 
 abbrev pub svcb_fields : SVCB → Values (kinds_of rows.SVCB)
 svcb_fields x = (x.svc_priority, (x.target_name, (map parameter_of x.svc_params, tt)))
-
--- a path of DNS queries is UTF-8, if there is one
-abbrev pub MeetsSvcbCondition : Values svcb_shape → Type 0
-MeetsSvcbCondition vs = MeetsRow rows.SVCB vs
 
 -- what is compared
 abbrev pub svcb_key_shape : List Kind
@@ -56,48 +49,20 @@ parameter_text p = codes " " ++ (key_text p.0 ++ (codes "=" ++ value_text p.1))
 abbrev pub svcb_text : SVCB → List ℕ
 svcb_text x = (decimal x.svc_priority ++ (codes " " ++ name_text x.target_name)) ++ flat_map parameter_text x.svc_params
 
--- ---- errors
-
--- priority and target name are read, and they have more than n octets
-pub record PassedHead (n : ℕ) (old : Reading) (e : DecodeError) (new : Reading) : Type 0 where
-  pub priority : ℕ
-  pub target : DomainName
-  pub size : ℕ
-  pub took : Took old (Number 2 ∷ Name ∷ []) (priority, (target, tt)) new
-  pub error : e ≡ decode.IncorrectRDataLengthRead size n
-  pub passed : n < size
-  pub index : new.index ≡ old.index + size
-
--- priority and target name are read, and the parameters are rejected
-pub record RefusedParameters (n : ℕ) (old : Reading) (e : DecodeError) (new : Reading) : Type 0 where
-  pub priority : ℕ
-  pub target : DomainName
-  pub between : Reading
-  pub took : Took old (Number 2 ∷ Name ∷ []) (priority, (target, tt)) between
-  pub fits : between.index ≤ old.index + n
-  pub refused : IsParametersError old.index n between e new
-
--- RDATA of n octets
-abbrev pub IsSvcbError : ℕ → Reading → DecodeError → Reading → Type 0
-IsSvcbError n old e new =
-    IsLack (Number 2 ∷ Name ∷ []) old e new ⊎ (PassedHead n old e new ⊎ RefusedParameters n old e new)
-
 -- ---- a value that was read
 
 -- Priority, target name and parameters are read, and of the n octets of RDATA at most three are left.
 pub record TookService (n : ℕ) (x : SVCB) (old new : Reading) : Type 0 where
   pub read : IsReadSvcb x
   pub took : Took old svcb_shape (svcb_fields x) new
-  pub holds : MeetsSvcbCondition (svcb_fields x)
+  pub holds : MeetsRow rows.SVCB (svcb_fields x)
   pub within : new.index ≤ old.index + n
   pub left : old.index + n < new.index + 4
 
 abbrev pub svcb_facts : Facts SVCB
 svcb_facts = record {
-  kinds = svcb_shape;
-  condition = MeetsSvcbCondition;
+  row = rows.SVCB;
   fields = svcb_fields;
-  rejects = IsSvcbError;
   after_read = TookService;
   order = on svcb_keys (values_cmp svcb_key_shape);
 }

@@ -178,10 +178,6 @@ IsValueError form body e = (e ≡ decode.Memory) ⊎ IsFormError form body e
 abbrev pub IsPathError : List ℕ → DecodeError → Type 0
 IsPathError body e = (e ≡ decode.Memory) ⊎ ((e ≡ decode.Utf8) × (IsUtf8 body → ⊥))
 
--- why octets are no value of a key
-abbrev pub IsKeyError : ℕ → List ℕ → DecodeError → Type 0
-IsKeyError key body e = IsValueError (form_for key) body e ⊎ ((is_text_key key ≡ true) × IsPathError body e)
-
 -- ---- emitting
 
 -- a length in two octets, and its octets

@@ -1,14 +1,15 @@
 //! HTTPS: how a web service is reached (RFC 9460, section 9).
 
-ghost use Rattle.std.specs.Prelude.{◌≡◌, ◌≤◌, length, IfOk};
+ghost use Rattle.std.specs.Prelude.{◌≡◌, ◌≤◌, length, refl, IfOk};
 ghost use Rattle.std.specs.{List.Sorted.IsPermutation, List.Sorted.IsNonDecreasingBy, List.Sorted.IsStableByKey, Ordering.nat_cmp};
 ghost use Rattle.dns_rdata_service.specs.{SVCB.number_of_parameter, HTTPS.https_facts};
 
 use crate::svcb::SVCB;
+use dns_check::DecodesRow;
 use dns_names_wire::{
-    BinDecoder, BinEncoder, DecodeError, EncodesFields, ProtoError, RDataEncoding, Record,
-    RecordDataDecodable, Restrict,
+    BinDecoder, BinEncoder, DecodeError, EncodesFields, ProtoError, RDataEncoding, Record, Restrict,
 };
+use dns_rows::{Part, row};
 use std::alloc::AllocError;
 use std::fmt;
 use std::ops::Deref;
@@ -34,16 +35,20 @@ impl HTTPS {
 
 impl Record for HTTPS {
     ghost facts = { https_facts };
+
+    #[inline]
+    fn row() -> &'static [Part] {
+        &row::SVCB
+    }
 }
 
-impl RecordDataDecodable for HTTPS {
-    /// Reads the fields of an SVCB. The errors are those of `SVCB`.
+impl DecodesRow for HTTPS {
+    ghost checked = { refl };
+
+    /// Reads the fields of an SVCB.
     #[inline]
-    fn read_data(
-        decoder: &mut BinDecoder<'_>,
-        length: Restrict<u16>,
-    ) -> Result<HTTPS, DecodeError> {
-        Ok(HTTPS(SVCB::read_data(decoder, length)?))
+    fn read_row(decoder: &mut BinDecoder<'_>, length: Restrict<u16>) -> Result<HTTPS, DecodeError> {
+        Ok(HTTPS(SVCB::read_row(decoder, length)?))
     }
 }
 

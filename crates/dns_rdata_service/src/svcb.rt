@@ -1,7 +1,7 @@
 //! SVCB: how a service is reached (RFC 9460).
 
 ghost use Rattle.std.specs.{List.Sorted.IsPermutation, List.Sorted.IsNonDecreasingBy, List.Sorted.IsStableByKey, Cmp.Lexicographic.pointwise};
-ghost use Rattle.std.specs.{Prelude.◌≡◌, Prelude.◌≤◌, Prelude.length, Prelude.IfOk, Option.option_copied, Ordering.nat_cmp};
+ghost use Rattle.std.specs.{Prelude.◌≡◌, Prelude.◌≤◌, Prelude.length, Prelude.refl, Prelude.IfOk, Option.option_copied, Ordering.nat_cmp};
 ghost use Rattle.dns_names_wire.specs.Facts.{same, same_equiv, same_partial};
 ghost use Rattle.dns_rdata_service.specs.SVCB.{svcb_facts, svcb_key_shape, svcb_keys, number_of_parameter, value_at};
 ghost use Rattle.dns_rdata_service.specs.{OwnKeys.parameter_eq, SvcParamKey.key_number};
@@ -20,10 +20,12 @@ mod value;
 
 use crate::items::Items;
 pub use alpn::Alpn;
+use dns_check::{DecodesRow, row_end};
 use dns_names_wire::{
-    BinDecodable, BinDecoder, BinEncodable, BinEncoder, DecodeError, EncodesFields, Name,
-    ProtoError, RDataEncoding, Record, RecordDataDecodable, Restrict,
+    BinDecoder, BinEncodable, BinEncoder, DecodeError, EncodesFields, Name, ProtoError,
+    RDataEncoding, Record, Restrict,
 };
+use dns_rows::{Part, row};
 pub use doh_path::DohPath;
 pub use ech_config_list::EchConfigList;
 pub use ip_hint::IpHint;
@@ -122,32 +124,28 @@ impl SVCB {
 
 impl Record for SVCB {
     ghost facts = { svcb_facts };
+
+    #[inline]
+    fn row() -> &'static [Part] {
+        &row::SVCB
+    }
 }
 
-impl RecordDataDecodable for SVCB {
-    /// Reads priority and target, and then parameters while at least four octets of RDLENGTH are left. One to three
-    /// octets that are left over are not read. Allocates once for the list, and for what the values hold.
-    ///
-    /// # Errors
-    ///
-    /// - [`IncorrectRDataLengthRead`](DecodeError::IncorrectRDataLengthRead), with the octets read and RDLENGTH:
-    ///   priority and target, or everything up to the end of a parameter, go past RDLENGTH. With the octets left in the
-    ///   message and the value's length: the message ends first.
-    /// - [`SvcParamsOutOfOrder`](DecodeError::SvcParamsOutOfOrder): a key is not greater than the one before. The
-    ///   decoder is then after its value.
-    /// - What reading the priority or the target name returns, and what the value's own `read` returns if its octets do
-    ///   not fit its key.
+impl DecodesRow for SVCB {
+    ghost checked = { refl };
+
+    /// Checks priority, target, and parameters while at least four octets of RDLENGTH are left, and then reads them. One to
+    /// three octets that are left over are not read. Allocates once for the list, and for what the values hold.
     #[inline(always)]
-    fn read_data(decoder: &mut BinDecoder<'_>, length: Restrict<u16>) -> Result<SVCB, DecodeError> {
-        let start = decoder.index();
+    fn read_row(decoder: &mut BinDecoder<'_>, length: Restrict<u16>) -> Result<SVCB, DecodeError> {
+        let end = match row_end(decoder, &row::SVCB, length) {
+            Ok(end) => end,
+            Err(e) => return Err(e),
+        };
         let svc_priority = decoder.read_u16()?.unverified();
         let target_name = Name::read(decoder)?;
-        let read = decoder.index() - start;
-        let len = length.unverified() as usize;
-        if len < read {
-            return Err(DecodeError::IncorrectRDataLengthRead { read, len });
-        }
-        let svc_params = parameters::read_parameters(decoder, start, len)?;
+        let octets = decoder.read_slice(end - decoder.index())?.unverified();
+        let svc_params = parameters::parameters_in(decoder.allocator(), octets)?;
         Ok(SVCB {
             svc_priority,
             target_name,

@@ -7,7 +7,8 @@ ghost use Rattle.dns_rdata_options.specs.{IpNet.masked_address, ClientSubnet.add
 ghost use Rattle.dns_rdata_options.specs.ClientSubnet.{subnet_value, SubnetAt, IsSubnetError, ReadsSubnet, prefix_octets, family_octets};
 
 use crate::opt::net::{IpNet, masked_address};
-use dns_names_wire::{BinDecodable, BinDecoder, BinEncodable, BinEncoder, DecodeError, ProtoError};
+use dns_check::BinDecodable;
+use dns_names_wire::{BinDecoder, BinEncodable, BinEncoder, DecodeError, ProtoError};
 use std::alloc::Global;
 use std::net::{IpAddr, Ipv4Addr, Ipv6Addr};
 

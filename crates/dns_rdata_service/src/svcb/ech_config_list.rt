@@ -6,8 +6,9 @@ ghost use Rattle.dns_names_wire.specs.Terms.{ReadsBy};
 ghost use Rattle.dns_rdata_service.specs.SvcParamValue.{ech_value, EchConfigListAt, IsValueError, EmitsValue};
 
 use crate::svcb::unknown::emit_octets;
+use dns_check::BinDecodable;
 use dns_names_wire::{
-    BinDecodable, BinDecoder, BinEncodable, BinEncoder, DecodeError, Octets, ProtoError,
+    BinDecoder, BinEncodable, BinEncoder, DecodeError, Octets, ProtoError,
 };
 use dns_tokens::Base64Text;
 use std::alloc::AllocError;

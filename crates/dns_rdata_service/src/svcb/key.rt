@@ -9,7 +9,8 @@ ghost use Rattle.dns_names_wire.specs.Terms.{ReadsBy, EmitsField, LacksOctets, I
 ghost use Rattle.dns_types.specs.declared.error.ProtoError.TheVariants as proto;
 ghost use Rattle.dns_rdata_service.specs.{SvcParamKey.key_number, SvcParamKey.key_variant, SvcParamKey.key_of, ParameterTokens.IsNumberedKey};
 
-use dns_names_wire::{BinDecodable, BinDecoder, BinEncodable, BinEncoder, DecodeError, ProtoError};
+use dns_check::BinDecodable;
+use dns_names_wire::{BinDecoder, BinEncodable, BinEncoder, DecodeError, ProtoError};
 use std::cmp::Ordering;
 use std::fmt;
 use std::hash::{Hash, Hasher};

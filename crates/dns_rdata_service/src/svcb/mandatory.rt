@@ -8,7 +8,8 @@ ghost use Rattle.dns_rdata_service.specs.SvcParamValue.{mandatory_value, Mandato
 use crate::items::Items;
 use crate::svcb::ip_hint::emit_each;
 use crate::svcb::key::SvcParamKey;
-use dns_names_wire::{BinDecodable, BinDecoder, BinEncodable, BinEncoder, DecodeError, ProtoError};
+use dns_check::BinDecodable;
+use dns_names_wire::{BinDecoder, BinEncodable, BinEncoder, DecodeError, ProtoError};
 use std::alloc::AllocError;
 use std::fmt;
 

@@ -6,8 +6,9 @@ ghost use Rattle.dns_names_wire.specs.Terms.{Extends, ReadsBy};
 ghost use Rattle.dns_rdata_service.specs.SvcParamValue.{unknown_value, UnknownAt, IsValueError, EmitsValue};
 
 use bstr::BStr;
+use dns_check::BinDecodable;
 use dns_names_wire::{
-    BinDecodable, BinDecoder, BinEncodable, BinEncoder, DecodeError, Octets, ProtoError,
+    BinDecoder, BinEncodable, BinEncoder, DecodeError, Octets, ProtoError,
 };
 use std::alloc::AllocError;
 use std::fmt;

@@ -1,9 +1,9 @@
 //! The values of service parameters.
 
-ghost use Rattle.std.specs.Prelude.{◌≡◌, IfErr, IfOk, length};
-ghost use Rattle.dns_fields.specs.Tlvs.{form_for, IsEmittable, IsBody, Addresses4, Addresses16};
+ghost use Rattle.std.specs.Prelude.{◌≡◌, IfOk};
+ghost use Rattle.dns_fields.specs.Tlvs.{IsEmittable, IsBody};
 ghost use Rattle.dns_rdata_service.specs.{SvcParamValue.own_key, SvcParamValue.value_rank, OwnKeys.value_eq};
-ghost use Rattle.dns_rdata_service.specs.SvcParamValue.{value_of, hint4_value, hint6_value, IsValueOf, IsKeyError, IsValueError, EmitsValue};
+ghost use Rattle.dns_rdata_service.specs.SvcParamValue.{value_of, hint4_value, hint6_value, IsValueOf, EmitsValue};
 ghost use Rattle.dns_rdata_service.specs.{SvcParamKey.key_number, SvcParamKey.key_of, SvcParamValue.EmitsSized};
 
 use crate::svcb::alpn::Alpn;
@@ -13,7 +13,8 @@ use crate::svcb::ip_hint::IpHint;
 use crate::svcb::key::SvcParamKey;
 use crate::svcb::mandatory::Mandatory;
 use crate::svcb::unknown::Unknown;
-use dns_names_wire::{BinDecodable, BinDecoder, BinEncodable, BinEncoder, DecodeError, ProtoError};
+use dns_check::BinDecodable;
+use dns_names_wire::{BinDecoder, BinEncodable, BinEncoder, DecodeError, ProtoError};
 use dns_rdata_base::{A, AAAA};
 use std::alloc::{AllocError, Global};
 use std::fmt;
@@ -82,7 +83,7 @@ pub(crate) use each_value;
 pub(crate) use with_octets;
 
 impl SvcParamValue {
-    // The value of this key that these octets are.
+    // The value of this key that these octets are. Its errors are told by the row of the record.
     #[tactic(auto, using(crate::proofs::SvcbValues::hint4_back, crate::proofs::SvcbValues::hint6_back), unfolding(crate::specs::SvcParamKey::key_of))]
     pub(super) fn of_octets(
         alloc: Global,
@@ -90,8 +91,7 @@ impl SvcParamValue {
         octets: &[u8],
     ) -> Result<SvcParamValue, DecodeError>
         requires { key ≡ key_of (key_number key) }
-        ensures read { IfOk result (λ v. IsValueOf (key_number key) octets.now v) }
-        ensures refused { IfErr result (λ e. IsKeyError (key_number key) octets.now e) }
+        ensures { IfOk result (λ v. IsValueOf (key_number key) octets.now v) }
     {
         let mut decoder = BinDecoder::new(alloc, octets);
         match key {
@@ -173,28 +173,16 @@ pub(super) fn same_value(a: &SvcParamValue, b: &SvcParamValue) -> bool
 fn hint4(alloc: Global, octets: &[u8]) -> Result<IpHint<A>, DecodeError>
     ensures fit { IfOk result (λ x. IsEmittable (hint4_value x)) }
     ensures body { IfOk result (λ x. IsBody octets.now (hint4_value x)) }
-    ensures refused { IfErr result (λ e. IsValueError Addresses4 octets.now e) }
 {
-    if octets.len() % 4 != 0 {
-        return Err(DecodeError::InsufficientBytes);
-    }
-    let mut decoder = BinDecoder::new(alloc, octets);
-    let _start = decoder.index();
-    IpHint::<A>::read(&mut decoder)
+    IpHint::<A>::read(&mut BinDecoder::new(alloc, octets))
 }
 
 // Addresses of sixteen octets.
 fn hint6(alloc: Global, octets: &[u8]) -> Result<IpHint<AAAA>, DecodeError>
     ensures fit { IfOk result (λ x. IsEmittable (hint6_value x)) }
     ensures body { IfOk result (λ x. IsBody octets.now (hint6_value x)) }
-    ensures refused { IfErr result (λ e. IsValueError Addresses16 octets.now e) }
 {
-    if octets.len() % 16 != 0 {
-        return Err(DecodeError::InsufficientBytes);
-    }
-    let mut decoder = BinDecoder::new(alloc, octets);
-    let _start = decoder.index();
-    IpHint::<AAAA>::read(&mut decoder)
+    IpHint::<AAAA>::read(&mut BinDecoder::new(alloc, octets))
 }
 
 impl BinEncodable for SvcParamValue {
