@@ -278,7 +278,8 @@ pub fn take_row<'a>(
         Ok(end) => end,
         Err(e) => return Err(e),
     };
-    let message = decoder.message();
-    move_to(decoder, end);
-    Ok(&message[start..end])
+    let mut walk = decoder.walk();
+    walk.move_to(end);
+    decoder.follow(&walk);
+    Ok(&walk.message()[start..end])
 }
