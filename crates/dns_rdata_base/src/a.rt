@@ -12,9 +12,12 @@ ghost use Rattle.dns_types.specs.declared.error.ParseError.TheVariants as parse;
 use crate::traits::TakesOctet;
 use crate::{OrderedRecord, unless_tied};
 use dns_canonical::{AtOnce, Head, Tail, octets_cmp};
-use dns_rows::{Part, row};
 use dns_check::{BinDecodable, DecodesFields};
-use dns_names_wire::{AddrParseError, BinDecoder, BinEncodable, BinEncoder, DecodeError, ParseError, ProtoError, Record};
+use dns_names_wire::{
+    AddrParseError, BinDecoder, BinEncodable, BinEncoder, DecodeError, ParseError, ProtoError,
+    Record,
+};
+use dns_rows::{Part, row};
 use dns_tokens::next_ipv4;
 use std::cmp::Ordering;
 use std::convert::AsStr;

@@ -12,9 +12,11 @@ ghost use Rattle.dns_tokens.specs.Reads.{ReadsTokenRow};
 use crate::{OrderedRecord, cmp_each_field};
 use bstr::BStr;
 use dns_canonical::{Head, Step, text_behind};
-use dns_rows::{Part, row};
 use dns_check::{BinDecodable, DecodesFields, read_alone};
-use dns_names_wire::{BinDecoder, BinEncodable, BinEncoder, DecodeError, ParseError, ProtoError, Record, SmallOctets};
+use dns_names_wire::{
+    BinDecoder, BinEncodable, BinEncoder, DecodeError, ParseError, ProtoError, Record, SmallOctets,
+};
+use dns_rows::{Part, row};
 use dns_tokens::next_kept;
 use std::alloc::Global;
 use std::boxed::BoxedSlice;

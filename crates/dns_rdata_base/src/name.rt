@@ -9,9 +9,12 @@ ghost use Rattle.dns_tokens.specs.{Reads.ReadsTokenRow, Straight.straight_tokens
 
 use crate::{OrderedRecord, unless_tied};
 use dns_canonical::{Head, Step, Tail, name_behind};
-use dns_rows::{Part, row};
 use dns_check::DecodesFields;
-use dns_names_wire::{BinDecoder, BinEncodable, BinEncoder, DecodeError, EncodesFields, Name, ParseError, ProtoError, RDataEncoding, Record};
+use dns_names_wire::{
+    BinDecoder, BinEncodable, BinEncoder, DecodeError, EncodesFields, Name, ParseError, ProtoError,
+    RDataEncoding, Record,
+};
+use dns_rows::{Part, row};
 use dns_tokens::next_name;
 use std::alloc::Global;
 use std::cmp::Ordering;

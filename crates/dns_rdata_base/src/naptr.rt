@@ -14,9 +14,12 @@ ghost use Rattle.dns_fields.specs.declared.RDataEncoding.TheVariants as modes;
 use crate::{OrderedRecord, cmp_each_field, unless_tied};
 use bstr::BStr;
 use dns_canonical::{Head, Step, Tail, name_behind, text_behind, two_behind};
-use dns_rows::{Part, row};
 use dns_check::DecodesFields;
-use dns_names_wire::{BinDecoder, BinEncodable, BinEncoder, DecodeError, EncodesFields, Name, Octets, ParseError, ProtoError, RDataEncoding, Record};
+use dns_names_wire::{
+    BinDecoder, BinEncodable, BinEncoder, DecodeError, EncodesFields, Name, Octets, ParseError,
+    ProtoError, RDataEncoding, Record,
+};
+use dns_rows::{Part, row};
 use dns_tokens::{next_kept, next_name, next_token, next_u16, number_field};
 use std::alloc::Global;
 use std::boxed::BoxedSlice;

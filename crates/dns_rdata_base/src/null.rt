@@ -7,9 +7,11 @@ ghost use Rattle.dns_rdata_base.specs.NULL.{null_shape, null_fields, null_facts,
 
 use crate::OrderedRecord;
 use crate::rest::rest_cmp_canonical;
-use dns_rows::{Part, row};
 use dns_check::DecodesRow;
-use dns_names_wire::{BinDecoder, BinEncodable, BinEncoder, DecodeError, ProtoError, Record, Restrict, SmallOctets};
+use dns_names_wire::{
+    BinDecoder, BinEncodable, BinEncoder, DecodeError, ProtoError, Record, Restrict, SmallOctets,
+};
+use dns_rows::{Part, row};
 use dns_tokens::Base64Text;
 use std::alloc::Global;
 use std::cmp::Ordering;
@@ -66,10 +68,7 @@ impl DecodesRow for NULL {
 
     /// Reads all octets of RDLENGTH. Allocates once if they are more than 64.
     #[inline]
-    fn read_row(
-        decoder: &mut BinDecoder<'_>,
-        length: Restrict<u16>,
-    ) -> Result<NULL, DecodeError> {
+    fn read_row(decoder: &mut BinDecoder<'_>, length: Restrict<u16>) -> Result<NULL, DecodeError> {
         // For the proof: brings in that the message is octets and the index is at most its length.
         let _start = decoder.index();
         let octets = decoder.read_small(length.unverified() as usize)?;

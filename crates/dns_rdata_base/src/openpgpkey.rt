@@ -8,9 +8,12 @@ ghost use Rattle.dns_tokens.specs.Reads.{ReadsTokenRow};
 
 use crate::OrderedRecord;
 use crate::rest::rest_cmp_canonical;
-use dns_rows::{Part, row};
 use dns_check::DecodesRow;
-use dns_names_wire::{BinDecoder, BinEncodable, BinEncoder, DecodeError, ParseError, ProtoError, Record, Restrict, SmallOctets};
+use dns_names_wire::{
+    BinDecoder, BinEncodable, BinEncoder, DecodeError, ParseError, ProtoError, Record, Restrict,
+    SmallOctets,
+};
+use dns_rows::{Part, row};
 use dns_tokens::{Base64Text, base64_field, next_base64, no_more};
 use std::alloc::Global;
 use std::cmp::Ordering;

@@ -15,9 +15,12 @@ ghost use Rattle.dns_fields.specs.declared.RDataEncoding.TheVariants as modes;
 
 use crate::{OrderedRecord, in_order, unless_tied};
 use dns_canonical::{Head, Step, Tail, four_behind, name_behind};
-use dns_rows::{Part, row};
 use dns_check::DecodesFields;
-use dns_names_wire::{BinDecoder, BinEncodable, BinEncoder, DecodeError, EncodesFields, Name, ParseError, ProtoError, RDataEncoding, Record};
+use dns_names_wire::{
+    BinDecoder, BinEncodable, BinEncoder, DecodeError, EncodesFields, Name, ParseError, ProtoError,
+    RDataEncoding, Record,
+};
+use dns_rows::{Part, row};
 use dns_tokens::{next_name, next_signed_ttl, next_ttl, time_field};
 use std::alloc::Global;
 use std::cmp::Ordering;

@@ -10,9 +10,12 @@ ghost use Rattle.dns_tokens.specs.{Reads.ReadsTokenRow, Straight.straight_tokens
 
 use crate::{OrderedRecord, cmp_each_field, unless_tied};
 use dns_canonical::{AtOnce, Head, Tail, name_behind, two_behind};
-use dns_rows::{Part, row};
 use dns_check::DecodesFields;
-use dns_names_wire::{BinDecoder, BinEncodable, BinEncoder, DecodeError, EncodesFields, Name, ParseError, ProtoError, RDataEncoding, Record};
+use dns_names_wire::{
+    BinDecoder, BinEncodable, BinEncoder, DecodeError, EncodesFields, Name, ParseError, ProtoError,
+    RDataEncoding, Record,
+};
+use dns_rows::{Part, row};
 use dns_tokens::{next_name, next_u16, number_field};
 use std::alloc::Global;
 use std::cmp::Ordering;

@@ -1,8 +1,8 @@
-use dns_check::BinDecodable;
 //! Types whose values always take at least one octet.
 
 ghost use Rattle.std.specs.Prelude.{ℕ, List, ◌<◌};
 
+use dns_check::BinDecodable;
 
 /// A type whose values take at least one octet each.
 pub trait TakesOctet: BinDecodable {
