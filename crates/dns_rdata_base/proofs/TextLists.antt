@@ -1,107 +1,98 @@
 -- Character strings, read, written and given one after the other.
-use Rattle.std.proofs.lemmas.List.{append-nil, length-append, same_from_push, drop_more, take-append-drop, Concat.flat_map-cons}
+use Rattle.std.proofs.lemmas.List.{append-nil, length-append, drop_more, take-append-drop, Concat.flat_map-cons}
 use Rattle.std.proofs.{Common.subst, Common.nat_le, Common.false, lemmas.Grind.flat_map-append, Math.Bool.and-false}
-use Rattle.std.proofs.Common.{◌≡◌, ℕ, suc, ◌+◌, ◌≤◌, ◌<◌, ◌⊎◌, inl, inr, List, [], ◌∷◌, ◌++◌, length, take, drop, get_or, drop-cons, refl, sym, ap, ◌∙◌, arith}
+use Rattle.std.proofs.Common.{◌≡◌, ℕ, suc, min, ◌+◌, ◌-◌, ◌≤◌, ◌<◌, append_assoc, List, [], ◌∷◌, ◌++◌, length, take, drop, get_or, drop-cons, refl, sym, ap, ◌∙◌, arith}
 use Rattle.std.specs.List.{flat_map, AllByRecursion, list_all}
-use Rattle.dns_types.specs.declared.error.{DecodeError.DecodeError, ProtoError.ProtoError}
-use Rattle.dns_fields.specs.{declared.Kind.TheVariants.CharacterString, declared.Kind.TheVariants.CharacterStrings, Fields.Field, Fields.field_octets}
+use Rattle.dns_types.specs.declared.error.ProtoError.{ProtoError}
+use Rattle.dns_fields.specs.{declared.Kind.TheVariants.CharacterString, declared.Kind.TheVariants.CharacterStrings, Fields.Field, Fields.Values, Fields.field_octets}
 use Rattle.dns_fields.specs.{Tlvs.string, Octets.At}
-use Rattle.dns_fields.proofs.FieldLaws.{field_inside, field_end}
-use Rattle.dns_names_wire.specs.Terms.{TookField, LacksField, StringsReach, RefusedField, RefusedRegion, AppendedField, StoppedField, NoRoomField, UnfitField}
+use Rattle.dns_names_wire.specs.Terms.{TookField, StringsReach, AppendedField, StoppedField, NoRoomField, UnfitField}
 use Rattle.dns_names_wire.specs.State.{Reading, Writing}
-use Rattle.dns_names_wire.proofs.{Strings.at_front, Strings.at_rest, Strings.at_then, FieldWrites.extends_then, FieldWrites.because_map, FieldReads.unless_map}
-use Rattle.dns_rdata_base.specs.{Steps.texts_left, TXT.txt_shape}
+use Rattle.dns_names_wire.proofs.{Strings.at_rest, FieldWrites.extends_then, FieldWrites.because_map}
+use Rattle.dns_rows.specs.declared.row.TheConstants as rows
+use Rattle.dns_check.specs.ByRow.{RowThere}
+use Rattle.dns_check.proofs.{Alone.between_is, Alone.strings_alone, Strings.next_string}
+use Rattle.dns_rdata_base.specs.{Steps.texts_left, TXT.txt_fields, TXT.txt_shape, declared.txt.TXT.TXT}
 use Rattle.dns_canonical.specs.Steps.{StepAt}
 
 pub joined : (xs : List (List ℕ)) (s : List ℕ) (ys : List (List ℕ))
     → flat_map string (xs ++ s ∷ ys) ≡ flat_map string xs ++ (string s ++ flat_map string ys)
 joined xs s ys = flat_map-append string xs (s ∷ ys) ∙ ap (λ (t : List ℕ). flat_map string xs ++ t) (flat_map-cons string s ys)
 
--- what a loop has read of the strings up to the end, and what is left of any way to fill it
-pub record ReadsOn (old : Reading) (end : ℕ) (strings : List (List ℕ)) (d : Reading) : Type 0 where
-  pub message : d.message ≡ old.message
-  pub behind : old.index ≤ d.index
-  pub took : Field old.message old.index CharacterStrings strings d.index
-  pub last : (front : List (List ℕ)) (s : List ℕ) → strings ≡ front ++ s ∷ [] → d.index < end + length (string s)
-  pub rest : (ws : List (List ℕ)) → Field old.message old.index CharacterStrings ws end
-      → (vs : List (List ℕ)) × Field old.message d.index CharacterStrings vs end
-
-fits_push : (xs : List (List ℕ)) (s : List ℕ) → AllByRecursion (λ s. length s < 256) xs → length s < 256 → AllByRecursion (λ s. length s < 256) (xs ++ s ∷ [])
-fits_push [] s a h = (h, tt)
-fits_push (x ∷ xs) s a h = (a.0, fits_push xs s a.1 h)
-
-texts_push : {m : List ℕ} {p q r : ℕ} {xs : List (List ℕ)} {s : List ℕ} → Field m p CharacterStrings xs q → Field m q CharacterString s r
-    → Field m p CharacterStrings (xs ++ s ∷ []) r
-texts_push {m} {p} {q} {r} {xs} {s} f g = record { is = (fits_push xs s f.is.0 g.is.0, rw (joined xs s [], append-nil (string s)) (at_then f.is.1 g.is.1)) }
-
--- the first string, and how many stand behind it
-next_text : (m : List ℕ) (q e : ℕ) (vs : List (List ℕ)) → q < e → Field m q CharacterStrings vs e
-    → (s : List ℕ) × (ws : List (List ℕ)) × Field m q CharacterString s (q + length (string s)) × Field m (q + length (string s)) CharacterStrings ws e
-    × (length vs ≡ suc (length ws))
-next_text m q e [] lt f = absurd (omega (arith, f.is.1.ends))
-next_text m q e (s ∷ ws) lt f =
-    let whole : At m q (string s ++ flat_map string ws) e = rw (← flat_map-cons string s ws) f.is.1 in
-    let first : Field m q CharacterString s (q + length (string s)) = record { is = (f.is.0.0, at_front (string s) (flat_map string ws) whole) } in
-    (s, ws, first, record { is = (f.is.0.1, at_rest (string s) (flat_map string ws) whole) }, refl)
-
--- none stands at the end, or past the message
-no_text : (m : List ℕ) (q e : ℕ) (vs : List (List ℕ)) → (e ≤ q) ⊎ (length m ≤ q) → Field m q CharacterStrings vs e → length vs ≡ 0
+-- none is at the end
+no_text : (m : List ℕ) (q e : ℕ) (vs : List (List ℕ)) → e ≤ q → Field m q CharacterStrings vs e → vs ≡ []
 no_text m q e [] past f = refl
 no_text m q e (s ∷ ws) past f =
     let whole : At m q (string s ++ flat_map string ws) e = rw (← flat_map-cons string s ws) f.is.1 in
-    let front : At m q (string s) (q + length (string s)) = at_front (string s) (flat_map string ws) whole in
-    let rest : q + length (string s) ≤ e = omega (arith, whole.ends, length-append (string s) (flat_map string ws)) in
-    elim past [ inl h ↦ absurd (omega arith) | inr h ↦ absurd (omega (arith, front.within)) ]
+    absurd (omega (arith, whole.ends, length-append (string s) (flat_map string ws), past))
 
-pub reads_more : {old d b : Reading} {end : ℕ} {xs : List (List ℕ)} {s : List ℕ} → d.index < end → ReadsOn old end xs d → TookField d CharacterString s b
-    → ReadsOn old end (xs ++ s ∷ []) b
-reads_more {old} {d} {b} {end} {xs} {s} lt r f =
-    let g : Field old.message d.index CharacterString s b.index = subst (λ (m : List ℕ). Field m d.index CharacterString s b.index) r.message f.field in
-    record {
-      message = f.message ∙ r.message;
-      behind = omega (arith, r.behind, (field_inside g).0);
-      took = texts_push r.took g;
-      last = λ front t e. omega (arith, lt, g.is.1.ends, ap length (same_from_push xs front s t e).1);
-      rest = λ ws h.
-          let vs = r.rest ws h in
-          let x = next_text old.message d.index end vs.0 lt vs.1 in
-          let there : d.index + length (string x.0) ≡ b.index = field_end {k = CharacterString} tt x.2 g in
-          (x.1, subst (λ (q : ℕ). Field old.message q CharacterStrings x.1 end) there x.3);
-    }
+-- what is left of any strings that fill the octets, after those that were made
+pub record Made (octets : List ℕ) (offset : ℕ) (xs : List (List ℕ)) : Type 0 where
+  pub inside : offset ≤ length octets
+  pub rest : (v : List (List ℕ)) → Field octets 0 CharacterStrings v (length octets)
+      → (ws : List (List ℕ)) × (v ≡ xs ++ ws) × Field octets offset CharacterStrings ws (length octets)
 
--- no string is read
-pub reads_begun : {old : Reading} (end : ℕ) → old.index ≤ length old.message → ReadsOn old end [] old
-reads_begun end within = record {
-  message = refl;
-  behind = omega arith;
-  took = record { is = (tt, record { ends = omega arith; within = within; same = refl }) };
-  last = λ front s e. absurd (omega (arith, ap length e, length-append front (s ∷ [])));
-  rest = λ ws h. (ws, h);
+pub made_none : (octets : List ℕ) → Made octets 0 []
+made_none octets = record { inside = omega arith; rest = λ v f. (v, refl, f) }
+
+-- the length octet of a string
+first_octet : {m : List ℕ} {q r : ℕ} {s : List ℕ} → q < length m → Field m q CharacterString s r → get_or m q 0 ≡ length s
+first_octet {m} {q} {r} {s} lt f =
+    let whole : take (suc (length s)) (get_or m q 0 ∷ drop (suc q) m) ≡ length s ∷ s =
+    ap (λ (d : List ℕ). take (suc (length s)) d) (sym (drop-cons m q 0 lt)) ∙ f.is.1.same in
+    cc
+
+-- one string more
+pub made_more : {octets text : List ℕ} {offset end : ℕ} {xs ys : List (List ℕ)} → Made octets offset xs → offset < length octets
+    → end ≡ min (length octets) (offset + 1 + get_or octets offset 0) → text ≡ take (end - (offset + 1)) (drop (offset + 1) octets) → ys ≡ xs ++ text ∷ []
+    → Made octets end ys
+made_more {octets} {text} {offset} {end} {xs} {ys} m lt is taken pushed = record {
+  inside = omega (arith, is);
+  rest = λ v f.
+      let r = m.rest v f in
+      let x = next_string octets offset (length octets) r.0 lt r.2 in
+      let s = x.0 in
+      let after : At octets (offset + 1) s (offset + length (string s)) = at_rest (length s ∷ []) s x.2.is.1 in
+      let there : end ≡ offset + length (string s) = omega (arith, is, first_octet lt x.2, after.within) in
+      let same : text ≡ s = taken ∙ ap (λ (q : ℕ). take (q - (offset + 1)) (drop (offset + 1) octets)) there ∙ between_is after in (
+        x.1,
+        r.1 ∙ ap (λ (l : List (List ℕ)). xs ++ l) (x.4 ∙ ap (λ (t : List ℕ). t ∷ x.1) (sym same)) ∙ sym (append_assoc xs (text ∷ []) x.1)
+            ∙ ap (λ (l : List (List ℕ)). l ++ x.1) (sym pushed),
+        subst (λ (q : ℕ). Field octets q CharacterStrings x.1 (length octets)) (sym there) x.3,
+      );
 }
 
--- ---- how a loop ends
+-- all of them
+pub made_all : {octets : List ℕ} {offset : ℕ} {xs : List (List ℕ)} → Made octets offset xs → length octets ≤ offset → (v : List (List ℕ))
+    → Field octets 0 CharacterStrings v (length octets) → xs ≡ v
+made_all {octets} {offset} {xs} m past v f =
+    let r = m.rest v f in
+    let none : r.0 ≡ [] = no_text octets offset (length octets) r.0 past r.2 in
+    sym (r.1 ∙ ap (λ (l : List (List ℕ)). xs ++ l) none ∙ append-nil xs)
 
--- the end is reached, or passed
-pub reads_reach : {old d : Reading} {end : ℕ} {xs : List (List ℕ)} (n : ℕ) → end ≡ old.index + n → ReadsOn old end xs d → end ≤ d.index
-    → TookField old CharacterStrings xs d × StringsReach (old.index + n) xs d.index
-reads_reach {old} {d} {end} {xs} n is r past = (
-  record { message = r.message; field = r.took },
-  subst (λ (q : ℕ). StringsReach q xs d.index) is (record { reach = past; last = r.last }),
-)
+-- the strings of the octets of a row
+pub txt_row : {octets : List ℕ} {x : TXT} {n : ℕ} {old new : Reading} (h : RowThere rows.TXT n old new)
+    → octets ≡ take (new.index - old.index) (drop old.index old.message)
+    → ((v : List (List ℕ)) → Field octets 0 CharacterStrings v (length octets) → x.txt_data ≡ v) → txt_fields x ≡ h.took.fields.values
+txt_row {old = old} {new} h slice made =
+    let s = h.took.fields.stands in
+    let v = h.took.fields.values.0 in
+    let f : Field old.message old.index CharacterStrings v new.index = subst (λ (q : ℕ). Field old.message old.index CharacterStrings v q) s.2 s.1 in
+    ap (λ (l : List (List ℕ)). (l, tt)) (made v (strings_alone v slice f))
 
--- a string is refused on the way
-pub reads_none : {e : DecodeError} {old d b : Reading} {end : ℕ} {xs : List (List ℕ)} (n : ℕ) → end ≡ old.index + n → d.index < end → ReadsOn old end xs d
-    → RefusedField e d CharacterString b → RefusedRegion e old n txt_shape (λ _. Unit {0}) b
-reads_none {e} {old} {d} {b} {end} {xs} n is lt r f = record {
-  behind = record { message = f.behind.message ∙ r.message; index = omega (arith, r.behind, f.behind.index) };
-  none = unless_map e _ _ (λ (l : LacksField d CharacterString). record {
-    none = λ vs w.
-        let h : Field old.message old.index CharacterStrings vs.0 end = rw (is, ← w.stands.2) w.stands.1 in
-        let ws = r.rest vs.0 h in
-        let x = next_text old.message d.index end ws.0 lt ws.1 in
-        l.none x.0 (d.index + length (string x.0)) (subst (λ (m : List ℕ). Field m d.index CharacterString x.0 (d.index + length (string x.0))) (sym r.message) x.2);
-  }) f.none;
-}
+pub txt_after : {x : TXT} {n : ℕ} {old new : Reading} (h : RowThere rows.TXT n old new) → txt_fields x ≡ h.took.fields.values
+    → TookField old CharacterStrings x.txt_data new × StringsReach (old.index + n) x.txt_data new.index
+txt_after {x} {n} {old} {new} h same =
+    let s = h.took.fields.stands in
+    let v = h.took.fields.values.0 in
+    let one : v ≡ x.txt_data = ap (λ (vs : Values txt_shape). vs.0) (sym same) in (
+      record {
+        message = h.took.behind.message;
+        field = subst (λ (l : List (List ℕ)). Field old.message old.index CharacterStrings l new.index) one
+            (subst (λ (q : ℕ). Field old.message old.index CharacterStrings v q) s.2 s.1);
+      },
+      subst (λ (l : List (List ℕ)). StringsReach (old.index + n) l new.index) one h.took.reached,
+    )
 
 -- ---- how many strings there are
 
@@ -110,24 +101,18 @@ pub record CountsOn (m : List ℕ) (end count : ℕ) (q : ℕ) : Type 0 where
   pub rest : (ws : List (List ℕ)) → Field m 0 CharacterStrings ws end
       → (vs : List (List ℕ)) × Field m q CharacterStrings vs end × (count + length vs ≡ length ws)
 
-first_octet : {m : List ℕ} {q r : ℕ} {s : List ℕ} → q < length m → Field m q CharacterString s r → get_or m q 0 ≡ length s
-first_octet {m} {q} {r} {s} lt f =
-    let whole : take (suc (length s)) (get_or m q 0 ∷ drop (suc q) m) ≡ length s ∷ s =
-    ap (λ (d : List ℕ). take (suc (length s)) d) (sym (drop-cons m q 0 lt)) ∙ f.is.1.same in
-    cc
-
 pub counts_more : {m : List ℕ} {end count q : ℕ} → q < end → q < length m → CountsOn m end count q → CountsOn m end (count + 1) (q + (1 + get_or m q 0))
 counts_more {m} {end} {count} {q} lt inside c = record {
   rest = λ ws f.
       let vs = c.rest ws f in
-      let split = next_text m q end vs.0 lt vs.1 in
+      let split = next_string m q end vs.0 lt vs.1 in
       let offset_is : q + length (string split.0) ≡ q + (1 + get_or m q 0) = omega (arith, first_octet inside split.2) in
-      (split.1, subst (λ (r : ℕ). Field m r CharacterStrings split.1 end) offset_is split.3, omega (arith, vs.2, split.4));
+      (split.1, subst (λ (r : ℕ). Field m r CharacterStrings split.1 end) offset_is split.3, omega (arith, vs.2, ap length split.4));
 }
 
-pub counts_all : {m : List ℕ} {end count q : ℕ} → CountsOn m end count q → (end ≤ q) ⊎ (length m ≤ q) → (ws : List (List ℕ)) → Field m 0 CharacterStrings ws end
+pub counts_all : {m : List ℕ} {end count q : ℕ} → CountsOn m end count q → end ≤ q → (ws : List (List ℕ)) → Field m 0 CharacterStrings ws end
     → count ≡ length ws
-counts_all {m} {end} {count} {q} c past ws f = let vs = c.rest ws f in omega (arith, vs.2, no_text m q end vs.0 past vs.1)
+counts_all {m} {end} {count} {q} c past ws f = let vs = c.rest ws f in omega (arith, vs.2, ap length (no_text m q end vs.0 past vs.1))
 
 -- ---- strings that are written one after the other
 

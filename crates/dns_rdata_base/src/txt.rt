@@ -1,7 +1,7 @@
 //! TXT: character strings (RFC 1035, 3.3.14).
 
 ghost use Rattle.std.specs.Prelude.{refl};
-ghost use Rattle.std.specs.Prelude.{◌≡◌, ◌≤◌, ℕ, List, [], map, length as list_length, IfOk, Some};
+ghost use Rattle.std.specs.Prelude.{◌≡◌, ℕ, List, [], map, length as list_length, IfOk, Some};
 ghost use Rattle.std.specs.{Cmp.Lexicographic.slice_cmp, String.string_bytes, Iterator.IsFinite, Ordering.nat_cmp, List.flat_map};
 ghost use Rattle.dns_fields.specs.{declared.Kind.TheVariants.CharacterStrings, Fields.Field, Fields.all_emittable};
 ghost use Rattle.dns_fields.specs.{Tlvs.string};
@@ -13,7 +13,7 @@ ghost use Rattle.dns_tokens.specs.Reads.{ReadsTokenRow};
 use crate::OrderedRecord;
 use bstr::BStr;
 use dns_canonical::{Head, Step, text_behind};
-use dns_check::DecodesRow;
+use dns_check::{DecodesRow, take_row};
 use dns_names_wire::{
     BinDecoder, BinEncodable, BinEncoder, DecodeError, Octets, ParseError, ProtoError, Record,
     Restrict,
@@ -94,36 +94,39 @@ impl Record for TXT {
 impl DecodesRow for TXT {
     ghost checked = { refl };
 
-    /// Reads character strings until RDLENGTH is reached or passed. If it is passed, the strings do not fill the RDATA,
-    /// and the value has the strings that were read. Allocates once for the list, and once for each string.
-    ///
-    /// # Errors
-    ///
-    /// - [`InsufficientBytes`](DecodeError::InsufficientBytes): a string lacks octets. The strings before it, and its
-    ///   length octet if it is there, are read.
-    /// - [`Memory`](DecodeError::Memory): an allocation failed.
+    /// Checks character strings until RDLENGTH is reached or passed, and then keeps them. If it is passed, the strings do not
+    /// fill the RDATA, and the value has the strings that were read. Allocates once for the list, and once for each string.
     fn read_row(decoder: &mut BinDecoder<'_>, length: Restrict<u16>) -> Result<TXT, DecodeError> {
-        let length = length.unverified() as usize;
-        let end = decoder.index() + length;
-        let alloc = decoder.allocator();
-        let count = strings_within(decoder.unread().unverified(), length);
-        let mut txt_data = Strings::with_capacity(alloc, count)?;
-        while decoder.index() < end {
-            let octets = decoder.read_character_data()?.unverified();
-            txt_data.push(Octets::from_slice(alloc, octets)?)?;
+        match take_row(decoder, &row::TXT, length) {
+            Ok(octets) => Ok(TXT {
+                txt_data: strings_in(decoder.allocator(), octets)?,
+            }),
+            Err(e) => Err(e),
         }
-        Ok(TXT { txt_data })
     }
 }
 
-// How many strings begin in the first so many octets; where strings fill these, their number.
-fn strings_within(octets: &[u8], length: usize) -> usize
-    ensures bounded { result ≤ length }
-    ensures counted { (strings : List (List ℕ)) → Field octets.now 0 CharacterStrings strings length → result ≡ list_length strings }
+// The strings that fill the octets, which were checked.
+fn strings_in(alloc: Global, octets: &[u8]) -> Result<Strings, AllocError>
+    ensures { IfOk result (λ strings. (v : List (List ℕ)) → Field octets.now 0 CharacterStrings v (list_length octets.now) → strings ≡ v) }
+{
+    let mut strings = Strings::with_capacity(alloc, strings_within(octets))?;
+    let mut offset = 0;
+    while offset < octets.len() {
+        let end = octets.len().min(offset + 1 + octets[offset] as usize);
+        strings.push(Octets::from_slice(alloc, &octets[offset + 1..end])?)?;
+        offset = end;
+    }
+    Ok(strings)
+}
+
+// How many strings begin in the octets. If strings fill them, this is their number.
+fn strings_within(octets: &[u8]) -> usize
+    ensures { (strings : List (List ℕ)) → Field octets.now 0 CharacterStrings strings (list_length octets.now) → result ≡ list_length strings }
 {
     let mut count = 0;
     let mut offset = 0;
-    while offset < length && offset < octets.len() {
+    while offset < octets.len() {
         offset += 1 + octets[offset] as usize;
         count += 1;
     }

@@ -5,11 +5,9 @@ use Rattle.dns_rdata_base.proofs.txt.strings_within.Given as goal
 abbrev pub invariant-loop-offset : goal.invariant-loop-offset
 invariant-loop-offset l = record {
   counted : l.count ≤ l.offset;
-  within : l.count ≤ l.length;
   short : l.offset ≤ length l.octets + 255;
-  counts : CountsOn
-      l.octets l.length l.count l.offset;
+  counts : CountsOn l.octets (length l.octets) l.count l.offset;
 }
 
 abbrev pub decreases-loop-offset : goal.decreases-loop-offset
-decreases-loop-offset l = l.length - l.offset
+decreases-loop-offset l = length l.octets - l.offset
