@@ -20,3 +20,4 @@ pub mod Alone
 pub mod TlvParts
 pub mod ByRow
 pub mod CheckedFirst
+pub mod RowErrors

@@ -6,7 +6,7 @@ ghost use Rattle.dns_rows.specs.{Table.kinds_of, Rules.MeetsRow};
 ghost use Rattle.dns_names_wire.specs.Terms.{moved, ReadsBy, ReadsIf, ReadsRegion, StaysBehind, UnlessMemory};
 ghost use Rattle.dns_names_wire.specs.Facts.{RecordStands};
 ghost use Rattle.dns_check.specs.Rows.{is_row, RowError, SkipsRow};
-ghost use Rattle.dns_check.specs.Checks.{IsRowError, NoFill};
+ghost use Rattle.dns_check.specs.Checks.{FillsRow, IsRowError, NoFill};
 ghost use Rattle.dns_check.specs.ByRow.{IsAlone, ReadsRow, RecordRefuses, RowRejected, RowThere, TookWhole};
 
 use crate::binary::BinDecodable;
@@ -131,6 +131,8 @@ pub fn whole_error(
     requires inside { start ≤ size decoder.old.message }
     ensures refused { UnlessMemory result (NoFill decoder.old.message start length row.now) }
     ensures why { UnlessMemory result (IsRowError row.now length (moved decoder.old start) result decoder.new) }
+    // It is not `Memory`, unless the fields do fill the octets.
+    ensures memory { result ≡ DecodeError.Memory → FillsRow decoder.old.message start length row.now }
     ensures behind { StaysBehind (moved decoder.old start) decoder.new }
 {
     let mut walk = Walk::at(decoder.message(), start);

@@ -7,7 +7,6 @@ pub mod QuickOrders
 pub mod OrderReads
 pub mod Ranks
 pub mod WholeOctets
-pub mod RowErrors
 pub mod Views
 pub mod ViewOrder
 pub mod OrderKeys

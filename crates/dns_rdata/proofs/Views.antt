@@ -26,7 +26,7 @@ use Rattle.dns_rdata.specs.Data.{parts_of, MeetsRule, IsNever, IsNeverRead, HasV
 use Rattle.dns_rdata.specs.ReadErrors.{OwnResult, IsReadError}
 use Rattle.dns_fields.specs.Octets.{AreOctets}
 use Rattle.dns_rdata.proofs.DataLaws.{each_region, filled_octets}
-use Rattle.dns_rdata.proofs.RowErrors.{Known, error_known, row_known}
+use Rattle.dns_check.proofs.RowErrors.{Known, error_known, row_known}
 
 -- ---- the row of a type
 
