@@ -6,7 +6,7 @@ use Rattle.dns_rows.specs.Table.{kinds_of}
 use Rattle.dns_rows.specs.declared.row.TheConstants as rows
 use Rattle.dns_labels.specs.Text.{name_text}
 use Rattle.std.specs.{Fmt.signed_decimal, Int.cast_unsigned, Int.w32}
-use Rattle.dns_names_wire.specs.Facts.{Facts}
+use Rattle.dns_names_wire.specs.Facts.{Facts, plain}
 use Rattle.dns_tokens.specs.{Forms.TokenRow, Forms.token, Forms.ignored, Forms.ttl, Forms.name, Printed.IsPrintedName}
 use Rattle.dns_rdata_base.specs.{declared.soa.SOA.SOA}
 
