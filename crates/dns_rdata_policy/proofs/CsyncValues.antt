@@ -119,11 +119,11 @@ types_stop {n} {m} {end} {e = e} {old} {b = b} h f g left r = (
 )
 
 -- the fields that were read are those of the row, and end where it ends
-pub csync_read : {n m end serial flags : ℕ} {x : CSYNC} {types : List ℕ} {old a b c : Reading} (h : RowThere rows.CSYNC n old (moved old end))
+pub csync_read : {n m end serial flags : ℕ} (x : CSYNC) {types : List ℕ} {old a b c : Reading} (h : RowThere rows.CSYNC n old (moved old end))
     → TookField old (Number 4) serial a → TookField a (Number 2) flags b → b.index + m ≡ end
     → Took b set_shape (set_fields types) c × ((c.index ≡ b.index + m) × Unit {0}) → csync_fields x ≡ (serial, (flags, (types, tt)))
     → ReadsRow csync_facts n (Ok x) old c
-csync_read {n} {m} {end} {x = x} {types} {old} {a} {b} {c} h f g left t fields =
+csync_read {n} {m} {end} x {types} {old} {a} {b} {c} h f g left t fields =
     let s = csync_head h f g in
     let there : c.index ≡ end = omega (arith, left, t.1.0) in
     let own : Field b.message b.index Bitmap types end = subst (λ (q : ℕ). Field b.message b.index Bitmap types q) (t.0.stands.2 ∙ there) t.0.stands.1 in

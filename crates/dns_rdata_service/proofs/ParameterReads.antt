@@ -119,17 +119,23 @@ svcb_read {n} {end} {priority} {len} {target} {octets} {params} {old} {a} {b} {c
       (λ i. (s.0 i, (s.1 i, (same i, tt)))),
     )
 
-pub svcb_row : {n end : ℕ} {x : SVCB} {old c : Reading} (h : RowThere rows.SVCB n old (moved old end))
-    → (c ≡ moved old end) × (svcb_fields x ≡ h.took.fields.values) → ReadsRow svcb_facts n (Ok x) old c
-svcb_row {n} {end} {x} {old} h r = subst (λ (d : Reading). ReadsRow svcb_facts n (Ok x) old d) (sym r.0) (row_reads svcb_facts x tt h r.1)
+pub svcb_row : {n end priority : ℕ} {target : DomainName} {ps : List Parameter} {old c : Reading} (h : RowThere rows.SVCB n old (moved old end))
+    → (c ≡ moved old end) × ((priority, (target, (map parameter_of ps, tt))) ≡ h.took.fields.values)
+    → ReadsRow svcb_facts n (Ok (record { svc_priority = priority; target_name = target; svc_params = ps })) old c
+svcb_row {n} {end} {priority} {target} {ps} {old} h r =
+    let x : SVCB = record { svc_priority = priority; target_name = target; svc_params = ps } in
+    subst (λ (d : Reading). ReadsRow svcb_facts n (Ok x) old d) (sym r.0) (row_reads svcb_facts x tt h r.1)
 
-pub svcb_after : {n end : ℕ} {x : SVCB} {old c : Reading} (h : RowThere rows.SVCB n old (moved old end)) → IsReadSvcb x
-    → (c ≡ moved old end) × (svcb_fields x ≡ h.took.fields.values) → TookService n x old c
-svcb_after {n} {end} {x} {old} h read r = subst (λ (d : Reading). TookService n x old d) (sym r.0) (record {
-  read = read;
-  took = record
-      { message = refl; stands = subst (λ (vs : Values svcb_shape). Stands old.message old.index svcb_shape vs end) (sym r.1) h.took.fields.stands };
-  holds = subst (MeetsRow rows.SVCB) (sym r.1) h.took.fields.meets;
-  within = h.took.reached.0;
-  left = h.took.reached.1;
-})
+pub svcb_after : {n end priority : ℕ} {target : DomainName} {ps : List Parameter} {old c : Reading} (h : RowThere rows.SVCB n old (moved old end)) → AreRead ps
+    → (c ≡ moved old end) × ((priority, (target, (map parameter_of ps, tt))) ≡ h.took.fields.values)
+    → TookService n (record { svc_priority = priority; target_name = target; svc_params = ps }) old c
+svcb_after {n} {end} {priority} {target} {ps} {old} h read r =
+    let x : SVCB = record { svc_priority = priority; target_name = target; svc_params = ps } in
+    subst (λ (d : Reading). TookService n x old d) (sym r.0) (record {
+      read = read;
+      took = record
+          { message = refl; stands = subst (λ (vs : Values svcb_shape). Stands old.message old.index svcb_shape vs end) (sym r.1) h.took.fields.stands };
+      holds = subst (MeetsRow rows.SVCB) (sym r.1) h.took.fields.meets;
+      within = h.took.reached.0;
+      left = h.took.reached.1;
+    })
