@@ -52,8 +52,8 @@ PLACES = [
     Entries("table", f"{ROWS}/specs/Table.antt", r"^table types\.(\w+) = ", lines.table_entry, types=every, order="name"),
     Entries("written", f"{ROWS}/specs/Written.antt", r"^  pub (\w+) : rows\.\w+ ≡ ", lines.written_row, types=with_numbers, order="name", lead="^  --"),
     # dns_rdata_base: the record
-    Words("facts-use", f"{BASE}/specs/NameRecords.antt", r"^use Rattle\.dns_rdata_base\.specs\.\{(declared\.\w+\.\w+\.\w+, .*)\}$", lambda k: f"declared.{k.lower}.{k.name}.{k.name}", types=with_numbers, after="."),
-    Words("facts-use-name", f"{BASE}/specs/NameRecords.antt", r"^use Rattle\.dns_rdata_base\.specs\.\{(FieldErrors\.straight, .*)\}$", lambda k: f"declared.name.{k.name}.{k.name}", types=one_name, after="."),
+    Words("facts-use", f"{BASE}/specs/NameRecords.antt", r"^use Rattle\.dns_rdata_base\.specs\.\{(declared\.(?!name)\w+\.\w+\.\w+, .*)\}$", lambda k: f"declared.{k.lower}.{k.name}.{k.name}", types=with_numbers, after="."),
+    Words("facts-use-name", f"{BASE}/specs/NameRecords.antt", r"^use Rattle\.dns_rdata_base\.specs\.\{(declared\.name\.\w+\.\w+, .*)\}$", lambda k: f"declared.name.{k.name}.{k.name}", types=one_name, after="."),
     Blocks("facts", f"{BASE}/specs/NameRecords.antt", None, lines.facts),
     Modules("module", f"{BASE}/src/lib.rt", r"^pub mod (\w+);$", lambda k: f"pub mod {k.lower};\n", types=with_numbers, order="module"),
     Modules("module-use", f"{BASE}/src/lib.rt", r"^pub use (\w+)::", lambda k: f"pub use {k.lower}::{k.name};\n", types=with_numbers, order="module"),
@@ -61,7 +61,6 @@ PLACES = [
     NewFile("record", BASE + "/src/{kind.lower}.rt", None, lines.record_file, types=with_numbers),
     Words("record-use-name", f"{BASE}/src/name.rt", r"^ghost use Rattle\.dns_rdata_base\.specs\.NameRecords\.\{(.*)\};$", lambda k: [f"{k.lower}_fields", f"{k.lower}_facts"], types=one_name, after="."),
     Blocks("record-name", f"{BASE}/src/name.rt", None, lines.record_blocks, types=one_name),
-    NewFile("proof-reads", BASE + "/proofs/{kind.lower}/{kind.name}DecodesFields/read_fields/Answers.antt", None, lines.proof_reads, types=several_numbers),
     NewFile("proof-emits", BASE + "/proofs/{kind.lower}/{kind.name}EncodesFields/emit_fields/Answers.antt", None, lines.proof_emits, types=several_numbers),
     NewFile("proof-numbers", BASE + "/proofs/{kind.lower}/{kind.name}/emit_numbers/Answers.antt", None, lines.proof_numbers, types=several_numbers),
     # dns_rdata: the value

@@ -197,7 +197,7 @@ def facts(kind):
             {kind.lower}_fields x = name_fields x.0
 
             abbrev pub {kind.lower}_facts : Facts {kind.name}
-            {kind.lower}_facts = straight name_shape {kind.lower}_fields
+            {kind.lower}_facts = plain rows.NAME {kind.lower}_fields
             """)
     text = put(f"""
         -- {', '.join(field.words for field in kind.fields)}
@@ -205,7 +205,7 @@ def facts(kind):
         {kind.lower}_fields x = {nested([f"x.{field.name}" for field in kind.fields])}
 
         abbrev pub {kind.lower}_facts : Facts {kind.name}
-        {kind.lower}_facts = straight (kinds_of rows.{kind.name}) {kind.lower}_fields
+        {kind.lower}_facts = plain rows.{kind.name} {kind.lower}_fields
         """)
     if len(kind.numbers) > 1:
         text += "\n" + put(f"""
@@ -270,7 +270,7 @@ def from_tokens(kind):
             f"Reads {WORDS[len(kind.fields)]} tokens: {'; '.join(said)}{';' if len(said) > 1 else ','} and {kind.fields[-1].words}, a name, which is "
             "completed with the origin if it is relative. Further tokens are not read."
         )
-        shape = f"{kind.lower}_facts.kinds"
+        shape = f"(kinds_of {kind.lower}_facts.row)"
         body = "".join(
             f'        let {field.name} = next_{field.kind}(&mut tokens, number_field!("{kind.name} {field.words}"))?;\n' for field in kind.numbers
         )
@@ -343,7 +343,7 @@ def inherent(kind):
 
 
 def reads(kind):
-    head = f"impl DecodesFields for {kind.name} {{\n    ghost ends = {{ {nested(['tt'] * (len(kind.fields) + 1))} }};\n\n"
+    head = f"impl DecodesFields for {kind.name} {{\n    ghost alone = {{ record {{ checked = refl; asked = refl; alone = refl; long = tt }} }};\n\n"
     head += f"    fn read_fields(decoder: &mut BinDecoder<'_>) -> Result<{kind.name}, DecodeError> {{\n"
     if kind.is_name:
         return head + f"        Ok({kind.name}(Name::read(decoder)?))\n    }}\n}}\n"
@@ -451,7 +451,11 @@ def displays(kind):
 
 def record_blocks(kind):
     """The struct and its impls, in order."""
-    is_record = f"impl Record for {kind.name} {{\n    ghost facts = {{ {kind.lower}_facts }};\n}}\n"
+    row = "NAME" if kind.is_name else kind.name
+    is_record = (
+        f"impl Record for {kind.name} {{\n    ghost facts = {{ {kind.lower}_facts }};\n\n    #[inline]\n"
+        f"    fn row() -> &'static [Part] {{\n        &row::{row}\n    }}\n}}\n"
+    )
     if kind.is_name:
         return [struct(kind), inherent(kind), is_record, reads(kind), emits(kind), derefs(kind), ordered(kind), displays(kind)]
     more = [emits_numbers(kind)] if len(kind.numbers) > 1 else []
@@ -468,7 +472,8 @@ def record_file(kind):
     head = put(f"""
         //! {kind.name}: {kind.meaning} ({kind.rfc}).
 
-        ghost use Rattle.std.specs.{{Prelude.◌≡◌, Prelude.Some, Option.option_copied}};
+        ghost use Rattle.dns_rows.specs.Table.{{kinds_of}};
+        ghost use Rattle.std.specs.{{Prelude.◌≡◌, Prelude.Some, Option.option_copied, Prelude.refl}};
         ghost use Rattle.dns_fields.specs.declared.RDataEncoding.TheVariants as modes;
         {emits_too.strip()}
         ghost use Rattle.dns_rdata_base.specs.NameRecords.{{{shape}{kind.lower}_facts}};
@@ -476,10 +481,12 @@ def record_file(kind):
 
         use crate::{{OrderedRecord, cmp_each_field, unless_tied}};
         use dns_canonical::{{AtOnce, Head, Tail, {behind}}};
+        use dns_check::DecodesFields;
         use dns_names_wire::{{
-            BinDecodable, BinDecoder, BinEncodable, BinEncoder, DecodeError, DecodesFields, EncodesFields,
-            Name, ParseError, ProtoError, RDataEncoding, Record,
+            BinDecoder, BinEncodable, BinEncoder, DecodeError, EncodesFields, Name, ParseError, ProtoError,
+            RDataEncoding, Record,
         }};
+        use dns_rows::{{Part, row}};
         use dns_tokens::{{{takes}}};
         use std::alloc::Global;
         use std::cmp::Ordering;
@@ -492,57 +499,6 @@ def record_file(kind):
 
 
 # ---- proofs of a record with several numbers
-
-
-def calls_of(kind):
-    """How the proof names the call that reads each number: a second call of one name has `-2` after it."""
-    seen, names = {}, []
-    for field in kind.numbers:
-        seen[field.kind] = seen.get(field.kind, 0) + 1
-        names.append(f"read_{field.kind}" + (f"-{seen[field.kind]}" if seen[field.kind] > 1 else ""))
-    return names
-
-
-def proof_reads(kind):
-    calls, kinds = calls_of(kind), [field.kind_of for field in kind.fields]
-
-    def after(count, inner):
-        """Fields before are read: two at once, then the last one."""
-        rest = [" ∷ ".join(kinds[at:] + ["[]"]) for at in range(len(kinds) + 1)]
-        steps, at = [], 0
-        while count - at >= 2:
-            steps.append(f"is_lack_far ({rest[at + 2]}) _ _ c.in_ok-{calls[at]}.ensures.taken c.in_ok-{calls[at + 1]}.ensures.taken")
-            at += 2
-        if at < count:
-            steps.append(f"is_lack_then ({rest[at + 1]}) _ _ c.in_ok-{calls[at]}.ensures.taken")
-        lines = "\n".join(f"    {'(λ n. ' if not index else '('}{step}" for index, step in enumerate(steps))
-        return f"{lines}\n    ({inner}{')' * (len(steps) + 1)}\n"
-
-    name = kind.fields[-1].name
-    text = put(f"""
-        pub returns-in_err-{name}-clause-refused : goal.returns-in_err-{name}-clause-refused
-        returns-in_err-{name}-clause-refused c = exit_lack _ _ _ c.from_residual-in_err-{name}.ensures.1
-        """)
-    text += after(len(calls), f"is_lack_name [] _ _ _ c.in_err-{name}.ensures.lacking c.in_err-{name}.ensures.unchanged")
-    for at in range(2, len(calls)):
-        call = calls[at]
-        text += "\n" + put(f"""
-            pub returns-in_err-{call}-clause-refused : goal.returns-in_err-{call}-clause-refused
-            returns-in_err-{call}-clause-refused c =
-                let l = c.in_err-{call}.ensures in
-                exit_lack _ _ _ c.from_residual-in_err-{call}.ensures.1
-            """)
-        rest = " ∷ ".join(kinds[at + 1 :] + ["[]"])
-        text += after(at, f"is_lack_here ({kinds[at]}) ({rest}) _ _ _ (l.lacking.0, l.lacking.1, l.unchanged)")
-    variants = [f"TheVariants.{variant}" for variant in ("Number", "Name") if variant in text]
-    lemmas = [lemma for lemma in ("exit_lack", "is_lack_far", "is_lack_here", "is_lack_then", "is_lack_name") if lemma in text]
-    return put(f"""
-        use Rattle.std.proofs.Common.{{[], ◌∷◌}}
-        use Rattle.dns_fields.specs.declared.Kind.{{{', '.join(variants)}}}
-        use Rattle.dns_rdata_base.proofs.Lacking.{{{', '.join(lemmas)}}}
-        use Rattle.dns_rdata_base.proofs.{kind.lower}.{kind.name}DecodesFields.read_fields.Goals as goal
-
-        """) + text
 
 
 def proof_emits(kind):
@@ -664,7 +620,7 @@ def variant_key(kind):
 
 
 def is_printed(kind):
-    what = "IsPrintedName x.0" if kind.is_name else f"ArePrinted base.NameRecords.{kind.lower}_facts.kinds (base.NameRecords.{kind.lower}_facts.fields x)"
+    what = "IsPrintedName x.0" if kind.is_name else f"ArePrinted (kinds_of base.NameRecords.{kind.lower}_facts.row) (base.NameRecords.{kind.lower}_facts.fields x)"
     return f"IsPrinted (rdata.{kind.name} x) = {what}\n"
 
 
@@ -691,7 +647,7 @@ def same_octets(kind):
     head = f"same_octets (rdata.{name} x) (rdata.{name} y) h =\n"
     if kind.is_name:
         return head + f"    octets_equal {base}.name_shape ({base}.{lower}_fields x) ({base}.{lower}_fields y) h\n"
-    return head + f"    octets_equal {base}.{lower}_facts.kinds ({base}.{lower}_facts.fields x)\n    ({base}.{lower}_facts.fields y) h\n"
+    return head + f"    octets_equal (kinds_of {base}.{lower}_facts.row) ({base}.{lower}_facts.fields x)\n    ({base}.{lower}_facts.fields y) h\n"
 
 
 def target_of(kind):
@@ -704,15 +660,17 @@ READ = "c.in-{name}.is"
 def read_goals(kind):
     """The proofs of the two exits of `RData::read`."""
     name, fields = kind.name, f"base.NameRecords.{kind.lower}_fields"
-    call, region = f"of_length-in-{name}", f"c.read_data-data-in-{name}.ensures.region"
-    failed = f"c.from_residual-in_err-{call}"
-    start = "c.index-start.ensures.offset"
+    call = f"read_whole-in-{name}"
+    failed, error = f"c.from_residual-in_err-{call}", f"c.in_err-{call}.ensures"
     return put(f"""
         pub returns-in-{name} : goal.returns-in-{name}
-        returns-in-{name} c = gives c.in-{name}.is (has_read types.{name} rdata.{name} {fields} _ _ {start} {region} c.in_ok-{call}.ensures.whole (record {{ type = refl; fields = refl; can_be_read = tt }}))
+        returns-in-{name} c =
+            let w = c.in_ok-{call}.ensures.found in
+            gives c.in-{name}.is (has_read types.{name} rdata.{name} {fields} _ w.message w.index w.region (record {{ type = refl; fields = refl; can_be_read = tt }}))
 
         pub returns-in_err-{call} : goal.returns-in_err-{call}
-        returns-in_err-{call} c = fails {failed}.result c.in-{name}.is {failed}.ensures.1 (λ h. h) {start} c.index-start.ensures.inside (region_behind types.{name} {fields} _ _ _ _ {region}) c.in_err-{call}.ensures.error
+        returns-in_err-{call} c =
+            fails types.{name} {failed}.result c.in-{name}.is {failed}.ensures.1 (λ h. h) {error}.refused {error}.why {error}.behind
         """)
 
 
@@ -725,7 +683,7 @@ def tokens_goal(kind):
 
 
 def back_of(kind):
-    fields, kinds = ("name_fields x.0", "name_shape") if kind.is_name else (f"{kind.lower}_facts.fields x", f"{kind.lower}_facts.kinds")
+    fields, kinds = ("name_fields x.0", "name_shape") if kind.is_name else (f"{kind.lower}_facts.fields x", f"(kinds_of {kind.lower}_facts.row)")
     printed = "(h, tt)" if kind.is_name else "h"
     return (
         f"back_of origin (rdata.{kind.name} x) h = record {{ values = {fields}; stand = straight_back origin {kinds} ({fields}) {printed}; "

@@ -103,18 +103,6 @@ exact_row f (Err e) old new n long whole g h = (
   })) h.none,
 )
 
--- ---- at an offset of the decoder's message
-
-behind_of : (row : List Part) (n : ℕ) (r : Result (Unit {0}) DecodeError) (old new : Reading) → SkipsRow row n r old new → StaysBehind old new
-behind_of row n (Ok x) old new h = h.behind
-behind_of row n (Err e) old new h = h.behind
-
-pub skips_at : (row : List Part) (n : ℕ) (r : Result (Unit {0}) DecodeError) (d new : Reading) (start : ℕ) → SkipsRow row n r (moved d start) new
-    → SkipsRow row n r (moved d start) (moved d new.index)
-skips_at row n r d new start h =
-    let same : new.message ≡ d.message = (behind_of row n r (moved d start) new h).message in
-    subst (λ (m : List ℕ). SkipsRow row n r (moved d start) (record { message = m; index = new.index })) same h
-
 -- why RDATA is rejected, and that no value is there
 pub refused_row : (row : List Part) (n : ℕ) (e : DecodeError) (old new : Reading) → RefusedRow row n old e new
     → RefusedRegion e old n (kinds_of row) (MeetsRow row) new
@@ -133,11 +121,6 @@ pub refused_at : (row : List Part) {own : List Part} {n start : ℕ} {e : Decode
     → RefusedRow own n (moved d start) e new → RefusedRow row n old e new
 refused_at row {own} {n} {start} {e} {old} {d} {new} same i behind h =
     subst (λ (r : List Part). RefusedRow r n old e new) same (subst (λ (x : Reading). RefusedRow own n x e new) (moved_start behind i) h)
-
-pub whole_at : (row : List Part) (n : ℕ) (e : DecodeError) (d new : Reading) (start : ℕ) → StaysBehind (moved d start) new
-    → IsRowError row n (moved d start) e new → IsRowError row n (moved d start) e (moved d new.index)
-whole_at row n e d new start behind h =
-    subst (λ (m : List ℕ). IsRowError row n (moved d start) e (record { message = m; index = new.index })) behind.message h
 
 -- ---- rows that do not need RDLENGTH
 

@@ -75,7 +75,7 @@ tag_refused {start} {n} {t} {e} {d} {b} {new} f r offset behind = record {
 
 pub tag_skips : {start n t : ℕ} {s : List ℕ} {d b new : Reading} → TookField d (Number 1) t b → TookField b (Octets t) s new → IsTag s → new.index ≤ start + n
     → Skips rules.Tag CharacterString start n (Ok tt) d new
-tag_skips f g tag within = record { is = skipped_itself tt (text_taken refl f g) (tag, tt) within }
+tag_skips f g tag within = record { is = skipped_itself tt (text_taken f g) (tag, tt) within }
 
 -- ---- the octets of a tag
 

@@ -71,21 +71,10 @@ impl<T: DecodesFields> DecodesRow for T {
     }
 }
 
-// The same decoder at an offset of its message.
-fn move_to(decoder: &mut BinDecoder<'_>, index: usize)
-    requires { index ≤ size decoder.old.message }
-    ensures { decoder.new ≡ moved decoder.old index }
-{
-    if let Ok(there) = decoder.clone(index) {
-        *decoder = there;
-    }
-}
-
 // Goes over the row of RDATA of this length from an offset. The decoder is then where that stops. Never inlined, so that reading
 // a value keeps little for it.
 #[cold]
 #[inline(never)]
-#[tactic(auto, using(crate::proofs::ByRow::skips_at))]
 fn row_result(
     decoder: &mut BinDecoder<'_>,
     start: usize,
@@ -103,7 +92,7 @@ fn row_result(
         length.unverified() as usize,
         &mut usize::MAX,
     );
-    move_to(decoder, walk.index());
+    decoder.follow(&walk);
     own
 }
 
@@ -131,7 +120,7 @@ impl<T: DecodesRow> RecordDataDecodable for T {
 /// row. Never inlined, so that reading a value keeps little for it.
 #[cold]
 #[inline(never)]
-#[tactic(auto, using(crate::proofs::ByRow::whole_at, crate::proofs::ByRow::unless_given))]
+#[tactic(auto, using(crate::proofs::ByRow::unless_given))]
 pub fn whole_error(
     decoder: &mut BinDecoder<'_>,
     start: usize,
@@ -151,7 +140,7 @@ pub fn whole_error(
         length.unverified() as usize,
         &mut usize::MAX,
     );
-    move_to(decoder, walk.index());
+    decoder.follow(&walk);
     match outcome {
         Err(e) => e,
         // Unreachable: the record's reader found no value in the same octets.
@@ -289,7 +278,8 @@ pub fn take_row<'a>(
         Ok(end) => end,
         Err(e) => return Err(e),
     };
-    let message = decoder.message();
-    move_to(decoder, end);
-    Ok(&message[start..end])
+    let mut walk = decoder.walk();
+    walk.move_to(end);
+    decoder.follow(&walk);
+    Ok(&walk.message()[start..end])
 }

@@ -55,5 +55,5 @@ text_then {d} {b} {e} {n} {s} f g len = record {
 }
 
 -- the octets of the length that was read, behind it
-pub text_taken : {d b e : Reading} {n l : ℕ} {s : List ℕ} → l ≡ n → TookField d (Number 1) n b → TookField b (Octets l) s e → TookField d CharacterString s e
-text_taken {d} {b} {e} {n} {l} {s} same f g = text_then f (record { message = g.message; field = record { is = g.field.is.1 } }) (g.field.is.0 ∙ same)
+pub text_taken : {d b e : Reading} {n : ℕ} {s : List ℕ} → TookField d (Number 1) n b → TookField b (Octets n) s e → TookField d CharacterString s e
+text_taken f g = text_then f (record { message = g.message; field = record { is = g.field.is.1 } }) g.field.is.0

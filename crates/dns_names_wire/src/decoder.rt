@@ -1,13 +1,14 @@
 //! Reads a message.
 
-ghost use Rattle.std.specs.Prelude.{◌≡◌, true, ◌+◌, ◌*◌, ◌-◌, ◌/◌, ◌^◌, ◌<◌, ◌≤◌, ◌⊎◌, ℕ, ◌↔◌, IsTrue, length, drop, slice_get, IfOk, IfErr, OnOk, OnErr};
+ghost use Rattle.std.specs.Prelude.{◌≡◌, true, ◌+◌, ◌*◌, ◌-◌, ◌/◌, ◌^◌, ◌<◌, ◌≤◌, ◌⊎◌, ◌↔◌, IsTrue, length, drop, slice_get, IfOk, IfErr, OnOk, OnErr};
 ghost use Rattle.std.specs.Int.{cast_unsigned, w32};
 ghost use Rattle.dns_fields.specs.{declared.Kind.TheVariants.Number, declared.Kind.TheVariants.Octets};
 ghost use Rattle.dns_fields.specs.{declared.Kind.TheVariants.CharacterString, declared.Kind.TheVariants.Name};
 ghost use Rattle.dns_fields.specs.{Octets.AreOctets};
-ghost use Rattle.dns_names_wire.specs.{Terms.TookField, Terms.LacksField, Terms.ReadsField, Terms.LacksOctets, Terms.LacksText, State.Reading};
+ghost use Rattle.dns_names_wire.specs.{Terms.TookField, Terms.LacksField, Terms.ReadsField, Terms.LacksOctets, Terms.LacksText};
 ghost use Rattle.dns_labels.specs.Labels.{AreNameOctets, name_of};
 
+use crate::walk::Walk;
 use dns_labels::reading::read_octets;
 use dns_labels::{NameError, NameOctets};
 use dns_types::{DecodeError, Restrict, SmallOctets};
@@ -30,16 +31,15 @@ use std::marker::Model;
 #[derive(Drop)]
 pub struct BinDecoder<'a> {
     alloc: Global,
-    message: &'a [u8],
-    index: usize,
+    walk: Walk<'a>,
 }
 
 impl<'a> Model for BinDecoder<'a> {
+    ghost use Rattle.dns_names_wire.specs.State.{Reading};
+
     ghost Value = { Reading };
 
-    ghost view = { λ d. record { message = d.message.now; index = d.index } };
-
-    ghost invariant = { λ d. (d.index ≤ length d.message.now) × AreOctets d.message.now };
+    ghost view = { λ d. d.walk };
 }
 
 impl<'a> BinDecoder<'a> {
@@ -51,8 +51,7 @@ impl<'a> BinDecoder<'a> {
     {
         BinDecoder {
             alloc,
-            message,
-            index: 0,
+            walk: Walk::at(message, 0),
         }
     }
 
@@ -88,8 +87,7 @@ impl<'a> BinDecoder<'a> {
         }
         Ok(BinDecoder {
             alloc,
-            message,
-            index: offset,
+            walk: Walk::at(message, offset),
         })
     }
 
@@ -104,7 +102,7 @@ impl<'a> BinDecoder<'a> {
         ensures inside { OnOk result (index_at ≤ length self.now.message) }
         ensures outside { IfErr result (λ e. (e ≡ DecodeError.InsufficientBytes) × (length self.now.message < index_at)) }
     {
-        BinDecoder::at(self.alloc, self.message, index_at)
+        BinDecoder::at(self.alloc, self.message(), index_at)
     }
 
     /// The allocator of the values that are read.
@@ -118,7 +116,7 @@ impl<'a> BinDecoder<'a> {
     pub fn message(&self) -> &'a [u8]
         ensures { result.now ≡ self.now.message }
     {
-        self.message
+        self.walk.message()
     }
 
     /// The offset of the next octet, counted from the first octet of the message.
@@ -129,7 +127,25 @@ impl<'a> BinDecoder<'a> {
         ensures octets { AreOctets self.now.message }
         ensures small { result < 2 ^ 63 }
     {
-        self.index
+        self.walk.index()
+    }
+
+    /// The decoder without its allocator, at this offset. This one stays where it is; [`follow`](BinDecoder::follow) moves
+    /// it to where the walk went.
+    #[inline]
+    pub fn walk(&self) -> Walk<'a>
+        ensures { result ≡ self.now }
+    {
+        Walk::at(self.message(), self.index())
+    }
+
+    /// Goes to where a walk over the same message is.
+    #[inline]
+    pub fn follow(&mut self, walk: &Walk<'a>)
+        requires { walk.now.message ≡ self.old.message }
+        ensures { self.new ≡ walk.now }
+    {
+        self.walk.move_to(walk.index());
     }
 
     /// How many octets of the message are left.
@@ -137,7 +153,7 @@ impl<'a> BinDecoder<'a> {
     pub fn len(&self) -> usize
         ensures left { self.now.index + result ≡ length self.now.message }
     {
-        self.message.len() - self.index
+        self.message().len() - self.index()
     }
 
     /// Whether no octet is left.
@@ -145,7 +161,7 @@ impl<'a> BinDecoder<'a> {
     pub fn is_empty(&self) -> bool
         ensures { IsTrue result ↔ (self.now.index ≡ length self.now.message) }
     {
-        self.index == self.message.len()
+        self.index() == self.message().len()
     }
 
     /// The octets that are left. The decoder stays where it is.
@@ -153,7 +169,7 @@ impl<'a> BinDecoder<'a> {
     pub fn unread(&self) -> Restrict<&'a [u8]>
         ensures { result.now ≡ drop self.now.index self.now.message }
     {
-        Restrict::new(&self.message[self.index..])
+        Restrict::new(self.walk.unread())
     }
 
     /// The next octet, or `None` at the end of the message. The decoder stays where it is.
@@ -161,7 +177,7 @@ impl<'a> BinDecoder<'a> {
     pub fn peek(&self) -> Option<Restrict<u8>>
         ensures { result ≡ slice_get self.now.message self.now.index }
     {
-        match self.message.get(self.index) {
+        match self.message().get(self.index()) {
             Some(octet) => Some(Restrict::new(*octet)),
             None => None,
         }
@@ -178,13 +194,7 @@ impl<'a> BinDecoder<'a> {
         ensures lacking { IfErr result (λ e. (e ≡ DecodeError.InsufficientBytes) × LacksOctets self.old len) }
         ensures unchanged { OnErr result (self.new ≡ self.old) }
     {
-        let message = self.message;
-        let start = self.index;
-        if message.len() - start < len {
-            return Err(DecodeError::InsufficientBytes);
-        }
-        self.index = start + len;
-        Ok(Restrict::new(&message[start..start + len]))
+        Ok(Restrict::new(self.walk.read_slice(len)?))
     }
 
     /// Reads the next `len` octets into a vector. Allocates once.
@@ -202,13 +212,9 @@ impl<'a> BinDecoder<'a> {
             ⊎ ((e ≡ DecodeError.InsufficientBytes) × LacksOctets self.old len)) }
         ensures unchanged { OnErr result (self.new ≡ self.old) }
     {
-        let start = self.index;
-        let message = self.message;
-        if message.len() - start < len {
-            return Err(DecodeError::InsufficientBytes);
-        }
-        let octets = Vec::from_slice(self.alloc, &message[start..start + len])?;
-        self.index = start + len;
+        let mut ahead = self.walk();
+        let octets = Vec::from_slice(self.alloc, ahead.read_slice(len)?)?;
+        self.follow(&ahead);
         Ok(Restrict::new(octets))
     }
 
@@ -230,13 +236,9 @@ impl<'a> BinDecoder<'a> {
             ⊎ ((e ≡ DecodeError.InsufficientBytes) × LacksOctets self.old len)) }
         ensures unchanged { OnErr result (self.new ≡ self.old) }
     {
-        let start = self.index;
-        let message = self.message;
-        if message.len() - start < len {
-            return Err(DecodeError::InsufficientBytes);
-        }
-        let octets = SmallOctets::from_slice(self.alloc, &message[start..start + len])?;
-        self.index = start + len;
+        let mut ahead = self.walk();
+        let octets = SmallOctets::from_slice(self.alloc, ahead.read_slice(len)?)?;
+        self.follow(&ahead);
         Ok(Restrict::new(octets))
     }
 
@@ -259,15 +261,7 @@ impl<'a> BinDecoder<'a> {
         ensures message { self.new.message ≡ self.old.message }
         ensures stopped { OnErr result (self.new.index ≡ self.old.index + (length self.old.message - self.old.index) / step * step) }
     {
-        let message = self.message;
-        let start = self.index;
-        let left = message.len() - start;
-        if left < len {
-            self.index = start + left / step * step;
-            return Err(DecodeError::InsufficientBytes);
-        }
-        self.index = start + len;
-        Ok(Restrict::new(&message[start..start + len]))
+        Ok(Restrict::new(self.walk.read_in_steps(len, step)?))
     }
 
     /// Reads the next octet, as [`read_u8`](BinDecoder::read_u8).
@@ -291,8 +285,7 @@ impl<'a> BinDecoder<'a> {
         ensures lacking { IfErr result (λ e. (e ≡ DecodeError.InsufficientBytes) × LacksOctets self.old 1) }
         ensures unchanged { OnErr result (self.new ≡ self.old) }
     {
-        let octets = self.read_slice(1)?.unverified();
-        Ok(Restrict::new(octets[0]))
+        Ok(Restrict::new(self.walk.read_u8()?))
     }
 
     /// Reads a number of two octets in network order. Allocates nothing.
@@ -306,8 +299,7 @@ impl<'a> BinDecoder<'a> {
         ensures lacking { IfErr result (λ e. (e ≡ DecodeError.InsufficientBytes) × LacksOctets self.old 2) }
         ensures unchanged { OnErr result (self.new ≡ self.old) }
     {
-        let octets = self.read_slice(2)?.unverified();
-        Ok(Restrict::new(u16::from_be_bytes([octets[0], octets[1]])))
+        Ok(Restrict::new(self.walk.read_u16()?))
     }
 
     /// Reads a number of four octets in network order. Fails as [`read_u16`](BinDecoder::read_u16). Allocates nothing.
@@ -317,8 +309,7 @@ impl<'a> BinDecoder<'a> {
         ensures lacking { IfErr result (λ e. (e ≡ DecodeError.InsufficientBytes) × LacksOctets self.old 4) }
         ensures unchanged { OnErr result (self.new ≡ self.old) }
     {
-        let octets = self.read_slice(4)?.unverified();
-        Ok(Restrict::new(u32::from_be_bytes([octets[0], octets[1], octets[2], octets[3]])))
+        Ok(Restrict::new(self.walk.read_u32()?))
     }
 
     /// Reads a signed number of four octets in network order, in two's complement. Fails as
@@ -329,8 +320,7 @@ impl<'a> BinDecoder<'a> {
         ensures lacking { IfErr result (λ e. (e ≡ DecodeError.InsufficientBytes) × LacksOctets self.old 4) }
         ensures unchanged { OnErr result (self.new ≡ self.old) }
     {
-        let n = self.read_u32()?.unverified();
-        Ok(Restrict::new(n.cast_signed()))
+        Ok(Restrict::new(self.walk.read_u32()?.cast_signed()))
     }
 
     /// Reads a character string (RFC 1035, section 3.3): a length octet, and so many octets, which are returned as a
@@ -345,9 +335,7 @@ impl<'a> BinDecoder<'a> {
         ensures taken { ReadsField CharacterString (λ s. s.now) result self.old self.new }
         ensures lacking { IfErr result (λ e. (e ≡ DecodeError.InsufficientBytes) × LacksText self.old self.new) }
     {
-        let len = self.read_u8()?.unverified();
-        let octets = self.read_slice(len as usize)?.unverified();
-        Ok(Restrict::new(octets))
+        Ok(Restrict::new(self.walk.read_character_data()?))
     }
 
     /// Reads a name (RFC 1035, sections 3.1 and 4.1.4), and returns its octets without the final zero octet.
@@ -357,9 +345,9 @@ impl<'a> BinDecoder<'a> {
         ensures lacking { IfErr result (λ e. (e ≡ DecodeError.Memory) ⊎ ((e ≡ DecodeError.NameInvalid) × LacksField self.old Name)) }
         ensures unchanged { OnErr result (self.new ≡ self.old) }
     {
-        match read_octets(self.alloc, self.message, self.index) {
+        match read_octets(self.alloc, self.message(), self.index()) {
             Ok((octets, end)) => {
-                self.index = end;
+                self.walk.move_to(end);
                 Ok(octets)
             }
             Err(NameError::Memory) => Err(DecodeError::Memory),

@@ -12,14 +12,15 @@ pub mod view_fields;
 mod view_order;
 
 pub use canonical::CanonicalOctets;
+pub use dns_check::{BinDecodable, RecordDataDecodable};
 pub use dns_names_wire::{
-    AddrParseError, BinDecodable, BinDecoder, BinEncodable, BinEncoder, DecodeError, LabelIter,
-    Name, Octets, ParseError, Place, ProtoError, ProtoResult, RDataEncoding, RecordType, Restrict,
-    SmallOctets, binary, decoder, encoder, error, record_type, restrict,
+    AddrParseError, BinDecoder, BinEncodable, BinEncoder, DecodeError, LabelIter, Name, Octets,
+    ParseError, Place, ProtoError, ProtoResult, RDataEncoding, RecordType, Restrict, SmallOctets,
+    decoder, encoder, error, record_type, restrict,
 };
 pub use dns_rdata_base::{
-    A, AAAA, ANAME, CNAME, HINFO, MX, NAPTR, NS, NULL, OPENPGPKEY, PTR, RecordDataDecodable, SOA,
-    SRV, TXT, TakesOctet, a, aaaa, mx, null, openpgpkey, srv, verify_flags,
+    A, AAAA, ANAME, CNAME, HINFO, MX, NAPTR, NS, NULL, OPENPGPKEY, PTR, SOA, SRV, TXT, TakesOctet,
+    a, aaaa, mx, null, openpgpkey, srv, verify_flags,
 };
 pub use dns_rdata_certs::{CERT, HEX, SMIMEA, SSHFP, TLSA, cert, smimea, sshfp, tlsa};
 pub use dns_rdata_options::{OPT, opt};
@@ -34,6 +35,12 @@ pub use view::RDataRef;
 pub use view_fields::{Fields, Names};
 
 // Modules of records that share their file with functions for this crate alone.
+
+/// What is read from a message and written to one.
+pub mod binary {
+    pub use dns_check::BinDecodable;
+    pub use dns_names_wire::BinEncodable;
+}
 
 /// CAA and the values of its properties.
 pub mod caa {

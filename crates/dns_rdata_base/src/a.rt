@@ -1,7 +1,6 @@
 //! A: an IPv4 address (RFC 1035, 3.4.1).
 
-ghost use Rattle.std.specs.Prelude.{refl};
-ghost use Rattle.std.specs.Prelude.{◌≡◌, ◌≢◌, ◌+◌, ◌<◌, ◌≤◌, ◌++◌, ℕ, List, [], ◌∷◌, length, length as list_length, decimal, OnErr, IfErr, Some, take};
+ghost use Rattle.std.specs.Prelude.{◌≡◌, ◌≢◌, ◌+◌, ◌<◌, ◌≤◌, ◌++◌, ℕ, List, [], ◌∷◌, length, length as list_length, decimal, OnErr, IfErr, Some, take, refl};
 ghost use Rattle.std.specs.Net.{Grammar.Parses, Grammar.IsIpv4Text, Addr.ipv4_octets};
 ghost use Rattle.dns_names_wire.specs.Terms.{ReadsIf, ReadsBy, Emits, LacksOctets, Always, IsTruncated};
 ghost use Rattle.dns_rdata_base.specs.A.{a_shape, a_fields, a_facts, a_text, a_tokens};

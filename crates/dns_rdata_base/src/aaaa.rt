@@ -1,7 +1,6 @@
 //! AAAA: an IPv6 address (RFC 3596, 2.2).
 
-ghost use Rattle.std.specs.Prelude.{refl};
-ghost use Rattle.std.specs.Prelude.{◌≡◌, ◌≢◌, ◌+◌, ◌-◌, ◌*◌, ◌/◌, ◌<◌, ◌≤◌, ℕ, List, [], ◌∷◌, length, length as list_length, OnErr, IfErr, Some};
+ghost use Rattle.std.specs.Prelude.{◌≡◌, ◌≢◌, ◌+◌, ◌-◌, ◌*◌, ◌/◌, ◌<◌, ◌≤◌, ℕ, List, [], ◌∷◌, length, length as list_length, OnErr, IfErr, Some, refl};
 ghost use Rattle.std.specs.{Net.Addr.ipv6_segments, Net.Addr.ipv6_octets, Net.Grammar.Parses, Net.Grammar.IsIpv6Text, Cmp.Rules.hashing};
 ghost use Rattle.dns_names_wire.specs.Terms.{ReadsIf, ReadsBy, Emits, LacksOctets, Always, IsTruncated};
 ghost use Rattle.dns_names_wire.specs.Facts.{same, same_equiv, same_partial};

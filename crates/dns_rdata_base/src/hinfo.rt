@@ -1,7 +1,6 @@
 //! HINFO: a machine and its system (RFC 1035, 3.3.2).
 
-ghost use Rattle.std.specs.Prelude.{refl};
-ghost use Rattle.std.specs.{Prelude.◌≡◌, Prelude.ℕ, Prelude.[], Prelude.Some, Box.boxed_slice_items, String.string_bytes};
+ghost use Rattle.std.specs.{Prelude.◌≡◌, Prelude.ℕ, Prelude.[], Prelude.Some, Box.boxed_slice_items, String.string_bytes, Prelude.refl};
 ghost use Rattle.dns_names_wire.specs.{Facts.RecordStands, Terms.Emits};
 ghost use Rattle.dns_check.specs.ByRow.{RecordRefuses};
 ghost use Rattle.dns_fields.specs.Fields.{all_emittable};

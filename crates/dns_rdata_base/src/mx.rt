@@ -1,8 +1,7 @@
 //! MX: a mail exchange (RFC 1035, 3.3.9).
 
-ghost use Rattle.std.specs.Prelude.{refl};
 ghost use Rattle.dns_rows.specs.Table.{kinds_of};
-ghost use Rattle.std.specs.{Prelude.◌≡◌, Prelude.Some, Option.option_copied};
+ghost use Rattle.std.specs.{Prelude.◌≡◌, Prelude.Some, Option.option_copied, Prelude.refl};
 ghost use Rattle.dns_fields.specs.declared.RDataEncoding.TheVariants as modes;
 ghost use Rattle.dns_rdata_base.specs.NameRecords.{mx_facts};
 ghost use Rattle.dns_tokens.specs.{Reads.ReadsTokenRow, Straight.straight_tokens, Straight.straight_text};

@@ -1,7 +1,6 @@
 //! NAPTR: a rule that rewrites a name (RFC 3403, 4).
 
-ghost use Rattle.std.specs.Prelude.{refl};
-ghost use Rattle.std.specs.{Prelude.◌≡◌, Prelude.ℕ, Prelude.[], Prelude.Some, Option.option_copied, Box.boxed_slice_items, Char.is_ascii_alphanumeric, List.list_all};
+ghost use Rattle.std.specs.{Prelude.◌≡◌, Prelude.ℕ, Prelude.[], Prelude.Some, Option.option_copied, Box.boxed_slice_items, Char.is_ascii_alphanumeric, List.list_all, Prelude.refl};
 ghost use Rattle.dns_names_wire.specs.{Terms.Emits};
 ghost use Rattle.dns_rdata_base.specs.NAPTR.{naptr_numbers_shape, naptr_numbers, naptr_rest_shape, naptr_rest, naptr_shape, naptr_fields};
 ghost use Rattle.dns_fields.specs.Fields.{all_emittable};

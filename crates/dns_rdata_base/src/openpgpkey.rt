@@ -1,7 +1,6 @@
 //! OPENPGPKEY: a public key (RFC 7929, 2.1).
 
-ghost use Rattle.std.specs.Prelude.{refl};
-ghost use Rattle.std.specs.Prelude.{◌≡◌, Some};
+ghost use Rattle.std.specs.Prelude.{◌≡◌, Some, refl};
 ghost use Rattle.dns_names_wire.specs.{Terms.Emits};
 ghost use Rattle.dns_rdata_base.specs.OPENPGPKEY.{openpgpkey_shape, openpgpkey_fields, openpgpkey_facts, openpgpkey_text, openpgpkey_tokens};
 ghost use Rattle.dns_tokens.specs.Reads.{ReadsTokenRow};

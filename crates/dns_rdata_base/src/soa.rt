@@ -1,7 +1,6 @@
 //! SOA: the start of a zone of authority (RFC 1035, 3.3.13).
 
-ghost use Rattle.std.specs.Prelude.{refl};
-ghost use Rattle.std.specs.Prelude.{◌≡◌, ◌+◌, ◌++◌, ◌%◌, ℕ, [], IfErr, IfOk, Some};
+ghost use Rattle.std.specs.Prelude.{◌≡◌, ◌+◌, ◌++◌, ◌%◌, ℕ, [], IfErr, IfOk, Some, refl};
 ghost use Rattle.std.specs.{Int.bytes_high_first, Int.cast_unsigned, Int.w32, Ordering.nat_cmp, Ordering.ordering_then, Cmp.Lexicographic.slice_cmp};
 ghost use Rattle.std.specs.{declared.cmp.Ordering.TheVariants.Equal, Option.option_copied};
 ghost use Rattle.dns_names_wire.specs.{Facts.same, Facts.same_equiv, Facts.same_partial, Terms.ReadsIf, Terms.Emits, Terms.Always};

@@ -1,8 +1,7 @@
 //! SRV: a host of a service (RFC 2782).
 
-ghost use Rattle.std.specs.Prelude.{refl};
 ghost use Rattle.dns_rows.specs.Table.{kinds_of};
-ghost use Rattle.std.specs.{Prelude.◌≡◌, Prelude.Some, Option.option_copied};
+ghost use Rattle.std.specs.{Prelude.◌≡◌, Prelude.Some, Option.option_copied, Prelude.refl};
 ghost use Rattle.dns_fields.specs.declared.RDataEncoding.TheVariants as modes;
 ghost use Rattle.dns_names_wire.specs.{Terms.Emits};
 ghost use Rattle.dns_rdata_base.specs.NameRecords.{srv_numbers_shape, srv_numbers, srv_facts};

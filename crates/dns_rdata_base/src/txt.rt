@@ -1,7 +1,6 @@
 //! TXT: character strings (RFC 1035, 3.3.14).
 
-ghost use Rattle.std.specs.Prelude.{refl};
-ghost use Rattle.std.specs.Prelude.{◌≡◌, ℕ, List, [], map, length as list_length, IfOk, Some};
+ghost use Rattle.std.specs.Prelude.{◌≡◌, ℕ, List, [], map, length as list_length, IfOk, Some, refl};
 ghost use Rattle.std.specs.{Cmp.Lexicographic.slice_cmp, String.string_bytes, Iterator.IsFinite, Ordering.nat_cmp, List.flat_map};
 ghost use Rattle.dns_fields.specs.{declared.Kind.TheVariants.CharacterStrings, Fields.Field, Fields.all_emittable};
 ghost use Rattle.dns_fields.specs.{Tlvs.string};

@@ -18,7 +18,7 @@ use crate::status::{
 };
 use crate::writing::put_text;
 use dns_names_wire::name_ends::skip_name;
-use dns_rdata::{BinDecodable, BinDecoder, DecodeError, Name, RecordType};
+use dns_rdata::{BinDecoder, DecodeError, Name, RecordType};
 use dns_rdata_zone::{ZoneName, name_from_zone_text, type_named};
 use std::alloc::Global;
 

@@ -1,7 +1,6 @@
 //! SMIMEA: a certificate of a mail user (RFC 8162, 2).
 
-ghost use Rattle.std.specs.Prelude.{refl};
-ghost use Rattle.std.specs.{Prelude.◌≡◌, Prelude.IfOk, Prelude.Some, Iterator.IsFinite};
+ghost use Rattle.std.specs.{Prelude.◌≡◌, Prelude.IfOk, Prelude.Some, Iterator.IsFinite, Prelude.refl};
 ghost use Rattle.dns_names_wire.specs.{Terms.Emits};
 ghost use Rattle.dns_rdata_certs.specs.{SMIMEA.smimea_facts, TLSA.tlsa_shape, TLSA.tlsa_fields, TLSA.tlsa_text, TLSA.IsReadTlsa, TokenRows.tlsa_tokens};
 ghost use Rattle.dns_tokens.specs.Reads.{ReadsTokenRow};

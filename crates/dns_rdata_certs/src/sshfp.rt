@@ -1,7 +1,6 @@
 //! SSHFP: the fingerprint of a host's key (RFC 4255, 3.1).
 
-ghost use Rattle.std.specs.Prelude.{refl};
-ghost use Rattle.std.specs.Prelude.{◌≡◌, IfOk, IsTrue, Some, true};
+ghost use Rattle.std.specs.Prelude.{◌≡◌, IfOk, IsTrue, Some, true, refl};
 ghost use Rattle.dns_names_wire.specs.{Terms.Emits};
 ghost use Rattle.dns_rdata_certs.specs.SSHFP.{sshfp_shape, sshfp_fields, sshfp_facts, sshfp_key_shape, sshfp_keys, sshfp_text, IsReadSshfp};
 ghost use Rattle.dns_rdata_certs.specs.{Enums.fingerprint_type_number, Enums.sshfp_algorithm_number, TokenRows.hex_digits, TokenRows.sshfp_tokens};

@@ -1,7 +1,6 @@
 //! TLSA: a certificate of a service (RFC 6698, 2.1).
 
-ghost use Rattle.std.specs.Prelude.{refl};
-ghost use Rattle.std.specs.{Prelude.◌≡◌, Prelude.IfOk, Prelude.IsTrue, Prelude.Some, Prelude.true, Iterator.IsFinite};
+ghost use Rattle.std.specs.{Prelude.◌≡◌, Prelude.IfOk, Prelude.IsTrue, Prelude.Some, Prelude.true, Iterator.IsFinite, Prelude.refl};
 ghost use Rattle.dns_names_wire.specs.{Terms.Emits};
 ghost use Rattle.dns_rdata_certs.specs.TLSA.{tlsa_shape, tlsa_fields, tlsa_facts, tlsa_key_shape, tlsa_keys, tlsa_text, IsReadTlsa};
 ghost use Rattle.dns_rdata_certs.specs.{Enums.cert_usage_number, Enums.matching_number, Enums.selector_number};

@@ -6,7 +6,6 @@ ghost use Rattle.dns_tokens.specs.Reads.{UnlessParseMemory};
 ghost use Rattle.dns_zone_tokens.specs.NameTokens.{name_octets};
 ghost use Rattle.dns_rdata_zone.specs.NameTexts.{IsZoneName, IsNoZoneName, ZoneNameFault};
 
-use dns_names_wire::BinDecodable;
 use dns_rdata::{BinDecoder, Name, ParseError};
 use dns_zone_rows::{ZoneField, ZoneRest, ZoneRow, row_octets};
 use dns_zone_tokens::{ZoneTokens, name_field};

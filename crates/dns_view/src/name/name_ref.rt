@@ -12,7 +12,7 @@ use crate::name::order::compare_names;
 use crate::put::put_name;
 use dns_labels::text::NameText;
 use dns_names_wire::name_ends::skip_name;
-use dns_names_wire::{BinDecodable, BinDecoder, Name};
+use dns_names_wire::{BinDecoder, Name};
 use std::alloc::{AllocError, Global};
 use std::cmp::Ordering;
 use std::fmt;

@@ -1,7 +1,7 @@
 use Rattle.std.proofs.Common.{arith, refl}
 use Rattle.dns_labels.proofs.ReadingSteps.{onward}
 use Rattle.dns_names_wire.proofs.NameSteps.{label_left, one_longer, skipped_none}
-use Rattle.dns_names_wire.proofs.StepCounts.{counted_none, counted_next, counted_stop, counted_short, counted_outside}
+use Rattle.dns_names_wire.proofs.StepCounts.{counted_next, counted_stop, counted_short}
 use Rattle.dns_names_wire.proofs.name_ends.pass_run.Goals as goal
 
 pub returns-then-offset-message-clause-none : goal.returns-then-offset-message-clause-none
