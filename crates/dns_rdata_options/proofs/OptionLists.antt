@@ -50,7 +50,7 @@ made_more {octets} {body} {offset} {end} {n} {xs} {ys} {code} {x} m room t is ke
         read = m.complete.read ++ (t.key, t.body) ∷ [];
         at = subst (λ (s : List ℕ). At octets 0 s end) (tlvs_more m.complete.read (t.key, t.body)) (at_then m.complete.at t.is.at);
         fit = all_append IsTlv m.complete.read ((t.key, t.body) ∷ []) m.complete.fit (t.is.fits, tt);
-        held = subst (AllHeld OptionHeld (m.complete.read ++ (t.key, t.body) ∷ [])) values
+        held = subst (λ (vs : List (Numbered OptionValue)). AllHeld OptionHeld (m.complete.read ++ (t.key, t.body) ∷ []) vs) values
             (held_more m.complete.read (map pair_value xs) (t.key, t.body) (option_value x) m.complete.held v.held);
       };
       read = pushed ∙ (λ i. m.read i ++ (sym whole i, v.given i) ∷ []) ∙ sym (map_push pair_of (map pair_value xs) (t.key, option_value x)) ∙ ap (map pair_of) values;
@@ -62,7 +62,7 @@ pub made_all : {octets : List ℕ} {offset : ℕ} {xs : List Pair} → Made octe
 made_all {octets} {offset} {xs} m c none = record {
   fields = λ v f.
       let own : CompleteOptions octets 0 (map pair_value xs) (length octets) =
-      subst (CompleteOptions octets 0 (map pair_value xs)) (parts_end m.parts.on c none) m.complete in
+      subst (λ (q : ℕ). CompleteOptions octets 0 (map pair_value xs) q) (parts_end m.parts.on c none) m.complete in
       let g : Field octets 0 Options (map pair_value xs) (length octets) = record { is = inl own } in
       ap (λ (l : List (Numbered OptionValue)). (l, tt)) (field_same g f);
 }

@@ -1,11 +1,11 @@
 //! CSYNC: which records of a child zone its parent copies (RFC 7477, 2.1).
 
-ghost use Rattle.std.specs.Prelude.{◌≡◌, ◌≢◌, ◌+◌, ◌++◌, ℕ, List, [], map, IfErr, IfOk, Some};
+ghost use Rattle.std.specs.Prelude.{◌≡◌, ◌≢◌, ◌+◌, ◌++◌, ℕ, List, [], map, refl, IfErr, IfOk, Some};
 ghost use Rattle.std.specs.{Iterator.Drains, Iterator.IsFinite, Int.bytes_high_first};
-ghost use Rattle.dns_names_wire.specs.Terms.{ReadsTo, Emits};
-ghost use Rattle.dns_rdata_policy.specs.{CSYNC.csync_text, CSYNC.csync_key_shape, CSYNC.csync_keys, CSYNC.IsReadCsync, CSYNC.IsCsyncError, Steps.csync_left};
+ghost use Rattle.dns_names_wire.specs.Terms.{Emits};
+ghost use Rattle.dns_rdata_policy.specs.{CSYNC.csync_text, CSYNC.csync_key_shape, CSYNC.csync_keys, CSYNC.IsReadCsync, Steps.csync_left};
 ghost use Rattle.dns_rdata_policy.specs.{RecordTypeSet.IsSetOf, TokenRows.known_flags, TokenRows.type_tokens, TokenRows.csync_tokens, Steps.csync_windows};
-ghost use Rattle.dns_rdata_policy.specs.CSYNC.{csync_numbers_shape, csync_numbers, csync_shape, csync_flags, csync_fields, csync_facts, MeetsCsyncCondition};
+ghost use Rattle.dns_rdata_policy.specs.CSYNC.{csync_numbers_shape, csync_numbers, csync_shape, csync_flags, csync_fields, csync_facts};
 ghost use Rattle.dns_canonical.specs.Steps.{CountsPasses, GivesStep};
 ghost use Rattle.dns_tokens.specs.Reads.{ReadsText, ReadsToken, ReadsTokenRow, GoesOn};
 ghost use Rattle.dns_types.specs.{RecordTypes.IsTypeText, RecordTypes.number_of, declared.record_type.RecordType.RecordType as RecordTypeValue};
@@ -13,12 +13,14 @@ ghost use Rattle.dns_types.specs.declared.error.ParseError.TheVariants as parse;
 
 use crate::record_type_set::{RecordTypeSet, next_window};
 use dns_canonical::{Count, Head, Step, Tail, four_behind, two_behind};
+use dns_check::{DecodesRow, row_end};
 use dns_names_wire::{
-    BinDecoder, BinEncodable, BinEncoder, DecodeError, ParseError, ProtoError, Record,
-    RecordDataDecodable, RecordType, Restrict,
+    BinDecoder, BinEncodable, BinEncoder, DecodeError, ParseError, ProtoError, Record, RecordType,
+    Restrict,
 };
 use dns_rdata_base::OrderedRecord;
 use dns_rdata_base::ordered::is_equal;
+use dns_rows::{Part, row};
 use dns_tokens::texts::u16_of;
 use dns_tokens::{Field, next_token, next_u32, number_field};
 use std::alloc::{AllocError, Global};
@@ -31,8 +33,6 @@ const IMMEDIATE: u16 = 1;
 const SOA_MINIMUM: u16 = 2;
 // The bits of flags that have no field of their own.
 const RESERVED: u16 = 0xFFFC;
-// Bits that are rejected.
-const UNKNOWN: u16 = 0x00FC;
 
 const SOA_SERIAL: Field = number_field!("CSYNC soa_serial");
 
@@ -110,31 +110,6 @@ impl CSYNC {
             reserved_flags: flags & RESERVED,
             type_bit_maps,
         }
-    }
-
-    // Reads the fields that fill the length.
-    #[inline]
-    fn read_filled(
-        decoder: &mut BinDecoder<'_>,
-        length: Restrict<u16>,
-    ) -> Result<CSYNC, DecodeError>
-        ensures fields { ReadsTo csync_shape MeetsCsyncCondition length csync_fields result decoder.old decoder.new }
-        ensures read { IfOk result IsReadCsync }
-        ensures refused { IfErr result (λ e. IsCsyncError length decoder.old e decoder.new) }
-    {
-        let start = decoder.index();
-        let soa_serial = decoder.read_u32()?.unverified();
-        let flags = decoder.read_u16()?.unverified();
-        if flags & UNKNOWN != 0 {
-            return Err(DecodeError::UnrecognizedCsyncFlags(flags));
-        }
-        let read = decoder.index() - start;
-        let len = length.unverified() as usize;
-        if len < read {
-            return Err(DecodeError::IncorrectRDataLengthRead { read, len });
-        }
-        let type_bit_maps = RecordTypeSet::read_data(decoder, Restrict::new((len - read) as u16))?;
-        Ok(CSYNC::with_flags(soa_serial, flags, type_bit_maps))
     }
 
     // Appends serial and flags at once.
@@ -220,29 +195,28 @@ fn all_types<S: AsStr + Drop, I: Iterator<Item = S>>(
 
 impl Record for CSYNC {
     ghost facts = { csync_facts };
+
+    #[inline]
+    fn row() -> &'static [Part] {
+        &row::CSYNC
+    }
 }
 
-impl RecordDataDecodable for CSYNC {
-    /// Reads serial and flags, and the types to the end of RDLENGTH. Allocates once for the types.
-    ///
-    /// # Errors
-    ///
-    /// In this order:
-    ///
-    /// - [`InsufficientBytes`](DecodeError::InsufficientBytes): octets are missing. The numbers that are there are
-    ///   read.
-    /// - [`UnrecognizedCsyncFlags`](DecodeError::UnrecognizedCsyncFlags): a flag of 0x00fc is set.
-    /// - [`IncorrectRDataLengthRead`](DecodeError::IncorrectRDataLengthRead) of 6 and RDLENGTH: RDLENGTH is below 6.
-    /// - [`BitmapInvalid`](DecodeError::BitmapInvalid): the octets are no bitmap.
-    /// - [`Memory`](DecodeError::Memory): the allocation failed.
+impl DecodesRow for CSYNC {
+    ghost checked = { refl };
+
+    /// Checks serial, flags, and the types to the end of RDLENGTH, and then reads them. Allocates for the types of the set.
     #[inline]
-    fn read_data(
-        decoder: &mut BinDecoder<'_>,
-        length: Restrict<u16>,
-    ) -> Result<CSYNC, DecodeError> {
-        // For the proof: brings in that the message is octets and the index is at most its length.
-        let _start = decoder.index();
-        CSYNC::read_filled(decoder, length)
+    fn read_row(decoder: &mut BinDecoder<'_>, length: Restrict<u16>) -> Result<CSYNC, DecodeError> {
+        let end = match row_end(decoder, &row::CSYNC, length) {
+            Ok(end) => end,
+            Err(e) => return Err(e),
+        };
+        let soa_serial = decoder.read_u32()?.unverified();
+        let flags = decoder.read_u16()?.unverified();
+        let left = Restrict::new((end - decoder.index()) as u16);
+        let type_bit_maps = RecordTypeSet::read_data(decoder, left)?;
+        Ok(CSYNC::with_flags(soa_serial, flags, type_bit_maps))
     }
 }
 

@@ -1,15 +1,17 @@
 -- Parameters that are made of octets, one after the other.
-use Rattle.std.proofs.Common.{◌≡◌, ℕ, ◌+◌, ◌-◌, ◌≤◌, Ok, List, [], ◌∷◌, ◌++◌, length, take, drop, map, refl, sym, ap, ◌∙◌, arith, subst, append_assoc}
+use Rattle.std.proofs.Common.{◌≡◌, ℕ, ◌+◌, ◌-◌, ◌≤◌, ◌⊎◌, inl, inr, Ok, Err, List, [], ◌∷◌, ◌++◌, length, take, drop, map, refl, sym, ap, ◌∙◌, arith, subst, append_assoc}
 use Rattle.std.proofs.lemmas.List.{append-nil, map_push}
 use Rattle.dns_fields.specs.{Fields.Field, Fields.Stands, Fields.Values, Tlvs.IsTlv, Tlvs.Numbered, Tlvs.ParameterHeld, Tlvs.ParameterValue, Tlvs.tlv, Octets.At}
 use Rattle.dns_fields.specs.declared.Kind.{TheVariants.Number, TheVariants.Name, TheVariants.Octets, TheVariants.Parameters}
 use Rattle.dns_fields.specs.Labels.{DomainName}
-use Rattle.dns_names_wire.specs.{State.Reading, Terms.LacksField, Terms.TookField, Terms.moved}
-use Rattle.dns_names_wire.proofs.FieldReads.{stands_inside}
+use Rattle.dns_names_wire.specs.{State.Reading, Terms.LacksField, Terms.StaysBehind, Terms.TookField, Terms.moved}
+use Rattle.dns_names_wire.proofs.FieldReads.{stands_inside, stays, took_stays}
+use Rattle.dns_types.specs.declared.error.DecodeError.{DecodeError}
+use Rattle.dns_types.specs.declared.error.DecodeError.TheVariants as decode
 use Rattle.dns_rows.specs.Rules.{MeetsRow}
 use Rattle.dns_rows.specs.declared.row.TheConstants as rows
 use Rattle.dns_check.specs.{ByRow.ReadsRow, ByRow.RowThere, Tlvs.TlvThere}
-use Rattle.dns_check.proofs.{Alone.between_is, Alone.parameters_alone, CheckedFirst.row_reads, CheckedFirst.took_first, HeldLists.EndsAt, HeldLists.NoTlv, HeldLists.first_of, HeldLists.none_left}
+use Rattle.dns_check.proofs.{Alone.between_is, Alone.parameters_alone, CheckedFirst.memory_row, CheckedFirst.row_reads, CheckedFirst.took_first, HeldLists.EndsAt, HeldLists.NoTlv, HeldLists.first_of, HeldLists.none_left}
 use Rattle.dns_check.proofs.ParameterLists.{OneOf, StandEach, one_once, parameters_each}
 use Rattle.dns_rdata_service.specs.SVCB.{IsReadSvcb, TookService, svcb_facts, svcb_fields, svcb_shape}
 use Rattle.dns_rdata_service.specs.declared.svcb.SVCB.{SVCB}
@@ -93,6 +95,12 @@ svcb_named {end = end} h f l =
     let s = (took_first (Name ∷ Parameters ∷ []) h.took.fields.values end tt f h.took.fields.stands).1 in
     l.none h.took.fields.values.1.0 s.0 s.1
 
+-- the target name is not kept: memory ran out
+pub svcb_no_name : {n end priority : ℕ} {e : DecodeError} {old a b : Reading} → RowThere rows.SVCB n old (moved old end) → TookField old (Number 2) priority a
+    → (e ≡ decode.Memory) ⊎ ((e ≡ decode.NameInvalid) × LacksField a Name) → b ≡ a → ReadsRow svcb_facts n (Err e) old b
+svcb_no_name {n} {old = old} {a} h f (inl m) same = memory_row svcb_facts n (subst (StaysBehind old) (sym same) (took_stays f (stays a))) m
+svcb_no_name h f (inr l) same = absurd (svcb_named h f l.1)
+
 -- the fields that were read are those of the row, and end where it ends
 pub svcb_read : {n end priority len : ℕ} {target : DomainName} {octets : List ℕ} {params : List (Numbered ParameterValue)} {old a b c : Reading}
     → (h : RowThere rows.SVCB n old (moved old end)) → TookField old (Number 2) priority a → TookField a Name target b → TookField b (Octets len) octets c
@@ -111,17 +119,23 @@ svcb_read {n} {end} {priority} {len} {target} {octets} {params} {old} {a} {b} {c
       (λ i. (s.0 i, (s.1 i, (same i, tt)))),
     )
 
-pub svcb_row : {n end : ℕ} {x : SVCB} {old c : Reading} (h : RowThere rows.SVCB n old (moved old end))
-    → (c ≡ moved old end) × (svcb_fields x ≡ h.took.fields.values) → ReadsRow svcb_facts n (Ok x) old c
-svcb_row {n} {end} {x} {old} h r = subst (λ (d : Reading). ReadsRow svcb_facts n (Ok x) old d) (sym r.0) (row_reads svcb_facts x tt h r.1)
+pub svcb_row : {n end priority : ℕ} {target : DomainName} {ps : List Parameter} {old c : Reading} (h : RowThere rows.SVCB n old (moved old end))
+    → (c ≡ moved old end) × ((priority, (target, (map parameter_of ps, tt))) ≡ h.took.fields.values)
+    → ReadsRow svcb_facts n (Ok (record { svc_priority = priority; target_name = target; svc_params = ps })) old c
+svcb_row {n} {end} {priority} {target} {ps} {old} h r =
+    let x : SVCB = record { svc_priority = priority; target_name = target; svc_params = ps } in
+    subst (λ (d : Reading). ReadsRow svcb_facts n (Ok x) old d) (sym r.0) (row_reads svcb_facts x tt h r.1)
 
-pub svcb_after : {n end : ℕ} {x : SVCB} {old c : Reading} (h : RowThere rows.SVCB n old (moved old end)) → IsReadSvcb x
-    → (c ≡ moved old end) × (svcb_fields x ≡ h.took.fields.values) → TookService n x old c
-svcb_after {n} {end} {x} {old} h read r = subst (λ (d : Reading). TookService n x old d) (sym r.0) (record {
-  read = read;
-  took = record
-      { message = refl; stands = subst (λ (vs : Values svcb_shape). Stands old.message old.index svcb_shape vs end) (sym r.1) h.took.fields.stands };
-  holds = subst (MeetsRow rows.SVCB) (sym r.1) h.took.fields.meets;
-  within = h.took.reached.0;
-  left = h.took.reached.1;
-})
+pub svcb_after : {n end priority : ℕ} {target : DomainName} {ps : List Parameter} {old c : Reading} (h : RowThere rows.SVCB n old (moved old end)) → AreRead ps
+    → (c ≡ moved old end) × ((priority, (target, (map parameter_of ps, tt))) ≡ h.took.fields.values)
+    → TookService n (record { svc_priority = priority; target_name = target; svc_params = ps }) old c
+svcb_after {n} {end} {priority} {target} {ps} {old} h read r =
+    let x : SVCB = record { svc_priority = priority; target_name = target; svc_params = ps } in
+    subst (λ (d : Reading). TookService n x old d) (sym r.0) (record {
+      read = read;
+      took = record
+          { message = refl; stands = subst (λ (vs : Values svcb_shape). Stands old.message old.index svcb_shape vs end) (sym r.1) h.took.fields.stands };
+      holds = subst (MeetsRow rows.SVCB) (sym r.1) h.took.fields.meets;
+      within = h.took.reached.0;
+      left = h.took.reached.1;
+    })

@@ -11,20 +11,19 @@ use Rattle.dns_fields.proofs.OctetLaws.{AreOctets-at, AreOctets-front, AreOctets
 use Rattle.dns_fields.proofs.EqualLaws.{field_decide}
 use Rattle.dns_names_wire.specs.{State.Reading, Terms.Region}
 use Rattle.dns_rdata_base.proofs.{Addresses.octets_of-segments, Addresses.segments_of-octets_of, NumberLaws.number-numbered_of}
-use Rattle.dns_rdata_service.specs.Parameters.{Parameter, parameter_of, parameter_from, own_parameter, AreRead, IsParameterError}
+use Rattle.dns_rdata_service.specs.Parameters.{Parameter, parameter_of, parameter_from, own_parameter, AreRead}
 use Rattle.dns_rows.specs.Rules.{is_text_key}
-use Rattle.dns_rdata_service.specs.SvcParamValue.{value_of, value_from, a_octets, a_of, aaaa_octets, aaaa_of, IsFormError, IsKeyError, IsValueOf, opaque_from}
+use Rattle.dns_rdata_service.specs.SvcParamValue.{value_of, value_from, a_octets, a_of, aaaa_octets, aaaa_of, IsValueOf, opaque_from}
 use Rattle.dns_rdata_service.specs.declared.svcb.key.SvcParamKey.TheVariants.{Key, Key65535, Unknown}
 use Rattle.dns_rdata_service.specs.declared.svcb.key.SvcParamKey.TheVariants as keys
 use Rattle.dns_rdata_service.specs.SvcParamKey.{key_number, key_of, key_variant, named_keys, other_key}
-use Rattle.dns_rdata_service.specs.SVCB.{svcb_shape, svcb_fields, svcb_key_shape, svcb_keys, IsReadSvcb, IsSvcbError}
+use Rattle.dns_rdata_service.specs.SVCB.{svcb_shape, svcb_fields, svcb_key_shape, svcb_keys, IsReadSvcb}
 use Rattle.dns_rdata_service.specs.declared.svcb.SVCB.{SVCB}
 use Rattle.dns_rdata_service.specs.{declared.svcb.key.SvcParamKey.SvcParamKey}
 use Rattle.dns_rdata_service.specs.{declared.svcb.value.SvcParamValue.SvcParamValue, declared.svcb.unknown.Unknown.Unknown as Other}
-use Rattle.dns_rdata_service.specs.{declared.svcb.ip_hint.IpHint.IpHint, Parameters.IsParametersError}
+use Rattle.dns_rdata_service.specs.{declared.svcb.ip_hint.IpHint.IpHint}
 use Rattle.dns_rdata_service.proofs.OwnValues.{own_fields}
 use Rattle.dns_rdata_base.specs.{declared.aaaa.AAAA.AAAA, declared.a.A.A}
-use Rattle.dns_types.specs.declared.error.DecodeError.TheVariants as decode
 use Rattle.dns_rdata_service.specs.declared.svcb.value.SvcParamValue.TheVariants as variants
 
 other_number : (b : Bool) (n : ℕ) → key_number (if b then Key n else Unknown n) ≡ n
@@ -169,5 +168,3 @@ pub svcb_equal : (a b : SVCB) → IsReadSvcb a → IsReadSvcb b
     → values_eq svcb_key_shape (svcb_keys a) (svcb_keys b) ≡ values_eq svcb_shape (svcb_fields a) (svcb_fields b)
 svcb_equal a b x y = ap (λ (t : Bool). kind_eq (Number 2) a.svc_priority b.svc_priority && (kind_eq Name a.target_name b.target_name && (t && true)))
     (parameters_equal a.svc_params b.svc_params x y)
-
--- ---- the error with a type number is none of SVCB's

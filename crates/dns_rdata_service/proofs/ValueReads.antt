@@ -11,21 +11,19 @@ use Rattle.dns_fields.specs.{Octets.At, Octets.AreOctets}
 use Rattle.dns_names_wire.specs.Terms.{TookField, StaysBehind, UnlessMemory, LacksOctets, LacksText, Emits, EmitsOctets}
 use Rattle.dns_names_wire.specs.State.{Reading, Writing}
 use Rattle.dns_names_wire.proofs.{FieldReads.stays, FieldReads.unless_map, FieldReads.unless_all, FieldWrites.because_map}
-use Rattle.dns_rdata_base.specs.{declared.aaaa.AAAA.AAAA, Numbered.NumberedAt, declared.a.A.A}
+use Rattle.dns_rdata_base.specs.Numbered.{NumberedAt}
 use Rattle.dns_rdata_service.specs.SvcParamValue.{mandatory_value, alpn_value, AreGiven, ToEnd, MandatoryAt, AlpnAt, TruncatedName, WrongName}
-use Rattle.dns_rows.specs.Rules.{HasText}
-use Rattle.dns_rdata_service.specs.SvcParamValue.{IsValueError, IsFormError, IsKeyError, a_octets, aaaa_octets, a_of, aaaa_of}
-use Rattle.dns_rdata_service.specs.{Hints.StandEach, Hints.StopsBefore, Hints.StandToEnd, Hints.ReadsEach, Hints.EmitsEach, declared.svcb.ip_hint.IpHint.IpHint}
+use Rattle.dns_rdata_service.specs.SvcParamValue.{IsValueError, IsFormError}
+use Rattle.dns_rdata_service.specs.{Hints.StandEach, Hints.StandToEnd, Hints.ReadsEach, Hints.EmitsEach, declared.svcb.ip_hint.IpHint.IpHint}
 use Rattle.dns_rdata_service.specs.{declared.svcb.mandatory.Mandatory.Mandatory as MandatoryKeys, SvcParamKey.key_number, SvcParamKey.key_of}
 use Rattle.dns_rdata_service.specs.{declared.svcb.key.SvcParamKey.SvcParamKey, declared.svcb.alpn.Alpn.Alpn as Protocols}
 use Rattle.dns_rdata_service.proofs.Splits.{octet_split}
 use Rattle.dns_check.proofs.Splits.{at_split, length_numbers, stays_then}
 use Rattle.dns_rdata_service.proofs.EachEmits.{emits_all, emits_as, all_pass}
-use Rattle.dns_fields.proofs.{OctetLaws.AreOctets-at, Numbers.length-bytes}
-use Rattle.dns_rdata_base.proofs.Addresses.{octets_of-segments}
+use Rattle.dns_fields.proofs.{Numbers.length-bytes}
 use Rattle.dns_types.specs.declared.error.DecodeError.TheVariants as decode
 use Rattle.dns_check.proofs.ParameterSteps.{stand_push}
-use Rattle.dns_check.proofs.ValueForms.{length_groups, names_none, keys_none, no_text}
+use Rattle.dns_check.proofs.ValueForms.{length_groups, names_none, keys_none}
 
 pub record EachOn {T : Type 0} (S : List ℕ → ℕ → T → ℕ → Type 0) (old : Reading) (items : List T) (d : Reading) : Type 0 where
   pub behind : StaysBehind old d
@@ -80,16 +78,6 @@ refused_none form body e h v f s b = absurd (cc f)
 pub value_none : (form : ParameterForm) (body : List ℕ) (e : DecodeError) → IsValueError form body e → UnlessMemory e (HoldsNone form body)
 value_none form body e (inl m) = subst (λ (x : DecodeError). UnlessMemory x (HoldsNone form body)) (sym m) tt
 value_none form body e (inr h) = unless_all e (record { none = refused_none form body e h })
-
--- the octets hold no value of the key that is text where it has to be
-pub record NoKeyValue (key : ℕ) (body : List ℕ) : Type 0 where
-  pub none : (v : ParameterValue) → ParameterHeld key body v → HasText key v → ⊥
-
-pub key_none : (key : ℕ) (body : List ℕ) (e : DecodeError) → IsKeyError key body e → UnlessMemory e (NoKeyValue key body)
-key_none key body e (inl h) = unless_map e _ _ (λ (n : HoldsNone (form_for key) body). record { none = λ v held text. n.none v held.0 held.1 held.2 })
-    (value_none (form_for key) body e h)
-key_none key body e (inr (is, inl m)) = subst (λ (x : DecodeError). UnlessMemory x (NoKeyValue key body)) (sym m) tt
-key_none key body e (inr (is, inr h)) = unless_all e (record { none = no_text key body is h.1 })
 
 -- what is rejected is none of the values of a type
 pub refused_by : {T : Type 0} (form : ParameterForm) (view : T → ParameterValue) (S : List ℕ → ℕ → T → ℕ → Type 0) (old new : Reading) (e : DecodeError)
@@ -231,36 +219,6 @@ are_groups : {T : Type 0} (w : ℕ) (octets : T → List ℕ) (m : List ℕ) (p 
 are_groups w octets m = each_split octets (λ s. s) (λ s. length s ≡ w) (GroupAt w octets) m
     (λ p x q s. (s.1.is.0, subst (λ (e : ℕ). At m p (octets x) e) s.2 s.1.is.1))
 
--- w octets are there if so many are left
-group_here : (w : ℕ) (m : List ℕ) (p : ℕ) → p + w ≤ length m → (length (take w (drop p m)) ≡ w) × At m p (take w (drop p m)) (p + w)
-group_here w m p inside =
-    let n : length (take w (drop p m)) ≡ w = omega (arith, length-take w (drop p m), length-drop p m) in
-    (n, record { ends = omega (arith, n); within = inside; same = ap (λ (k : ℕ). take k (drop p m)) n })
-
--- whole groups leave no octet
-no_stop : {T : Type 0} (w : ℕ) (octets : T → List ℕ) (m : List ℕ) → ((k : ℕ) → w * k < length m → w * k + w ≤ length m)
-    → ((s : List ℕ) → length s ≡ w → AreOctets s → (x : T) × (octets x ≡ s)) → AreOctets m → StopsBefore (GroupAt w octets) m 0 → ⊥
-no_stop w octets m room of all h =
-    let g = are_groups w octets m 0 h.items h.offset h.stand in
-    let count = length (map octets h.items) in
-    let offset : h.offset ≡ w * count = omega (
-      arith,
-      h.before,
-      ap length g.split,
-      length-append (flat_map (λ s. s) (map octets h.items)) (drop h.offset m),
-      length_groups w (map octets h.items) g.all,
-      length-drop h.offset m,
-    ) in
-    let inside : h.offset + w ≤ length m = omega (arith, offset, room count (omega (arith, offset, h.before))) in
-    let here = group_here w m h.offset inside in
-    let x = of (take w (drop h.offset m)) here.0 (AreOctets-at m h.offset (take w (drop h.offset m)) (h.offset + w) all here.1) in
-    h.none x.0 (h.offset + w) (subst (λ (s : List ℕ). Stands m h.offset (Octets w ∷ []) (s, tt) (h.offset + w)) (sym x.1)
-    (h.offset + w, record { is = here }, refl))
-
-unless_none : (e : DecodeError) (P : Type 0) → UnlessMemory e P → (P → ⊥) → e ≡ decode.Memory
-unless_none decode.Memory P h n = refl
-unless_none e P h n = absurd (n h)
-
 -- what is read to the end of octets
 pub groups_read : {T : Type 0} (w : ℕ) (octets : T → List ℕ) (body : List ℕ) (items : List T) (new : Reading)
     → StandToEnd (GroupAt w octets) (record { message = body; index = 0 }) items new
@@ -268,18 +226,6 @@ pub groups_read : {T : Type 0} (w : ℕ) (octets : T → List ℕ) (body : List 
 groups_read w octets body items new h =
     let g = are_groups w octets body 0 items (length body) h.stand in
     (g.all, to_end body 0 (length body) (flat_map (λ s. s) (map octets items)) (omega arith) g.split)
-
-pub a_octets_of : (s : List ℕ) → length s ≡ 4 → AreOctets s → (x : A) × (a_octets x ≡ s)
-a_octets_of s n all = (a_of s, refl)
-
-pub aaaa_octets_of : (s : List ℕ) → length s ≡ 16 → AreOctets s → (x : AAAA) × (aaaa_octets x ≡ s)
-aaaa_octets_of s n all = (aaaa_of s, octets_of-segments 8 s (omega arith) all)
-
-pub hint_refused : {T : Type 0} (form : ParameterForm) (w : ℕ) (octets : T → List ℕ) (body : List ℕ) (new : Reading) (r : Result (IpHint T) DecodeError)
-    → ((k : ℕ) → w * k < length body → w * k + w ≤ length body) → ((s : List ℕ) → length s ≡ w → AreOctets s → (x : T) × (octets x ≡ s)) → AreOctets body
-    → ReadsEach (GroupAt w octets) (λ x. x.0) r (record { message = body; index = 0 }) new → IfErr r (IsValueError form body)
-hint_refused form w octets body new (Ok x) room of all h = tt
-hint_refused form w octets body new (Err e) room of all h = inl (unless_none e _ h.1 (no_stop w octets body room of all))
 
 pub groups_fit : {T : Type 0} (w : ℕ) (octets : T → List ℕ) (body : List ℕ) (new : Reading) (r : Result (IpHint T) DecodeError)
     → ReadsEach (GroupAt w octets) (λ x. x.0) r (record { message = body; index = 0 }) new → IfOk r (λ x. AllByRecursion (λ s. length s ≡ w) (map octets x.0))

@@ -6,9 +6,9 @@ use Rattle.std.specs.{Int.bytes_high_first, List.flat_map}
 use Rattle.base64.specs.{GeneralPurpose.encode_of, Engines.standard}
 use Rattle.dns_types.specs.{declared.error.DecodeError.DecodeError, declared.error.ProtoError.ProtoError}
 use Rattle.dns_fields.specs.Tlvs.{ParameterValue, Mandatory, Alpn, NoDefaultAlpn, Port, Ipv4Hint, Ipv6Hint, Opaque, ParameterForm}
-use Rattle.dns_fields.specs.Tlvs.{IsEmittable, IsBody, ParameterHeld, form_for}
+use Rattle.dns_fields.specs.Tlvs.{IsEmittable, IsBody, ParameterHeld}
 use Rattle.dns_fields.specs.Tlvs.{parameter_octets, parameter_emittable}
-use Rattle.dns_rows.specs.Rules.{is_text_key, HasText}
+use Rattle.dns_rows.specs.Rules.{HasText}
 use Rattle.dns_names_wire.specs.{State.Writing, Terms.EmitsOctets}
 use Rattle.dns_rdata_base.specs.{declared.aaaa.AAAA.AAAA, AAAA.aaaa_text, declared.a.A.A, Lossy.lossy, A.a_text}
 use Rattle.dns_rdata_service.specs.{SvcParamKey.key_number, SvcParamKey.key_variant, SvcParamKey.key_of, SvcParamKey.key_text}
