@@ -22,20 +22,20 @@ pub record Made (octets : List ℕ) (offset : ℕ) (xs : List Pair) : Type 0 whe
   pub complete : CompleteOptions octets 0 (map pair_value xs) offset
   pub read : xs ≡ map pair_of (map pair_value xs)
 
-pub made_none : (octets : List ℕ) → Made octets 0 []
-made_none octets = record {
+pub made_none : {xs : List Pair} (octets : List ℕ) → xs ≡ [] → Made octets 0 xs
+made_none octets e = subst (Made octets 0) (sym e) (record {
   count = 0;
   parts = parts_first octets;
   complete = record { read = []; at = record { ends = omega arith; within = omega arith; same = refl }; fit = tt; held = tt };
   read = refl;
-}
+})
 
 -- one pair more
-pub made_more : {octets body : List ℕ} {offset end n : ℕ} {xs ys : List Pair} {code : EdnsCode} {x : EdnsOption} → Made octets offset xs
+pub made_more : {octets body : List ℕ} {offset end n : ℕ} {xs ys : List Pair} {code : EdnsCode} (x : EdnsOption) → Made octets offset xs
     → (offset + 4 ≤ end) × (end ≤ length octets) → (t : TlvThere octets offset end)
     → ((key : ℕ) (body : List ℕ) (to : ℕ) → IsTlvAt octets offset key body to → end ≡ to)
     → n ≡ t.key → code ≡ edns_code_of n → body ≡ t.body → IsOptionOf code body x → ys ≡ xs ++ (code, x) ∷ [] → Made octets end ys
-made_more {octets} {body} {offset} {end} {n} {xs} {ys} {code} {x} m room t is key named same h pushed =
+made_more {octets} {body} {offset} {end} {n} {xs} {ys} {code} x m room t is key named same h pushed =
     let number : edns_code_number code ≡ t.key = ap edns_code_number named ∙ edns_code_number-of n ∙ key in
     let whole : edns_code_of t.key ≡ code = ap edns_code_of (sym key) ∙ sym named in
     let v : HeldAs t.key t.body x = subst (λ (k : ℕ). HeldAs k t.body x) number

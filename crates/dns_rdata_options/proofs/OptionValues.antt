@@ -37,7 +37,7 @@ three_else : (n : ℕ) (x y : EdnsOption) → n ≢ 3 → cond (n == 3) x y ≡ 
 three_else n x y h = let no : (n == 3) ≡ false = grind (arith, nat_tests) in rw no refl
 
 -- what a code and octets give holds these octets' value, and is the option that the value gives
-held_code : (code : EdnsCode) (s : List ℕ) (x : EdnsOption) → edns_code_of (edns_code_number code) ≡ code → IsOptionOf code s x
+pub held_code : (code : EdnsCode) (s : List ℕ) (x : EdnsOption) → edns_code_of (edns_code_number code) ≡ code → IsOptionOf code s x
     → HeldAs (edns_code_number code) s x
 held_code codes.Subnet s (edns.Subnet x) e h = record {
   held = (refl, h.1.fits, drop (length (option_octets (subnet_value x))) s, begun h.1.at);
