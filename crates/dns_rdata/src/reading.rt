@@ -50,13 +50,14 @@ pub(crate) fn read_error(
         // Unreachable: the type is one that is read.
         return DecodeError::Memory;
     };
-    let Ok(mut again) = decoder.clone(start) else {
+    let Ok(again) = decoder.clone(start) else {
         // Unreachable: the offset is in the message.
         return DecodeError::Memory;
     };
+    let mut walk = again.walk();
     // The quick way of a view is left out: it would only say that it does not know.
-    let outcome = RDataRef::read_row(&mut again, record_type, parts, length);
-    *decoder = again;
+    let outcome = RDataRef::read_row(&mut walk, record_type, parts, length, &mut usize::MAX);
+    decoder.follow(&walk);
     match outcome {
         // Unreachable: the record's reader found no value in the same octets.
         Ok(_) => DecodeError::Memory,
