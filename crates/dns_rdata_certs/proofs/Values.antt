@@ -90,5 +90,5 @@ cert_keys-same a b x y =
 pub whole_cert : (octets : List ℕ) (new : Reading) (r : Result CERT DecodeError) → AreOctets octets → length octets < 65536
     → ReadsTo cert_shape MeetsCertCondition (length octets) cert_fields r (record { message = octets; index = 0 }) new → ReadsWholeCert octets r
 whole_cert octets new (Ok x) o short h = record { octets = o; short = short; within = omega arith; stands = rw (← h.1.0) h.0.stands; holds = h.1.1 }
-whole_cert octets new (Err e) o short h = unless_map e _ _ (λ (l : Lacks (record { message = octets; index = 0 }) cert_shape (λ vs q. (q ≡ length octets) × MeetsCertCondition vs)).
-    record { none = λ vs w. l.none vs (length octets) w.stands (refl, w.holds) }) h.none
+whole_cert octets new (Err e) o short h = unless_map e _ _ (λ (l : Lacks (record { message = octets; index = 0 }) cert_shape (λ vs q. (q ≡ 0 + length octets) × MeetsCertCondition vs)).
+    record { none = λ vs w. l.none vs (0 + length octets) w.stands (refl, w.holds) }) h.none
