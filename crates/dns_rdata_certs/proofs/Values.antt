@@ -1,6 +1,6 @@
 -- Records by their fields: each record that was read is told by them, and any fields make one. What is compared of two
 -- records that were read is the same exactly where their fields are.
-use Rattle.std.proofs.Common.{◌≡◌, ◌↔◌, ◌<◌, ℕ, List, length, Result, Ok, Err, refl, sym, ap, arith}
+use Rattle.std.proofs.Common.{◌≡◌, ◌↔◌, ◌<◌, ◌+◌, ℕ, List, length, Result, Ok, Err, refl, sym, ap, arith}
 use Rattle.dns_types.specs.declared.error.DecodeError.{DecodeError}
 use Rattle.dns_fields.specs.Octets.{AreOctets}
 use Rattle.dns_names_wire.specs.{Terms.Lacks, Terms.ReadsTo, State.Reading}
