@@ -34,3 +34,7 @@ returns-clause-after_read c =
     let h = c.in-Ok.ensures.there in
     let k = csync_left h c.in_ok-read_u32.ensures.taken c.in_ok-read_u16.ensures.taken in
     (c.with_flags.ensures.read, omega (arith, c.index.ensures.offset, c.new-left.ensures, k, h.took.reached, c.in_ok-type_bit_maps.ensures.fields.1.0))
+
+pub overflow_sub-end : goal.overflow_sub-end
+overflow_sub-end c =
+    omega (arith, c.index.ensures.offset, csync_left c.in-Ok.ensures.there c.in_ok-read_u32.ensures.taken c.in_ok-read_u16.ensures.taken)
