@@ -10,7 +10,7 @@ use Rattle.dns_fields.specs.{Fields.Values, Fields.AllFit, Fields.Same, Fields.F
 use Rattle.dns_fields.specs.declared.Kind.{TheVariants.Number, TheVariants.Octets, TheVariants.CharacterString, TheVariants.Rest}
 use Rattle.dns_rdata_policy.specs.CAA.{caa_shape, caa_fields, caa_flags, caa_key_shape, caa_keys, critical_number, IsReadCaa}
 use Rattle.dns_rows.specs.Rules.{AreLetters, IsTag}
-use Rattle.dns_rdata_policy.specs.{CAA.IsTagError, CAA.IsCaaError, declared.caa.CAA.CAA}
+use Rattle.dns_rdata_policy.specs.{declared.caa.CAA.CAA}
 use Rattle.std.proofs.lemmas.List.{length-append, get_or-take, get_or-append_right, Folds.list_all_at}
 use Rattle.dns_names_wire.proofs.FieldReads.{unless_all, took_stays, took_then, took_last, took_number}
 use Rattle.dns_names_wire.proofs.Strings.{text_taken, at_rest}

@@ -110,20 +110,20 @@ flags_there {end = end} h f l =
     number_there set_shape h.took.fields.values.1 end (took_first (Number 2 ∷ Bitmap ∷ []) h.took.fields.values end tt f h.took.fields.stands).1 l
 
 -- the types are not kept: memory ran out
-pub types_stop : {n m end serial flags : ℕ} {e : DecodeError} {old a b c : Reading} → RowThere rows.CSYNC n old (moved old end) → TookField old (Number 4) serial a
+pub types_stop : (m : ℕ) {n end serial flags : ℕ} {e : DecodeError} {old a b c : Reading} → RowThere rows.CSYNC n old (moved old end) → TookField old (Number 4) serial a
     → TookField a (Number 2) flags b → b.index + m ≡ end → Refused e b set_shape (λ vs q. (q ≡ b.index + m) × Unit {0}) c → ReadsRow csync_facts n (Err e) old c
-types_stop {n} {m} {end} {e = e} {old} {b = b} h f g left r = (
+types_stop m {n} {end} {e = e} {old} {b = b} h f g left r = (
   took_stays f (took_stays g r.behind),
   unless_map e _ _ (λ (l : Lacks b set_shape (λ vs q. (q ≡ b.index + m) × Unit {0})).
       absurd (l.none h.took.fields.values.1.1 end (csync_head h f g).2 (omega (arith, left), tt))) r.none,
 )
 
 -- the fields that were read are those of the row, and end where it ends
-pub csync_read : {n m end serial flags : ℕ} (x : CSYNC) {types : List ℕ} {old a b c : Reading} (h : RowThere rows.CSYNC n old (moved old end))
+pub csync_read : (m : ℕ) {n end serial flags : ℕ} (x : CSYNC) {types : List ℕ} {old a b c : Reading} (h : RowThere rows.CSYNC n old (moved old end))
     → TookField old (Number 4) serial a → TookField a (Number 2) flags b → b.index + m ≡ end
     → Took b set_shape (set_fields types) c × ((c.index ≡ b.index + m) × Unit {0}) → csync_fields x ≡ (serial, (flags, (types, tt)))
     → ReadsRow csync_facts n (Ok x) old c
-csync_read {n} {m} {end} x {types} {old} {a} {b} {c} h f g left t fields =
+csync_read m {n} {end} x {types} {old} {a} {b} {c} h f g left t fields =
     let s = csync_head h f g in
     let there : c.index ≡ end = omega (arith, left, t.1.0) in
     let own : Field b.message b.index Bitmap types end = subst (λ (q : ℕ). Field b.message b.index Bitmap types q) (t.0.stands.2 ∙ there) t.0.stands.1 in

@@ -16,9 +16,12 @@ mod values;
 use bstr::BStr;
 use dns_canonical::{Head, Step, Tail, one_behind, rest_behind, text_behind};
 use dns_check::DecodesRow;
-use dns_rows::{Part, row};
-use dns_names_wire::{BinDecoder, BinEncodable, BinEncoder, DecodeError, ParseError, ProtoError, Record, Restrict, SmallOctets};
+use dns_names_wire::{
+    BinDecoder, BinEncodable, BinEncoder, DecodeError, ParseError, ProtoError, Record, Restrict,
+    SmallOctets,
+};
 use dns_rdata_base::{OrderedRecord, cmp_each_field, in_order, verify_flags};
+use dns_rows::{Part, row};
 use dns_tokens::{Field, next_kept, next_u8, number_field};
 pub use issuer::{KeyValue, read_iodef, read_issuer};
 use std::alloc::{AllocError, Global};

@@ -19,7 +19,7 @@ returns-in_err-type_bit_maps-clause-reads c =
     let g = c.in_ok-read_u16.ensures.taken in
     let left : c.read_u16.new.self.index + c.new-left.result ≡ c.in-Ok.end = omega (arith, c.index.ensures.offset, c.new-left.ensures, csync_left h f g) in
     let p = err_from_is_err_and c.from_residual-in_err-type_bit_maps.result c.from_residual-in_err-type_bit_maps.ensures.1 in
-    rw (p.1, p.2) (types_stop h f g left c.in_err-type_bit_maps.ensures.fields)
+    rw (p.1, p.2) (types_stop c.new-left.result h f g left c.in_err-type_bit_maps.ensures.fields)
 
 pub returns-clause-reads : goal.returns-clause-reads
 returns-clause-reads c =
@@ -27,14 +27,10 @@ returns-clause-reads c =
     let f = c.in_ok-read_u32.ensures.taken in
     let g = c.in_ok-read_u16.ensures.taken in
     let left : c.read_u16.new.self.index + c.new-left.result ≡ c.in-Ok.end = omega (arith, c.index.ensures.offset, c.new-left.ensures, csync_left h f g) in
-    csync_read c.with_flags.result h f g left c.in_ok-type_bit_maps.ensures.fields (rw (c.unverified-soa_serial.ensures, c.unverified-flags.ensures) at c.with_flags.ensures.fields)
+    csync_read c.new-left.result c.with_flags.result h f g left c.in_ok-type_bit_maps.ensures.fields (rw (c.unverified-soa_serial.ensures, c.unverified-flags.ensures) at c.with_flags.ensures.fields)
 
 pub returns-clause-after_read : goal.returns-clause-after_read
 returns-clause-after_read c =
     let h = c.in-Ok.ensures.there in
     let k = csync_left h c.in_ok-read_u32.ensures.taken c.in_ok-read_u16.ensures.taken in
     (c.with_flags.ensures.read, omega (arith, c.index.ensures.offset, c.new-left.ensures, k, h.took.reached, c.in_ok-type_bit_maps.ensures.fields.1.0))
-
-pub overflow_sub-end : goal.overflow_sub-end
-overflow_sub-end c =
-    omega (arith, c.index.ensures.offset, csync_left c.in-Ok.ensures.there c.in_ok-read_u32.ensures.taken c.in_ok-read_u16.ensures.taken)
