@@ -22,12 +22,13 @@ use Rattle.dns_rdata_service.proofs.SvcbValues.{key_number-of}
 
 -- what is left of any parameters that fill the octets, after those that were made
 pub record Made (octets : List ℕ) (offset : ℕ) (ps : List Parameter) : Type 0 where
+  pub inside : offset ≤ length octets
   pub read : AreRead ps
   pub rest : (v : List (Numbered ParameterValue)) → Field octets 0 Parameters v (length octets) → (rest : List (Numbered ParameterValue))
       × (v ≡ map parameter_of ps ++ rest) × StandEach OneOf octets offset rest (length octets)
 
 pub made_none : (octets : List ℕ) → Made octets 0 []
-made_none octets = record { read = refl; rest = λ v f. (v, refl, parameters_each f) }
+made_none octets = record { inside = omega arith; read = refl; rest = λ v f. (v, refl, parameters_each f) }
 
 read_push : (ps : List Parameter) (p : Parameter) → AreRead ps → p ≡ parameter_from (parameter_of p) → AreRead (ps ++ p ∷ [])
 read_push ps p g e =
@@ -51,6 +52,7 @@ made_more {octets} {body} {offset} {end} {n} {ps} {qs} {key} {x} m t ends is nam
     } in
     let values : map parameter_of qs ≡ map parameter_of ps ++ parameter_of p ∷ [] = ap (map parameter_of) pushed ∙ map_push parameter_of ps p in
     record {
+      inside = ends.room.1;
       read = subst AreRead (sym pushed) (read_push ps p m.read given);
       rest = λ v f.
           let r = m.rest v f in
@@ -119,10 +121,10 @@ svcb_read {n} {end} {priority} {len} {target} {octets} {params} {old} {a} {b} {c
       (λ i. (s.0 i, (s.1 i, (same i, tt)))),
     )
 
-pub svcb_row : {n end priority : ℕ} {target : DomainName} {ps : List Parameter} {old c : Reading} (h : RowThere rows.SVCB n old (moved old end))
+pub svcb_row : {n end priority : ℕ} {target : DomainName} (ps : List Parameter) {old c : Reading} (h : RowThere rows.SVCB n old (moved old end))
     → (c ≡ moved old end) × ((priority, (target, (map parameter_of ps, tt))) ≡ h.took.fields.values)
     → ReadsRow svcb_facts n (Ok (record { svc_priority = priority; target_name = target; svc_params = ps })) old c
-svcb_row {n} {end} {priority} {target} {ps} {old} h r =
+svcb_row {n} {end} {priority} {target} ps {old} h r =
     let x : SVCB = record { svc_priority = priority; target_name = target; svc_params = ps } in
     subst (λ (d : Reading). ReadsRow svcb_facts n (Ok x) old d) (sym r.0) (row_reads svcb_facts x tt h r.1)
 

@@ -8,11 +8,9 @@ ghost use Rattle.dns_rdata_service.specs.SvcParamValue.{alpn_value, AlpnAt, IsVa
 
 use crate::items::Items;
 use bstr::BStr;
-use dns_check::parameter_values::is_text;
 use dns_check::BinDecodable;
-use dns_names_wire::{
-    BinDecoder, BinEncodable, BinEncoder, DecodeError, ProtoError, SmallOctets,
-};
+use dns_check::parameter_values::is_text;
+use dns_names_wire::{BinDecoder, BinEncodable, BinEncoder, DecodeError, ProtoError, SmallOctets};
 use std::alloc::{AllocError, Global};
 use std::fmt;
 

@@ -6,11 +6,9 @@ ghost use Rattle.dns_rdata_service.specs.SvcParamValue.{doh_path_value, DohPathA
 
 use crate::svcb::unknown::emit_octets;
 use bstr::BStr;
-use dns_check::parameter_values::is_text;
 use dns_check::BinDecodable;
-use dns_names_wire::{
-    BinDecoder, BinEncodable, BinEncoder, DecodeError, ProtoError, SmallOctets,
-};
+use dns_check::parameter_values::is_text;
+use dns_names_wire::{BinDecoder, BinEncodable, BinEncoder, DecodeError, ProtoError, SmallOctets};
 use std::alloc::AllocError;
 use std::fmt;
 

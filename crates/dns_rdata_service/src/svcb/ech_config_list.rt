@@ -7,9 +7,7 @@ ghost use Rattle.dns_rdata_service.specs.SvcParamValue.{ech_value, EchConfigList
 
 use crate::svcb::unknown::emit_octets;
 use dns_check::BinDecodable;
-use dns_names_wire::{
-    BinDecoder, BinEncodable, BinEncoder, DecodeError, Octets, ProtoError,
-};
+use dns_names_wire::{BinDecoder, BinEncodable, BinEncoder, DecodeError, Octets, ProtoError};
 use dns_tokens::Base64Text;
 use std::alloc::AllocError;
 use std::fmt;

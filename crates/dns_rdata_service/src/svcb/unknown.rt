@@ -7,9 +7,7 @@ ghost use Rattle.dns_rdata_service.specs.SvcParamValue.{unknown_value, UnknownAt
 
 use bstr::BStr;
 use dns_check::BinDecodable;
-use dns_names_wire::{
-    BinDecoder, BinEncodable, BinEncoder, DecodeError, Octets, ProtoError,
-};
+use dns_names_wire::{BinDecoder, BinEncodable, BinEncoder, DecodeError, Octets, ProtoError};
 use std::alloc::AllocError;
 use std::fmt;
 
