@@ -1,13 +1,13 @@
 -- RDATA that is looked at is the RDATA of a value.
 use Rattle.std.proofs.Common.{◌≡◌, ◌≢◌, ℕ, ◌+◌, ◌<◌, ◌≤◌, true, false, List, [], ◌∷◌, ◌++◌, length, Result, Ok, Err, ⊎_elim, refl, sym, ap, ◌∙◌, arith, subst}
-use Rattle.std.specs.{Result.IfErr, Result.OnOk, Cmp.Lexicographic.slice_cmp, Ordering.nat_cmp, Ordering.is_eq, declared.cmp.Ordering.Ordering}
+use Rattle.std.specs.{Result.IfOk, Result.IfErr, Result.OnOk, Cmp.Lexicographic.slice_cmp, Ordering.nat_cmp, Ordering.is_eq, declared.cmp.Ordering.Ordering}
 use Rattle.dns_types.specs.{declared.error.DecodeError.DecodeError, declared.record_type.RecordType.RecordType}
 use Rattle.dns_types.specs.declared.error.DecodeError.TheVariants as decode
 use Rattle.dns_types.specs.declared.record_type.RecordType.TheVariants as types
 use Rattle.dns_fields.specs.Fields.{Value, Values, canonical}
 use Rattle.dns_fields.specs.declared.Kind.{Kind}
-use Rattle.dns_fields.specs.declared.Kind.TheVariants.{Name}
-use Rattle.dns_names_wire.specs.{State.Reading, Terms.StaysBehind}
+use Rattle.dns_fields.specs.declared.Kind.TheVariants.{Octets, Name}
+use Rattle.dns_names_wire.specs.{State.Reading, Terms.TookField, Terms.LacksOctets, Terms.StaysBehind}
 use Rattle.dns_rows.specs.{declared.row.Part.Part, Rules.MeetsRow}
 use Rattle.dns_rows.specs.Table.{TypeRow, fields as row, unread, formatless, table, kinds_of}
 use Rattle.dns_check.specs.{Checks.FillsRow, Checks.NoFill, Checks.IsRowError, Rows.SkipsRow, Rows.is_row}
@@ -89,13 +89,21 @@ row_value_is m p n t read f =
     }) in
     record { value = v.0; fills = v.1 }
 
--- ---- the same for a walk
+-- ---- the same for a walk that begins where the decoder is
 
 reading_is : {a b : Reading} → a.message ≡ b.message → a.index ≡ b.index → a ≡ b
 reading_is {a} {b} m i = ap (λ (x : List ℕ). record { message = x; index = a.index }) m ∙ ap (λ (y : ℕ). record { message = b.message; index = y }) i
 
 pub starts_at : {d old : Reading} {m : List ℕ} {i : ℕ} → d ≡ record { message = m; index = i } → m ≡ old.message → i ≡ old.index → d ≡ old
 starts_at {d} {old} {m} {i} is same at = is ∙ reading_is {a = record { message = m; index = i }} {b = old} same at
+
+-- the decoder is moved to where the walk is
+pub moved : {X : Type 0} (r : Result X DecodeError) (octets : X → List ℕ) (k : ℕ) (d walk new : Reading) → walk.message ≡ d.message → walk.index ≡ d.index + k
+    → walk.index ≤ length walk.message → IfOk r (λ x. TookField d (Octets k) (octets x) new)
+    → IfErr r (λ e. (e ≡ decode.InsufficientBytes) × LacksOctets d k) → new ≡ walk
+moved (Ok x) octets k d walk new same at inside took lacks =
+    reading_is (took.message ∙ sym same) (omega (arith, took.field.is.0, took.field.is.1.ends, at))
+moved (Err e) octets k d walk new same at inside took lacks = absurd (omega (arith, lacks.1, at, inside, ap length same))
 
 filled_as : {m l : List ℕ} {p q n k : ℕ} {parts others : List Part} → m ≡ l → p ≡ q → n ≡ k → parts ≡ others → FillsRow m p n parts → FillsRow l q k others
 filled_as {m} {l} {p} {q} {n} {k} {parts} {others} a b c d f =
@@ -119,13 +127,16 @@ view_found t n old d parts r same is read v =
       filled = row_value_is old.message old.index n t read (filled_as w.message w.offset w.len w.row w.fills);
     }
 
-pub view_none : (t : RecordType) (n : ℕ) (old : Reading) (parts : List Part) → parts ≡ parts_of (table t) → NoFill old.message old.index n parts
+pub view_none : (t : RecordType) (n : ℕ) (old d : Reading) (parts : List Part) → d ≡ old → parts ≡ parts_of (table t) → NoFill d.message d.index n parts
     → NoValue old.message old.index n t
-view_none t n old parts is w = row_none old.message old.index n t (subst (λ (x : List Part). NoFill old.message old.index n x) is w)
+view_none t n old d parts same is w = row_none old.message old.index n t
+    (subst (λ (x : List Part). NoFill old.message old.index n x) is (subst (λ (x : Reading). NoFill x.message x.index n parts) same w))
 
-pub view_why : (t : RecordType) (n : ℕ) (old new : Reading) (e : DecodeError) (parts : List Part) → parts ≡ parts_of (table t) → (IsNeverRead t → ⊥)
-    → IsRowError parts n old e new → IsReadError t n old new e × (e ≢ decode.Memory)
-view_why t n old new e parts is read w = row_why t n old new e read (subst (λ (x : List Part). IsRowError x n old e new) is w)
+pub view_why : (t : RecordType) (n : ℕ) (old d walk new : Reading) (e : DecodeError) (parts : List Part) → d ≡ old → parts ≡ parts_of (table t)
+    → (IsNeverRead t → ⊥) → new ≡ walk → IsRowError parts n d e walk → IsReadError t n old new e × (e ≢ decode.Memory)
+view_why t n old d walk new e parts same is read at w = row_why t n old new e read
+    (subst (λ (x : Reading). IsRowError (parts_of (table t)) n old e x) (sym at)
+    (subst (λ (x : List Part). IsRowError x n old e walk) is (subst (λ (x : Reading). IsRowError parts n x e walk) same w)))
 
 -- ---- the record's own result
 

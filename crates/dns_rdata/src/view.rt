@@ -116,8 +116,7 @@ impl<'a> RDataRef<'a> {
             return Err(DecodeError::UnknownRecordTypeValue(record_type.into()));
         };
         let len = length.unverified();
-        // RDATA that is not damaged is mostly checked without a `Result`, which is passed in memory, and its view is returned
-        // here. A call of `read_in` would take some more instructions for that.
+        // RDATA that is not damaged is mostly checked without a `Result`, which is passed in memory, and its view is returned here.
         if let Some(view) = RowView::near(
             decoder.message(),
             start,
@@ -127,13 +126,39 @@ impl<'a> RDataRef<'a> {
             len,
             &mut usize::MAX,
         ) {
-            decoder.follow(&Walk::at(decoder.message(), start + len as usize));
+            let _taken = decoder.read_slice(len as usize);
             return Ok(RDataRef { view });
         }
-        let mut walk = decoder.walk();
-        let outcome = RDataRef::read_row(&mut walk, record_type, parts, length, &mut usize::MAX);
-        decoder.follow(&walk);
-        outcome
+        RDataRef::read_row(decoder, record_type, parts, length)
+    }
+
+    // The same by the row of the type, with the error of RDATA that is damaged. What it keeps is apart from `read`, which
+    // clears no room for it then.
+    #[inline(always)]
+    pub(crate) fn read_row(
+        decoder: &mut BinDecoder<'a>,
+        record_type: RecordType,
+        parts: &'static [Part],
+        length: Restrict<u16>,
+    ) -> Result<RDataRef<'a>, DecodeError>
+        requires parts { parts.now ≡ parts_of (table record_type) }
+        requires read { IsNeverRead record_type → ⊥ }
+        ensures found { IfOk result (IsViewOf decoder.old.message decoder.old.index length record_type) }
+        ensures after { OnOk result (decoder.new.index ≡ decoder.old.index + length) }
+        ensures refused { IfErr result (λ e. NoValue decoder.old.message decoder.old.index length record_type) }
+        ensures why { IfErr result (IsReadError record_type length decoder.old decoder.new) }
+        ensures allocates_nothing { IfErr result (λ e. e ≢ DecodeError.Memory) }
+        ensures behind { StaysBehind decoder.old decoder.new }
+    {
+        let start = decoder.index();
+        let mut walk = Walk::at(decoder.message(), start);
+        let mut unlimited = usize::MAX;
+        let outcome = RowView::read(&mut walk, record_type, parts, length, &mut unlimited);
+        let _taken = decoder.read_slice(walk.index() - start);
+        match outcome {
+            Ok(view) => Ok(RDataRef { view }),
+            Err(e) => Err(e),
+        }
     }
 
     /// The same by a decoder without an allocator: checks that the next `length` octets are the RDATA of a record of this type.
@@ -156,8 +181,6 @@ impl<'a> RDataRef<'a> {
         ensures refused { IfErr result (λ e. NoValue walk.old.message walk.old.index length record_type) }
         ensures why { IfErr result (IsReadError record_type length walk.old walk.new) }
         ensures allocates_nothing { IfErr result (λ e. e ≢ DecodeError.Memory) }
-        ensures never { IsNeverRead record_type → (walk.new ≡ walk.old)
-            × (result ≡ Err (DecodeError.UnknownRecordTypeValue (number_of record_type))) }
         ensures behind { StaysBehind walk.old walk.new }
         ensures steps { Leaves (RDataSteps record_type length walk.old) left.old left.new }
     {
@@ -175,32 +198,9 @@ impl<'a> RDataRef<'a> {
             len,
             left,
         ) {
-            walk.move_to(start + len as usize);
+            let _taken = walk.read_slice(len as usize);
             return Ok(RDataRef { view });
         }
-        RDataRef::read_row(walk, record_type, parts, length, left)
-    }
-
-    // The same by the row of the type, with the error of RDATA that is damaged. What it keeps is apart from `read`, which
-    // clears no room for it then.
-    #[inline(always)]
-    pub(crate) fn read_row(
-        walk: &mut Walk<'a>,
-        record_type: RecordType,
-        parts: &'static [Part],
-        length: Restrict<u16>,
-        left: &mut usize,
-    ) -> Result<RDataRef<'a>, DecodeError>
-        requires parts { parts.now ≡ parts_of (table record_type) }
-        requires read { IsNeverRead record_type → ⊥ }
-        ensures found { IfOk result (IsViewOf walk.old.message walk.old.index length record_type) }
-        ensures after { OnOk result (walk.new.index ≡ walk.old.index + length) }
-        ensures refused { IfErr result (λ e. NoValue walk.old.message walk.old.index length record_type) }
-        ensures why { IfErr result (IsReadError record_type length walk.old walk.new) }
-        ensures allocates_nothing { IfErr result (λ e. e ≢ DecodeError.Memory) }
-        ensures behind { StaysBehind walk.old walk.new }
-        ensures steps { Leaves (RDataSteps record_type length walk.old) left.old left.new }
-    {
         match RowView::read(walk, record_type, parts, length, left) {
             Ok(view) => Ok(RDataRef { view }),
             Err(e) => Err(e),
@@ -231,20 +231,19 @@ impl<'a> RDataRef<'a> {
             × (result ≡ Err (DecodeError.UnknownRecordTypeValue (number_of record_type))) }
         ensures behind { StaysBehind decoder.old decoder.new }
     {
+        let start = decoder.index();
         let Some((parts, front)) = parts_of_type(record_type) else {
             return Err(DecodeError::UnknownRecordTypeValue(record_type.into()));
         };
         let len = length.unverified() as usize;
-        let start = decoder.index();
         if is_near(decoder.message(), start, parts, front, len, &mut usize::MAX) {
-            decoder.follow(&Walk::at(decoder.message(), start + len));
+            let _taken = decoder.read_slice(len);
             return Ok(());
         }
-        let mut walk = decoder.walk();
-        let own = skip_row(&mut walk, parts, len, &mut usize::MAX);
-        // For the proof: brings in that the walk ends inside the message.
-        let _end = walk.index();
-        decoder.follow(&walk);
+        let mut walk = Walk::at(decoder.message(), start);
+        let mut unlimited = usize::MAX;
+        let own = skip_row(&mut walk, parts, len, &mut unlimited);
+        let _taken = decoder.read_slice(walk.index() - start);
         own
     }
 
