@@ -26,8 +26,8 @@ use dns_names_wire::{
     BinDecoder, BinEncodable, BinEncoder, DecodeError, EncodesFields, Name, ProtoError,
     RDataEncoding, RecordType, Restrict, emit_in,
 };
-use dns_rows::row;
 use dns_rdata_base::ordered::is_equal;
+use dns_rows::row;
 use std::alloc::AllocError;
 use std::fmt;
 use std::hash::{Hash, Hasher};

@@ -12,10 +12,13 @@ mod enums;
 use base64::engine::general_purpose::STANDARD;
 use dns_canonical::{AtOnce, Head, Tail, one_behind, rest_behind, two_behind};
 use dns_check::DecodesRow;
-use dns_rows::{Part, row};
-use dns_names_wire::{BinDecoder, BinEncodable, BinEncoder, DecodeError, ParseError, ProtoError, Record, Restrict, SmallOctets};
+use dns_names_wire::{
+    BinDecoder, BinEncodable, BinEncoder, DecodeError, ParseError, ProtoError, Record, Restrict,
+    SmallOctets,
+};
 use dns_rdata_base::rest::rest_order;
 use dns_rdata_base::{OrderedRecord, cmp_each_field};
+use dns_rows::{Part, row};
 use dns_tokens::{Base64Text, Field, base64_field, next_base64, next_u8, next_u16};
 pub use enums::{Algorithm, CertType};
 use std::alloc::{AllocError, Global};

@@ -8,9 +8,11 @@ ghost use Rattle.dns_tokens.specs.Reads.{ReadsTokenRow};
 use crate::tlsa::{CertUsage, Matching, Selector, TLSA};
 use dns_canonical::{AtOnce, Head, Tail};
 use dns_check::DecodesRow;
-use dns_rows::{Part, row};
-use dns_names_wire::{BinDecoder, BinEncodable, BinEncoder, DecodeError, ParseError, ProtoError, Record, Restrict};
+use dns_names_wire::{
+    BinDecoder, BinEncodable, BinEncoder, DecodeError, ParseError, ProtoError, Record, Restrict,
+};
 use dns_rdata_base::OrderedRecord;
+use dns_rows::{Part, row};
 use std::alloc::Global;
 use std::cmp::Ordering;
 use std::convert::AsStr;

@@ -13,10 +13,13 @@ use crate::hexadecimal::{HEX, Hexadecimal};
 pub use algorithm::Algorithm;
 use dns_canonical::{AtOnce, Head, Tail, one_behind, rest_behind};
 use dns_check::DecodesRow;
-use dns_rows::{Part, row};
-use dns_names_wire::{BinDecoder, BinEncodable, BinEncoder, DecodeError, ParseError, ProtoError, Record, Restrict, SmallOctets};
+use dns_names_wire::{
+    BinDecoder, BinEncodable, BinEncoder, DecodeError, ParseError, ProtoError, Record, Restrict,
+    SmallOctets,
+};
 use dns_rdata_base::rest::rest_order;
 use dns_rdata_base::{OrderedRecord, cmp_each_field};
+use dns_rows::{Part, row};
 use dns_tokens::{Field, next_token, next_u8, no_more, number_field};
 pub use fingerprint_type::FingerprintType;
 use std::alloc::Global;
@@ -129,10 +132,7 @@ impl DecodesRow for SSHFP {
 
     /// Reads two octets of numbers, and the rest of RDLENGTH. Allocates once if the rest is more than 64 octets.
     #[inline]
-    fn read_row(
-        decoder: &mut BinDecoder<'_>,
-        length: Restrict<u16>,
-    ) -> Result<SSHFP, DecodeError> {
+    fn read_row(decoder: &mut BinDecoder<'_>, length: Restrict<u16>) -> Result<SSHFP, DecodeError> {
         let start = decoder.index();
         let algorithm = Algorithm::from(decoder.read_u8()?.unverified());
         let fingerprint_type = FingerprintType::from(decoder.read_u8()?.unverified());

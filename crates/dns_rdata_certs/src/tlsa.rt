@@ -12,10 +12,13 @@ mod enums;
 use crate::hexadecimal::{HEX, Hexadecimal};
 use dns_canonical::{AtOnce, Head, Tail, one_behind, rest_behind};
 use dns_check::DecodesRow;
-use dns_rows::{Part, row};
-use dns_names_wire::{BinDecoder, BinEncodable, BinEncoder, DecodeError, ParseError, ProtoError, Record, Restrict, SmallOctets};
+use dns_names_wire::{
+    BinDecoder, BinEncodable, BinEncoder, DecodeError, ParseError, ProtoError, Record, Restrict,
+    SmallOctets,
+};
 use dns_rdata_base::rest::rest_order;
 use dns_rdata_base::{OrderedRecord, cmp_each_field};
+use dns_rows::{Part, row};
 use dns_tokens::{Field, join_tokens, next_u8, number_field};
 pub use enums::{CertUsage, Matching, Selector};
 use std::alloc::Global;
