@@ -34,6 +34,7 @@ ASKED = (
 IMPLIED = {
     "Error": ["Display"],
     "DecodesFields": ["RecordDataDecodable"],
+    "DecodesRow": ["RecordDataDecodable"],
     "EncodesFields": ["BinEncodable"],
     "Variant": ["RecordData"],
 }

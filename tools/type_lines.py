@@ -670,7 +670,7 @@ def read_goals(kind):
 
         pub returns-in_err-{call} : goal.returns-in_err-{call}
         returns-in_err-{call} c =
-            fails types.{name} {failed}.result c.in-{name}.is {failed}.ensures.1 (λ h. h) {error}.refused {error}.why {error}.behind
+            fails types.{name} c.args.length _ {failed}.result c.in-{name}.is {failed}.ensures.1 (λ h. h) {error}.refused {error}.why {error}.behind
         """)
 
 

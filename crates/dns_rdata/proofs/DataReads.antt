@@ -72,16 +72,16 @@ abbrev fields_as : (q : TypeRow) → Values (kinds_of (parts_of q)) → FieldsOf
 fields_as q vs = record { kinds = kinds_of (parts_of q); values = vs }
 
 -- any octets are the fields of such a type
-formatless_region : (q : TypeRow) {m : List ℕ} {p n : ℕ} (vs : Values null_shape) → IsFormatless q → Region m p n null_shape (λ _. Unit {0}) vs
+formatless_region : (q : TypeRow) (m : List ℕ) (p n : ℕ) (vs : Values null_shape) → IsFormatless q → Region m p n null_shape (λ _. Unit {0}) vs
     → (ws : Values (kinds_of (parts_of q))) × Region m p n (kinds_of (parts_of q)) (MeetsRule q) ws × (record { kinds = null_shape; values = vs } ≡ fields_as q ws)
-formatless_region (row parts) vs h w = absurd h
-formatless_region unread vs h w = absurd h
-formatless_region formatless vs h w = (vs, w, refl)
+formatless_region (row parts) m p n vs h w = absurd h
+formatless_region unread m p n vs h w = absurd h
+formatless_region formatless m p n vs h w = (vs, w, refl)
 
 pub unknown_read : {n : ℕ} {old new : Reading} (t : RecordType) (x : NULL) → IsUnknownType t → TookWhole old n rows.NULL (null_fields x) new
     → HasRead t n (rdata.Unknown t x) old new
 unknown_read {n} {old} t x none took =
-    let w = formatless_region (table t) {old.message} {old.index} {n} (null_fields x) none took.region in
+    let w = formatless_region (table t) old.message old.index n (null_fields x) none took.region in
     has_read t (λ x. rdata.Unknown t x) (λ x. w.0) x took.message took.index w.1 (record { type = refl; fields = w.2; can_be_read = none })
 
 formatless_parts : (q : TypeRow) → IsFormatless q → parts_of q ≡ rows.NULL
@@ -162,18 +162,18 @@ error_fails t n e old new read none why b = record {
 }
 
 -- where an arm gives no value
-pub fails : {u : RecordType} (t : RecordType) {n : ℕ} {e : DecodeError} {old new : Reading} (r : Result RData DecodeError) → u ≡ t → IsErrAnd r (λ y. y ≡ e)
+pub fails : {u : RecordType} (t : RecordType) (n : ℕ) (e : DecodeError) {old new : Reading} (r : Result RData DecodeError) → u ≡ t → IsErrAnd r (λ y. y ≡ e)
     → (IsNeverRead t → ⊥) → UnlessMemory e (NoFill old.message old.index n (parts_of (table t)))
     → UnlessMemory e (IsRowError (parts_of (table t)) n old e new) → StaysBehind old new → Clauses u n r old new
-fails {u} t {n} {e} {old} {new} r is err read none why b =
+fails {u} t n e {old} {new} r is err read none why b =
     let p = err_from_is_err_and r err in rw (is, p.1, p.2) (error_fails t n e old new read none why b)
 
 -- the same of a type without a format of its own
-pub unknown_fails : (t : RecordType) {n : ℕ} {e : DecodeError} {old new : Reading} (r : Result RData DecodeError) → IsUnknownType t → IsErrAnd r (λ y. y ≡ e)
+pub unknown_fails : (t : RecordType) (n : ℕ) (e : DecodeError) {old new : Reading} (r : Result RData DecodeError) → IsUnknownType t → IsErrAnd r (λ y. y ≡ e)
     → UnlessMemory e (NoFill old.message old.index n rows.NULL) → UnlessMemory e (IsRowError rows.NULL n old e new) → StaysBehind old new → Clauses t n r old new
-unknown_fails t {n} {e} {old} {new} r none err no why b =
+unknown_fails t n e {old} {new} r none err refused why b =
     let same = sym (formatless_parts (table t) none) in
-    fails t r refl err (unknown_once t none) (subst (λ (x : List Part). UnlessMemory e (NoFill old.message old.index n x)) same no)
+    fails t n e r refl err (unknown_once t none) (subst (λ (x : List Part). UnlessMemory e (NoFill old.message old.index n x)) same refused)
     (subst (λ (x : List Part). UnlessMemory e (IsRowError x n old e new)) same why) b
 
 unread_type : {t : RecordType} → (t ≡ types.ANY) ⊎ ((t ≡ types.AXFR) ⊎ (t ≡ types.IXFR)) → IsNeverRead t

@@ -1,4 +1,4 @@
-use Rattle.std.proofs.Common.{refl}
+use Rattle.std.proofs.Common.{refl, arith}
 use Rattle.dns_types.specs.declared.record_type.RecordType.TheVariants as types
 use Rattle.dns_rdata_base.specs as base
 use Rattle.dns_rdata_policy.specs as policy
@@ -16,7 +16,7 @@ returns-in-A c =
 
 pub returns-in_err-read_whole-in-A : goal.returns-in_err-read_whole-in-A
 returns-in_err-read_whole-in-A c =
-    fails types.A c.from_residual.result c.in-A.is c.from_residual.ensures.1 (λ h. h) c.in_err-read_whole-in-A.ensures.refused c.in_err-read_whole-in-A.ensures.why c.in_err-read_whole-in-A.ensures.behind
+    fails types.A c.args.length _ c.from_residual.result c.in-A.is c.from_residual.ensures.1 (λ h. h) c.in_err-read_whole-in-A.ensures.refused c.in_err-read_whole-in-A.ensures.why c.in_err-read_whole-in-A.ensures.behind
 
 pub returns-in-AAAA : goal.returns-in-AAAA
 returns-in-AAAA c =
@@ -25,7 +25,7 @@ returns-in-AAAA c =
 
 pub returns-in_err-read_whole-in-AAAA : goal.returns-in_err-read_whole-in-AAAA
 returns-in_err-read_whole-in-AAAA c =
-    fails types.AAAA c.from_residual-in_err-read_whole-in-AAAA.result c.in-AAAA.is c.from_residual-in_err-read_whole-in-AAAA.ensures.1 (λ h. h) c.in_err-read_whole-in-AAAA.ensures.refused c.in_err-read_whole-in-AAAA.ensures.why c.in_err-read_whole-in-AAAA.ensures.behind
+    fails types.AAAA c.args.length _ c.from_residual-in_err-read_whole-in-AAAA.result c.in-AAAA.is c.from_residual-in_err-read_whole-in-AAAA.ensures.1 (λ h. h) c.in_err-read_whole-in-AAAA.ensures.refused c.in_err-read_whole-in-AAAA.ensures.why c.in_err-read_whole-in-AAAA.ensures.behind
 
 pub returns-in-ANAME : goal.returns-in-ANAME
 returns-in-ANAME c =
@@ -34,7 +34,7 @@ returns-in-ANAME c =
 
 pub returns-in_err-read_whole-in-ANAME : goal.returns-in_err-read_whole-in-ANAME
 returns-in_err-read_whole-in-ANAME c =
-    fails types.ANAME c.from_residual-in_err-read_whole-in-ANAME.result c.in-ANAME.is c.from_residual-in_err-read_whole-in-ANAME.ensures.1 (λ h. h) c.in_err-read_whole-in-ANAME.ensures.refused c.in_err-read_whole-in-ANAME.ensures.why c.in_err-read_whole-in-ANAME.ensures.behind
+    fails types.ANAME c.args.length _ c.from_residual-in_err-read_whole-in-ANAME.result c.in-ANAME.is c.from_residual-in_err-read_whole-in-ANAME.ensures.1 (λ h. h) c.in_err-read_whole-in-ANAME.ensures.refused c.in_err-read_whole-in-ANAME.ensures.why c.in_err-read_whole-in-ANAME.ensures.behind
 
 pub returns-in-CAA : goal.returns-in-CAA
 returns-in-CAA c =
@@ -43,7 +43,7 @@ returns-in-CAA c =
 
 pub returns-in_err-read_whole-in-CAA : goal.returns-in_err-read_whole-in-CAA
 returns-in_err-read_whole-in-CAA c =
-    fails types.CAA c.from_residual-in_err-read_whole-in-CAA.result c.in-CAA.is c.from_residual-in_err-read_whole-in-CAA.ensures.1 (λ h. h) c.in_err-read_whole-in-CAA.ensures.refused c.in_err-read_whole-in-CAA.ensures.why c.in_err-read_whole-in-CAA.ensures.behind
+    fails types.CAA c.args.length _ c.from_residual-in_err-read_whole-in-CAA.result c.in-CAA.is c.from_residual-in_err-read_whole-in-CAA.ensures.1 (λ h. h) c.in_err-read_whole-in-CAA.ensures.refused c.in_err-read_whole-in-CAA.ensures.why c.in_err-read_whole-in-CAA.ensures.behind
 
 pub returns-in-CERT : goal.returns-in-CERT
 returns-in-CERT c =
@@ -52,7 +52,7 @@ returns-in-CERT c =
 
 pub returns-in_err-read_whole-in-CERT : goal.returns-in_err-read_whole-in-CERT
 returns-in_err-read_whole-in-CERT c =
-    fails types.CERT c.from_residual-in_err-read_whole-in-CERT.result c.in-CERT.is c.from_residual-in_err-read_whole-in-CERT.ensures.1 (λ h. h) c.in_err-read_whole-in-CERT.ensures.refused c.in_err-read_whole-in-CERT.ensures.why c.in_err-read_whole-in-CERT.ensures.behind
+    fails types.CERT c.args.length _ c.from_residual-in_err-read_whole-in-CERT.result c.in-CERT.is c.from_residual-in_err-read_whole-in-CERT.ensures.1 (λ h. h) c.in_err-read_whole-in-CERT.ensures.refused c.in_err-read_whole-in-CERT.ensures.why c.in_err-read_whole-in-CERT.ensures.behind
 
 pub returns-in-CNAME : goal.returns-in-CNAME
 returns-in-CNAME c =
@@ -61,7 +61,7 @@ returns-in-CNAME c =
 
 pub returns-in_err-read_whole-in-CNAME : goal.returns-in_err-read_whole-in-CNAME
 returns-in_err-read_whole-in-CNAME c =
-    fails types.CNAME c.from_residual-in_err-read_whole-in-CNAME.result c.in-CNAME.is c.from_residual-in_err-read_whole-in-CNAME.ensures.1 (λ h. h) c.in_err-read_whole-in-CNAME.ensures.refused c.in_err-read_whole-in-CNAME.ensures.why c.in_err-read_whole-in-CNAME.ensures.behind
+    fails types.CNAME c.args.length _ c.from_residual-in_err-read_whole-in-CNAME.result c.in-CNAME.is c.from_residual-in_err-read_whole-in-CNAME.ensures.1 (λ h. h) c.in_err-read_whole-in-CNAME.ensures.refused c.in_err-read_whole-in-CNAME.ensures.why c.in_err-read_whole-in-CNAME.ensures.behind
 
 pub returns-in-CSYNC : goal.returns-in-CSYNC
 returns-in-CSYNC c =
@@ -70,7 +70,7 @@ returns-in-CSYNC c =
 
 pub returns-in_err-read_whole-in-CSYNC : goal.returns-in_err-read_whole-in-CSYNC
 returns-in_err-read_whole-in-CSYNC c =
-    fails types.CSYNC c.from_residual-in_err-read_whole-in-CSYNC.result c.in-CSYNC.is c.from_residual-in_err-read_whole-in-CSYNC.ensures.1 (λ h. h) c.in_err-read_whole-in-CSYNC.ensures.refused c.in_err-read_whole-in-CSYNC.ensures.why c.in_err-read_whole-in-CSYNC.ensures.behind
+    fails types.CSYNC c.args.length _ c.from_residual-in_err-read_whole-in-CSYNC.result c.in-CSYNC.is c.from_residual-in_err-read_whole-in-CSYNC.ensures.1 (λ h. h) c.in_err-read_whole-in-CSYNC.ensures.refused c.in_err-read_whole-in-CSYNC.ensures.why c.in_err-read_whole-in-CSYNC.ensures.behind
 
 pub returns-in-HINFO : goal.returns-in-HINFO
 returns-in-HINFO c =
@@ -79,7 +79,7 @@ returns-in-HINFO c =
 
 pub returns-in_err-read_whole-in-HINFO : goal.returns-in_err-read_whole-in-HINFO
 returns-in_err-read_whole-in-HINFO c =
-    fails types.HINFO c.from_residual-in_err-read_whole-in-HINFO.result c.in-HINFO.is c.from_residual-in_err-read_whole-in-HINFO.ensures.1 (λ h. h) c.in_err-read_whole-in-HINFO.ensures.refused c.in_err-read_whole-in-HINFO.ensures.why c.in_err-read_whole-in-HINFO.ensures.behind
+    fails types.HINFO c.args.length _ c.from_residual-in_err-read_whole-in-HINFO.result c.in-HINFO.is c.from_residual-in_err-read_whole-in-HINFO.ensures.1 (λ h. h) c.in_err-read_whole-in-HINFO.ensures.refused c.in_err-read_whole-in-HINFO.ensures.why c.in_err-read_whole-in-HINFO.ensures.behind
 
 pub returns-in-HTTPS : goal.returns-in-HTTPS
 returns-in-HTTPS c =
@@ -88,7 +88,7 @@ returns-in-HTTPS c =
 
 pub returns-in_err-read_whole-in-HTTPS : goal.returns-in_err-read_whole-in-HTTPS
 returns-in_err-read_whole-in-HTTPS c =
-    fails types.HTTPS c.from_residual-in_err-read_whole-in-HTTPS.result c.in-HTTPS.is c.from_residual-in_err-read_whole-in-HTTPS.ensures.1 (λ h. h) c.in_err-read_whole-in-HTTPS.ensures.refused c.in_err-read_whole-in-HTTPS.ensures.why c.in_err-read_whole-in-HTTPS.ensures.behind
+    fails types.HTTPS c.args.length _ c.from_residual-in_err-read_whole-in-HTTPS.result c.in-HTTPS.is c.from_residual-in_err-read_whole-in-HTTPS.ensures.1 (λ h. h) c.in_err-read_whole-in-HTTPS.ensures.refused c.in_err-read_whole-in-HTTPS.ensures.why c.in_err-read_whole-in-HTTPS.ensures.behind
 
 pub returns-in-MX : goal.returns-in-MX
 returns-in-MX c =
@@ -97,7 +97,7 @@ returns-in-MX c =
 
 pub returns-in_err-read_whole-in-MX : goal.returns-in_err-read_whole-in-MX
 returns-in_err-read_whole-in-MX c =
-    fails types.MX c.from_residual-in_err-read_whole-in-MX.result c.in-MX.is c.from_residual-in_err-read_whole-in-MX.ensures.1 (λ h. h) c.in_err-read_whole-in-MX.ensures.refused c.in_err-read_whole-in-MX.ensures.why c.in_err-read_whole-in-MX.ensures.behind
+    fails types.MX c.args.length _ c.from_residual-in_err-read_whole-in-MX.result c.in-MX.is c.from_residual-in_err-read_whole-in-MX.ensures.1 (λ h. h) c.in_err-read_whole-in-MX.ensures.refused c.in_err-read_whole-in-MX.ensures.why c.in_err-read_whole-in-MX.ensures.behind
 
 pub returns-in-NAPTR : goal.returns-in-NAPTR
 returns-in-NAPTR c =
@@ -106,7 +106,7 @@ returns-in-NAPTR c =
 
 pub returns-in_err-read_whole-in-NAPTR : goal.returns-in_err-read_whole-in-NAPTR
 returns-in_err-read_whole-in-NAPTR c =
-    fails types.NAPTR c.from_residual-in_err-read_whole-in-NAPTR.result c.in-NAPTR.is c.from_residual-in_err-read_whole-in-NAPTR.ensures.1 (λ h. h) c.in_err-read_whole-in-NAPTR.ensures.refused c.in_err-read_whole-in-NAPTR.ensures.why c.in_err-read_whole-in-NAPTR.ensures.behind
+    fails types.NAPTR c.args.length _ c.from_residual-in_err-read_whole-in-NAPTR.result c.in-NAPTR.is c.from_residual-in_err-read_whole-in-NAPTR.ensures.1 (λ h. h) c.in_err-read_whole-in-NAPTR.ensures.refused c.in_err-read_whole-in-NAPTR.ensures.why c.in_err-read_whole-in-NAPTR.ensures.behind
 
 pub returns-in-NULL : goal.returns-in-NULL
 returns-in-NULL c =
@@ -115,7 +115,7 @@ returns-in-NULL c =
 
 pub returns-in_err-read_whole-in-NULL : goal.returns-in_err-read_whole-in-NULL
 returns-in_err-read_whole-in-NULL c =
-    fails types.NULL c.from_residual-in_err-read_whole-in-NULL.result c.in-NULL.is c.from_residual-in_err-read_whole-in-NULL.ensures.1 (λ h. h) c.in_err-read_whole-in-NULL.ensures.refused c.in_err-read_whole-in-NULL.ensures.why c.in_err-read_whole-in-NULL.ensures.behind
+    fails types.NULL c.args.length _ c.from_residual-in_err-read_whole-in-NULL.result c.in-NULL.is c.from_residual-in_err-read_whole-in-NULL.ensures.1 (λ h. h) c.in_err-read_whole-in-NULL.ensures.refused c.in_err-read_whole-in-NULL.ensures.why c.in_err-read_whole-in-NULL.ensures.behind
 
 pub returns-in-NS : goal.returns-in-NS
 returns-in-NS c =
@@ -124,7 +124,7 @@ returns-in-NS c =
 
 pub returns-in_err-read_whole-in-NS : goal.returns-in_err-read_whole-in-NS
 returns-in_err-read_whole-in-NS c =
-    fails types.NS c.from_residual-in_err-read_whole-in-NS.result c.in-NS.is c.from_residual-in_err-read_whole-in-NS.ensures.1 (λ h. h) c.in_err-read_whole-in-NS.ensures.refused c.in_err-read_whole-in-NS.ensures.why c.in_err-read_whole-in-NS.ensures.behind
+    fails types.NS c.args.length _ c.from_residual-in_err-read_whole-in-NS.result c.in-NS.is c.from_residual-in_err-read_whole-in-NS.ensures.1 (λ h. h) c.in_err-read_whole-in-NS.ensures.refused c.in_err-read_whole-in-NS.ensures.why c.in_err-read_whole-in-NS.ensures.behind
 
 pub returns-in-OPENPGPKEY : goal.returns-in-OPENPGPKEY
 returns-in-OPENPGPKEY c =
@@ -133,7 +133,7 @@ returns-in-OPENPGPKEY c =
 
 pub returns-in_err-read_whole-in-OPENPGPKEY : goal.returns-in_err-read_whole-in-OPENPGPKEY
 returns-in_err-read_whole-in-OPENPGPKEY c =
-    fails types.OPENPGPKEY c.from_residual-in_err-read_whole-in-OPENPGPKEY.result c.in-OPENPGPKEY.is c.from_residual-in_err-read_whole-in-OPENPGPKEY.ensures.1 (λ h. h) c.in_err-read_whole-in-OPENPGPKEY.ensures.refused c.in_err-read_whole-in-OPENPGPKEY.ensures.why c.in_err-read_whole-in-OPENPGPKEY.ensures.behind
+    fails types.OPENPGPKEY c.args.length _ c.from_residual-in_err-read_whole-in-OPENPGPKEY.result c.in-OPENPGPKEY.is c.from_residual-in_err-read_whole-in-OPENPGPKEY.ensures.1 (λ h. h) c.in_err-read_whole-in-OPENPGPKEY.ensures.refused c.in_err-read_whole-in-OPENPGPKEY.ensures.why c.in_err-read_whole-in-OPENPGPKEY.ensures.behind
 
 pub returns-in-OPT : goal.returns-in-OPT
 returns-in-OPT c =
@@ -142,7 +142,7 @@ returns-in-OPT c =
 
 pub returns-in_err-read_whole-in-OPT : goal.returns-in_err-read_whole-in-OPT
 returns-in_err-read_whole-in-OPT c =
-    fails types.OPT c.from_residual-in_err-read_whole-in-OPT.result c.in-OPT.is c.from_residual-in_err-read_whole-in-OPT.ensures.1 (λ h. h) c.in_err-read_whole-in-OPT.ensures.refused c.in_err-read_whole-in-OPT.ensures.why c.in_err-read_whole-in-OPT.ensures.behind
+    fails types.OPT c.args.length _ c.from_residual-in_err-read_whole-in-OPT.result c.in-OPT.is c.from_residual-in_err-read_whole-in-OPT.ensures.1 (λ h. h) c.in_err-read_whole-in-OPT.ensures.refused c.in_err-read_whole-in-OPT.ensures.why c.in_err-read_whole-in-OPT.ensures.behind
 
 pub returns-in-PTR : goal.returns-in-PTR
 returns-in-PTR c =
@@ -151,7 +151,7 @@ returns-in-PTR c =
 
 pub returns-in_err-read_whole-in-PTR : goal.returns-in_err-read_whole-in-PTR
 returns-in_err-read_whole-in-PTR c =
-    fails types.PTR c.from_residual-in_err-read_whole-in-PTR.result c.in-PTR.is c.from_residual-in_err-read_whole-in-PTR.ensures.1 (λ h. h) c.in_err-read_whole-in-PTR.ensures.refused c.in_err-read_whole-in-PTR.ensures.why c.in_err-read_whole-in-PTR.ensures.behind
+    fails types.PTR c.args.length _ c.from_residual-in_err-read_whole-in-PTR.result c.in-PTR.is c.from_residual-in_err-read_whole-in-PTR.ensures.1 (λ h. h) c.in_err-read_whole-in-PTR.ensures.refused c.in_err-read_whole-in-PTR.ensures.why c.in_err-read_whole-in-PTR.ensures.behind
 
 pub returns-in-SMIMEA : goal.returns-in-SMIMEA
 returns-in-SMIMEA c =
@@ -160,7 +160,7 @@ returns-in-SMIMEA c =
 
 pub returns-in_err-read_whole-in-SMIMEA : goal.returns-in_err-read_whole-in-SMIMEA
 returns-in_err-read_whole-in-SMIMEA c =
-    fails types.SMIMEA c.from_residual-in_err-read_whole-in-SMIMEA.result c.in-SMIMEA.is c.from_residual-in_err-read_whole-in-SMIMEA.ensures.1 (λ h. h) c.in_err-read_whole-in-SMIMEA.ensures.refused c.in_err-read_whole-in-SMIMEA.ensures.why c.in_err-read_whole-in-SMIMEA.ensures.behind
+    fails types.SMIMEA c.args.length _ c.from_residual-in_err-read_whole-in-SMIMEA.result c.in-SMIMEA.is c.from_residual-in_err-read_whole-in-SMIMEA.ensures.1 (λ h. h) c.in_err-read_whole-in-SMIMEA.ensures.refused c.in_err-read_whole-in-SMIMEA.ensures.why c.in_err-read_whole-in-SMIMEA.ensures.behind
 
 pub returns-in-SOA : goal.returns-in-SOA
 returns-in-SOA c =
@@ -169,7 +169,7 @@ returns-in-SOA c =
 
 pub returns-in_err-read_whole-in-SOA : goal.returns-in_err-read_whole-in-SOA
 returns-in_err-read_whole-in-SOA c =
-    fails types.SOA c.from_residual-in_err-read_whole-in-SOA.result c.in-SOA.is c.from_residual-in_err-read_whole-in-SOA.ensures.1 (λ h. h) c.in_err-read_whole-in-SOA.ensures.refused c.in_err-read_whole-in-SOA.ensures.why c.in_err-read_whole-in-SOA.ensures.behind
+    fails types.SOA c.args.length _ c.from_residual-in_err-read_whole-in-SOA.result c.in-SOA.is c.from_residual-in_err-read_whole-in-SOA.ensures.1 (λ h. h) c.in_err-read_whole-in-SOA.ensures.refused c.in_err-read_whole-in-SOA.ensures.why c.in_err-read_whole-in-SOA.ensures.behind
 
 pub returns-in-SRV : goal.returns-in-SRV
 returns-in-SRV c =
@@ -178,7 +178,7 @@ returns-in-SRV c =
 
 pub returns-in_err-read_whole-in-SRV : goal.returns-in_err-read_whole-in-SRV
 returns-in_err-read_whole-in-SRV c =
-    fails types.SRV c.from_residual-in_err-read_whole-in-SRV.result c.in-SRV.is c.from_residual-in_err-read_whole-in-SRV.ensures.1 (λ h. h) c.in_err-read_whole-in-SRV.ensures.refused c.in_err-read_whole-in-SRV.ensures.why c.in_err-read_whole-in-SRV.ensures.behind
+    fails types.SRV c.args.length _ c.from_residual-in_err-read_whole-in-SRV.result c.in-SRV.is c.from_residual-in_err-read_whole-in-SRV.ensures.1 (λ h. h) c.in_err-read_whole-in-SRV.ensures.refused c.in_err-read_whole-in-SRV.ensures.why c.in_err-read_whole-in-SRV.ensures.behind
 
 pub returns-in-SSHFP : goal.returns-in-SSHFP
 returns-in-SSHFP c =
@@ -187,7 +187,7 @@ returns-in-SSHFP c =
 
 pub returns-in_err-read_whole-in-SSHFP : goal.returns-in_err-read_whole-in-SSHFP
 returns-in_err-read_whole-in-SSHFP c =
-    fails types.SSHFP c.from_residual-in_err-read_whole-in-SSHFP.result c.in-SSHFP.is c.from_residual-in_err-read_whole-in-SSHFP.ensures.1 (λ h. h) c.in_err-read_whole-in-SSHFP.ensures.refused c.in_err-read_whole-in-SSHFP.ensures.why c.in_err-read_whole-in-SSHFP.ensures.behind
+    fails types.SSHFP c.args.length _ c.from_residual-in_err-read_whole-in-SSHFP.result c.in-SSHFP.is c.from_residual-in_err-read_whole-in-SSHFP.ensures.1 (λ h. h) c.in_err-read_whole-in-SSHFP.ensures.refused c.in_err-read_whole-in-SSHFP.ensures.why c.in_err-read_whole-in-SSHFP.ensures.behind
 
 pub returns-in-SVCB : goal.returns-in-SVCB
 returns-in-SVCB c =
@@ -196,7 +196,7 @@ returns-in-SVCB c =
 
 pub returns-in_err-read_whole-in-SVCB : goal.returns-in_err-read_whole-in-SVCB
 returns-in_err-read_whole-in-SVCB c =
-    fails types.SVCB c.from_residual-in_err-read_whole-in-SVCB.result c.in-SVCB.is c.from_residual-in_err-read_whole-in-SVCB.ensures.1 (λ h. h) c.in_err-read_whole-in-SVCB.ensures.refused c.in_err-read_whole-in-SVCB.ensures.why c.in_err-read_whole-in-SVCB.ensures.behind
+    fails types.SVCB c.args.length _ c.from_residual-in_err-read_whole-in-SVCB.result c.in-SVCB.is c.from_residual-in_err-read_whole-in-SVCB.ensures.1 (λ h. h) c.in_err-read_whole-in-SVCB.ensures.refused c.in_err-read_whole-in-SVCB.ensures.why c.in_err-read_whole-in-SVCB.ensures.behind
 
 pub returns-in-TLSA : goal.returns-in-TLSA
 returns-in-TLSA c =
@@ -205,7 +205,7 @@ returns-in-TLSA c =
 
 pub returns-in_err-read_whole-in-TLSA : goal.returns-in_err-read_whole-in-TLSA
 returns-in_err-read_whole-in-TLSA c =
-    fails types.TLSA c.from_residual-in_err-read_whole-in-TLSA.result c.in-TLSA.is c.from_residual-in_err-read_whole-in-TLSA.ensures.1 (λ h. h) c.in_err-read_whole-in-TLSA.ensures.refused c.in_err-read_whole-in-TLSA.ensures.why c.in_err-read_whole-in-TLSA.ensures.behind
+    fails types.TLSA c.args.length _ c.from_residual-in_err-read_whole-in-TLSA.result c.in-TLSA.is c.from_residual-in_err-read_whole-in-TLSA.ensures.1 (λ h. h) c.in_err-read_whole-in-TLSA.ensures.refused c.in_err-read_whole-in-TLSA.ensures.why c.in_err-read_whole-in-TLSA.ensures.behind
 
 pub returns-in-TXT : goal.returns-in-TXT
 returns-in-TXT c =
@@ -214,7 +214,7 @@ returns-in-TXT c =
 
 pub returns-in_err-read_whole-in-TXT : goal.returns-in_err-read_whole-in-TXT
 returns-in_err-read_whole-in-TXT c =
-    fails types.TXT c.from_residual-in_err-read_whole-in-TXT.result c.in-TXT.is c.from_residual-in_err-read_whole-in-TXT.ensures.1 (λ h. h) c.in_err-read_whole-in-TXT.ensures.refused c.in_err-read_whole-in-TXT.ensures.why c.in_err-read_whole-in-TXT.ensures.behind
+    fails types.TXT c.args.length _ c.from_residual-in_err-read_whole-in-TXT.result c.in-TXT.is c.from_residual-in_err-read_whole-in-TXT.ensures.1 (λ h. h) c.in_err-read_whole-in-TXT.ensures.refused c.in_err-read_whole-in-TXT.ensures.why c.in_err-read_whole-in-TXT.ensures.behind
 
 pub returns-in-ANY : goal.returns-in-ANY
 returns-in-ANY c = rw c.into.ensures (never_fails c.args.record_type c.args.length c.args.decoder.now c.in-ANY.is)
@@ -222,11 +222,14 @@ returns-in-ANY c = rw c.into.ensures (never_fails c.args.record_type c.args.leng
 pub returns-in_default : goal.returns-in_default
 returns-in_default c =
     let none : IsNone c.args.record_type known_types = assumption in
-    gives refl (unknown_read c.args.record_type _ (has_no_format c.args.record_type none) c.in_ok-rdata.ensures.found)
+    gives refl (unknown_read c.args.record_type _ (has_no_format c.args.record_type none) c.in_ok-rdata-in_default.ensures.found)
 
 pub returns-in_err-rdata-in_default : goal.returns-in_err-rdata-in_default
 returns-in_err-rdata-in_default c =
     let none : IsNone c.args.record_type known_types = assumption in
     let e = c.in_err-rdata-in_default.ensures in
-    unknown_fails c.args.record_type c.from_residual-in_err-rdata-in_default.result (has_no_format c.args.record_type none)
+    unknown_fails c.args.record_type c.args.length _ c.from_residual-in_err-rdata-in_default.result (has_no_format c.args.record_type none)
     c.from_residual-in_err-rdata-in_default.ensures.1 e.refused e.why e.behind
+
+pub returns-then-unverified-eq0 : goal.returns-then-unverified-eq0
+returns-then-unverified-eq0 c = zero_gives c.in-ZERO.is (omega (arith, c.unverified.ensures)) c.index-start.ensures.inside c.index-start.ensures.octets
