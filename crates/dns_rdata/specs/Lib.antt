@@ -24,7 +24,6 @@ pub use Rattle.dns_types.specs.RecordTypes
 pub use Rattle.dns_names_wire.specs.State
 pub use Rattle.dns_names_wire.specs.Terms
 pub use Rattle.dns_rdata_base.specs.Lossy
-pub use Rattle.dns_rdata_certs.specs.Rests
 pub use Rattle.dns_rdata_base.specs.A
 pub use Rattle.dns_rdata_base.specs.AAAA
 pub use Rattle.dns_rdata_base.specs.NameRecords
