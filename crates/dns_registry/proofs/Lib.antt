@@ -1,0 +1,6 @@
+mod Passing
+mod Ranges
+mod Rules
+mod ShortestBitmaps
+mod StringCounts
+mod Views

@@ -1,0 +1,4 @@
+pub mod FieldRules
+pub mod Formats
+pub mod Registry
+pub mod Typed
