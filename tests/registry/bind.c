@@ -13,6 +13,7 @@
 #include <dns/fixedname.h>
 #include <dns/name.h>
 #include <dns/rdata.h>
+#include <dns/rdatatype.h>
 #include <dns/result.h>
 
 #include "../peers/lines.h"
@@ -77,10 +78,12 @@ static void text(void)
 		if (!data)
 			continue;
 		line[strcspn(line, "\n")] = 0;
-		isc_result_t result = read_text(memory, origin, atoi(line), data + 1, &rdata);
-		if (result == DNS_R_UNKNOWN || result == ISC_R_NOTIMPLEMENTED)
+		if (!dns_rdatatype_isknown(atoi(line))) {
 			puts("unknown\t-");
-		else if (result)
+			continue;
+		}
+		isc_result_t result = read_text(memory, origin, atoi(line), data + 1, &rdata);
+		if (result)
 			rejected(isc_result_totext(result));
 		else
 			accepted(rdata.data, rdata.length);

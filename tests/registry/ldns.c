@@ -39,7 +39,7 @@ static void text(void)
 			continue;
 		line[strcspn(line, "\n")] = 0;
 		const ldns_rr_descriptor *known = ldns_rr_descript(atoi(line));
-		if (!known || !known->_name) {
+		if (!known || !known->_name || ldns_rr_descriptor_field_type(known, 0) == LDNS_RDF_TYPE_UNKNOWN) {
 			puts("unknown\t-");
 			continue;
 		}

@@ -1,0 +1,118 @@
+#!/usr/bin/env python3
+"""Asks other libraries about the texts, octets and messages that are stored here, and writes what they return beside them.
+
+    tests/registry/build.sh WORK_DIR
+    tests/registry/peers.py WORK_DIR texts octets messages
+
+The gate does not run this. Type, text, octets and what is wanted stay as they are; only the columns of the libraries are written. In
+them `refused` (of a text) or `rejected` (of RDATA) is an error, `unknown` a type that the library has no format of, `=` the same as
+what is wanted, and anything else the octets that it returns.
+
+A driver reads lines from standard input, `TYPE<tab>TEXT` or `TYPE PLACE LENGTH OCTETS`, and its line for each is `accepted` and the
+octets (`-` for none), `rejected` and the reason, or `unknown`; a tab is between the two.
+"""
+import pathlib
+import subprocess
+import sys
+
+HERE = pathlib.Path(__file__).resolve().parent
+
+# The libraries, in the order of the columns: the Debian package whose version is told, and the command.
+LIBRARIES = {
+    "BIND": ("bind9-dev", "bind"),
+    "ldns": ("libldns-dev", "ldns"),
+    "dnspython": ("python3-dnspython", None),
+    "miekg/dns": ("golang-github-miekg-dns-dev", "miekg"),
+}
+
+
+def version(name):
+    """The version of a library's package, without Debian's parts."""
+    shown = subprocess.run(["dpkg-query", "-W", "-f", "${Version}", LIBRARIES[name][0]], capture_output=True, text=True, check=True)
+    return shown.stdout.split(":")[-1].split("-")[0]
+
+
+def run(work, name, mode, lines):
+    """What a driver prints for lines."""
+    program = LIBRARIES[name][1]
+    command = [str(work / program), mode] if program else ["/usr/bin/python3", str(HERE / "dnspython_peer.py"), mode]
+    ran = subprocess.run(command, input="".join(line + "\n" for line in lines), capture_output=True, text=True, check=True)
+    return ran.stdout.splitlines()
+
+
+def asked(work, name, mode, lines):
+    """A library's answers for lines: octets in hexadecimal digits, `rejected` or `unknown`, and the reason."""
+    answers = [line.split("\t") for line in run(work, name, mode, lines)]
+    assert len(answers) == len(lines), (name, mode, len(answers), len(lines))
+    return [(more if state == "accepted" else state, more) for state, more in answers]
+
+
+def table(name):
+    """The comments in front of a file, and its rows."""
+    lines = (HERE / name).read_text(encoding="utf-8").splitlines()
+    return [line for line in lines if line.startswith("#")], [line.split("\t") for line in lines if line and not line.startswith("#")]
+
+
+def write(name, comments, rows):
+    """Writes a file."""
+    (HERE / name).write_text("".join(line + "\n" for line in comments + ["\t".join(row) for row in rows]), encoding="utf-8")
+
+
+def versions():
+    """The line of a file's comments that tells the versions."""
+    return "# Versions: " + ", ".join(f"{name} {version(name)}" for name in LIBRARIES) + "."
+
+
+def with_versions(comments):
+    """The comments with the versions of today."""
+    return [versions() if line.startswith("# Versions: ") else line for line in comments]
+
+
+def texts(work):
+    """Asks about texts.tsv."""
+    comments, rows = table("texts.tsv")
+    answers = [asked(work, name, "text", [f"{row[0]}\t{row[3]}" for row in rows]) for name in LIBRARIES]
+    for i, row in enumerate(rows):
+        found = [{"rejected": "refused"}.get(answer[i][0], answer[i][0]) for answer in answers]
+        row[5:] = ["=" if it == row[4] else it for it in found]
+    write("texts.tsv", with_versions(comments), rows)
+
+
+def octets(work):
+    """Asks about octets.tsv."""
+    comments, rows = table("octets.tsv")
+    lines = [f"{row[0]} {row[3]} {row[4]} {row[2]}" for row in rows]
+    answers = [asked(work, name, "wire", lines) for name in ("BIND", "ldns")]
+    for i, row in enumerate(rows):
+        found = ["ok" if answer[i][0] not in ("rejected", "unknown") else answer[i][0] for answer in answers]
+        row[6:] = ["=" if it == row[5] else it for it in found]
+    write("octets.tsv", with_versions(comments), rows)
+
+
+def messages(work):
+    """Asks about messages.tsv: each record as a library prints it, records apart by a tab."""
+    comments, rows = table("messages.tsv")
+    shown = {}
+    for name in ("ldns", "miekg/dns"):
+        found, parts = [], []
+        for line in run(work, name, "show", [row[1] for row in rows]):
+            if line:
+                parts.append(" ".join(line.split()))
+            else:
+                found.append(parts)
+                parts = []
+        shown[name] = found
+        assert len(found) == len(rows), (name, len(found), len(rows))
+    for i, row in enumerate(rows):
+        row[2:] = [" | ".join(shown[name][i]) for name in shown]
+    write("messages.tsv", with_versions(comments), rows)
+
+
+def main():
+    work = pathlib.Path(sys.argv[1]).resolve()
+    for word in sys.argv[2:]:
+        {"texts": texts, "octets": octets, "messages": messages}[word](work)
+
+
+if __name__ == "__main__":
+    main()
