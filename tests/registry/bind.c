@@ -26,6 +26,10 @@ static void wire(void)
 {
 	line_t line;
 	while (next_line(&line)) {
+		if (!dns_rdatatype_isknown(line.type)) {
+			puts("unknown\t-");
+			continue;
+		}
 		isc_buffer_t from, to;
 		dns_decompress_t names;
 		dns_rdata_t rdata = DNS_RDATA_INIT;

@@ -69,13 +69,13 @@ TOO_LONG = (b"\x3f" + b"a" * 63) * 3 + b"\x3e" + b"b" * 62 + b"\0"
 assert len(LONG) == 255 and len(TOO_LONG) == 256
 
 
-def names(kind, before, after, compressed):
+def names(kind, before, after, compressed, which=""):
     """The name of a type, between octets: what every name may be and may not be, and whether compression pointers are allowed."""
     before, after = octets(before), octets(after)
     here = START + len(before)
 
     def named(words, name, wanted):
-        case(kind, words, before + name + after, wanted)
+        case(kind, which + words, before + name + after, wanted)
 
     named("the root", b"\0", True)
     named("a name of 255 octets", LONG, True)
@@ -133,16 +133,16 @@ def one_name():
 def two_names():
     for kind in (14, 17):
         cut(kind, "N 01 61 00")
-        names(kind, "", "N", True)
-        names(kind, "N", "", True)
+        names(kind, "", "N", True, "first name: ")
+        names(kind, "N", "", True, "second name: ")
         chained(kind, "N c028", True)
     cut(26, "0032 N 01 61 00")
-    names(26, "0001", "N", True)
-    names(26, "0001 N", "", True)
+    names(26, "0001", "N", True, "first name: ")
+    names(26, "0001 N", "", True, "second name: ")
     chained(26, "0001 N c02a", True)
     cut(58, "N 01 61 00")
-    names(58, "", "N", False)
-    names(58, "N", "", False)
+    names(58, "", "N", False, "first name: ")
+    names(58, "N", "", False, "second name: ")
     chained(58, "N c028", False)
 
 
@@ -205,11 +205,12 @@ def octets_alone():
 
 def signatures():
     for kind, compressed in ((24, True), (46, False)):
-        head = "0001 05 03 00015180 3e7c9dd7 3e5510d7 0a52"
+        head = "0001 05 05 00015180 3e7c9dd7 3e5510d7 0a52"
         cut(kind, head + "N a0907553", good=range(18 + 13 + 1, 18 + 13 + 4), more=True)
         bad(kind, "no signature", head + "N")
         ok(kind, "one octet of signature, which is 0", head + "N 00")
         ok(kind, "the greatest numbers", "ffff ff ff ffffffff ffffffff ffffffff ffff R 01")
+        ok(kind, "a signer with more labels than Labels says", "0001 05 01 00015180 3e7c9dd7 3e5510d7 0a52 N 01")
         names(kind, head, "01", compressed)
 
 
@@ -291,11 +292,12 @@ def next_records():
     names(47, "", "000140", False)
     bad(47, "no window", "R")
     cut(50, "01 01 000c 04 aabbccdd 14" + "17" * 20 + "0006 400100000003", good={30}, more=False)
-    head = "01 00 000c 00 01 17"
+    head = "c8 00 000c 00 01 17"
     ok(50, "no salt, a hash of one octet, no window", head)
-    bad(50, "a hash of no octets", "01 00 000c 00 00 0001 40")
-    bad(50, "a hash of no octets, no window", "01 00 000c 00 00")
-    ok(50, "salt and hash of 255 octets", "01 00 000c ff" + "aa" * 255 + "ff" + "17" * 255)
+    ok(50, "hash algorithm 1, and a hash of one octet", "01 00 000c 00 01 17")
+    bad(50, "a hash of no octets", "c8 00 000c 00 00 0001 40")
+    bad(50, "a hash of no octets, no window", "c8 00 000c 00 00")
+    ok(50, "salt and hash of 255 octets", "c8 00 000c ff" + "aa" * 255 + "ff" + "17" * 255)
     ok(50, "the greatest numbers", "ff ff ffff 00 01 17")
     for words, bits, wanted in BITMAPS:
         case(47, words, octets("R" + bits), wanted)
@@ -329,9 +331,9 @@ def prefixes():
     bad(38, "prefix length 129, a suffix octet", "81 00 R")
     bad(38, "prefix length 255", "ff R")
     cut(38, "40 0000000000000001 N")
-    cut(38, "00 20010db8000000000000000000000001", words="prefix length 0")
-    names(38, "78 01", "", False)
-    names(38, "80", "", False)
+    cut(38, "00 20010db8000000000000000000000001", words="prefix length 0, an address")
+    names(38, "78 01", "", False, "prefix length 120: ")
+    names(38, "80", "", False, "prefix length 128: ")
 
 
 def prefix_lists():
@@ -376,8 +378,8 @@ def gateways():
     ok(45, "algorithm 0, IPv4, no key", "0a 01 00 c0000226")
     for kind in (4, 127, 128, 255):
         bad(45, f"gateway type {kind}", bytes([10, kind, 2, 0, 1]))
-    names(45, "0a 03 02", "01", False)
-    names(45, "0a 03 00", "", False)
+    names(45, "0a 03 02", "01", False, "a key: ")
+    names(45, "0a 03 00", "", False, "no key: ")
     cut(260, "0a 00", words="no relay")
     cut(260, "0a 01 cb00710f", words="IPv4")
     cut(260, "0a 02 20010db8000000000000000000000015", words="IPv6")
@@ -391,7 +393,7 @@ def gateways():
         bad(260, f"relay type {kind & 127}, discovery optional {kind >> 7}", bytes([10, kind]))
         bad(260, f"relay type {kind & 127}, discovery optional {kind >> 7}, an octet", bytes([10, kind, 0]))
     names(260, "0a 03", "", False)
-    names(260, "0a 83", "", False)
+    names(260, "0a 83", "", False, "discovery optional: ")
 
 
 def host_identity():
@@ -408,8 +410,8 @@ def host_identity():
     ok(55, "a key of 256 octets", "01 02 0100 20" + "03" * 256)
     bad(55, "a key of 256 octets that has 255", "01 02 0100 20" + "03" * 255)
     ok(55, "three servers", "01 02 0001 20 03 R N R")
-    names(55, "01 02 0001 20 03", "", False)
-    names(55, "01 02 0001 20 03 N", "", False)
+    names(55, "01 02 0001 20 03", "", False, "a server: ")
+    names(55, "01 02 0001 20 03 N", "", False, "after a server: ")
 
 
 def transactions():
@@ -451,6 +453,7 @@ def main():
         if key not in seen:
             seen.add(key)
             rows.append(row)
+    assert len({(row[0], row[1]) for row in rows}) == len(rows), "two cases have the same words"
     rows.sort(key=lambda row: int(row[0]))
     head = [
         "# RDATA of each type, accepted and rejected: the type's number; what it is; the message; the offset of the RDATA; RDLENGTH; what is",

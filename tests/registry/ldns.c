@@ -15,10 +15,21 @@ static void octets_of(ldns_rr *record)
 	ldns_rr_free(record);
 }
 
+/* Whether ldns has a format of a type. */
+static int has_format(unsigned type)
+{
+	const ldns_rr_descriptor *known = ldns_rr_descript(type);
+	return known && known->_name && ldns_rr_descriptor_field_type(known, 0) != LDNS_RDF_TYPE_UNKNOWN;
+}
+
 static void wire(void)
 {
 	line_t line;
 	while (next_line(&line)) {
+		if (!has_format(line.type)) {
+			puts("unknown\t-");
+			continue;
+		}
 		ldns_rr *record = NULL;
 		size_t at = line.place - 11;
 		ldns_status result = ldns_wire2rr(&record, line.octets, line.size, &at, LDNS_SECTION_ANSWER);
@@ -38,13 +49,12 @@ static void text(void)
 		if (!data)
 			continue;
 		line[strcspn(line, "\n")] = 0;
-		const ldns_rr_descriptor *known = ldns_rr_descript(atoi(line));
-		if (!known || !known->_name || ldns_rr_descriptor_field_type(known, 0) == LDNS_RDF_TYPE_UNKNOWN) {
+		if (!has_format(atoi(line))) {
 			puts("unknown\t-");
 			continue;
 		}
 		ldns_rr *record = NULL;
-		snprintf(whole, sizeof whole, "a.example.com. 3600 IN %s %s", known->_name, data + 1);
+		snprintf(whole, sizeof whole, "a.example.com. 3600 IN %s %s", ldns_rr_descript(atoi(line))->_name, data + 1);
 		ldns_status result = ldns_rr_new_frm_str(&record, whole, 0, origin, NULL);
 		if (result != LDNS_STATUS_OK)
 			rejected(ldns_get_errorstr_by_id(result));
