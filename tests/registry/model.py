@@ -336,10 +336,26 @@ def check_differences(counts):
             counts.add(("octets", kind, words) in listed, "differences.tsv has no line: octets", kind, words)
 
 
+def type_numbers():
+    """The numbers of the types, by name."""
+    lines = (HERE.parent / "type_names.tsv").read_text(encoding="utf-8").splitlines()
+    return {name: int(kind) for name, kind in (line.split("\t") for line in lines if not line.startswith("#"))}
+
+
+def check_signed(counts):
+    """signed/: the octets of each record are RDATA, and are given back."""
+    numbers = type_numbers()
+    for file in sorted((HERE / "signed").glob("*.tsv")):
+        for line, octets in table(f"signed/{file.name}"):
+            name, octets = line.split(" ")[3], octets_of(octets)
+            kind = numbers.get(name) or int(name[4:])
+            counts.add(read_any(kind, octets, 0, len(octets)) == octets, f"signed/{file.name}:", line)
+
+
 def check():
     """All checks."""
     counts = Counts()
-    for part in (check_octets, check_texts, check_differences):
+    for part in (check_octets, check_texts, check_differences, check_signed):
         part(counts)
     print(f"{counts.passed} as wanted, {counts.failed} not")
     return counts.failed
