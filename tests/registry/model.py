@@ -352,10 +352,22 @@ def check_signed(counts):
             counts.add(read_any(kind, octets, 0, len(octets)) == octets, f"signed/{file.name}:", line)
 
 
+def check_messages(counts):
+    """messages.tsv: each record's RDATA is read, and its uncompressed octets are those that are wanted."""
+    for words, message, wanted, *_ in table("messages.tsv"):
+        message = octets_of(message)
+        records = [entry for entry in plain_table.entries(message)[0] if entry.section != "question"]
+        counts.add(len(records) == len(wanted.split()), "messages.tsv: records", words)
+        for entry, one in zip(records, wanted.split()):
+            kind, octets = one.split(":")
+            found = read_any(entry.kind, message, entry.place, entry.length)
+            counts.add(entry.kind == int(kind) and found == octets_of(octets), "messages.tsv:", words, one)
+
+
 def check():
     """All checks."""
     counts = Counts()
-    for part in (check_octets, check_texts, check_differences, check_signed):
+    for part in (check_octets, check_texts, check_differences, check_signed, check_messages):
         part(counts)
     print(f"{counts.passed} as wanted, {counts.failed} not")
     return counts.failed

@@ -90,7 +90,7 @@ def octets(work):
 
 
 def messages(work):
-    """Asks about messages.tsv: each record as a library prints it, records apart by a tab."""
+    """Asks about messages.tsv: each record as a library prints it, with ` | ` between two."""
     comments, rows = table("messages.tsv")
     shown = {}
     for name in ("ldns", "miekg/dns"):
@@ -104,7 +104,7 @@ def messages(work):
         shown[name] = found
         assert len(found) == len(rows), (name, len(found), len(rows))
     for i, row in enumerate(rows):
-        row[2:] = [" | ".join(shown[name][i]) for name in shown]
+        row[3:] = [" | ".join(shown[name][i]) for name in shown]
     write("messages.tsv", with_versions(comments), rows)
 
 
