@@ -1,5 +1,5 @@
-/* BIND's libdns. `bind wire` reads lines `TYPE PLACE LENGTH OCTETS` (../peers/lines.h) and calls `dns_rdata_fromwire`; `bind text` reads
- * lines of a type's number, a tab and zone text, and calls `dns_rdata_fromtext` with the origin example.com. TSIG, whose records have
+/* BIND's libdns. `bind wire` reads lines `TYPE PLACE LENGTH OCTETS` (../peers/lines.h) and calls `dns_rdata_fromwire`; `bind print` calls
+ * `dns_rdata_totext`, too; `bind text` reads lines of a type's number, a tab and zone text, and calls `dns_rdata_fromtext` with the origin example.com. TSIG, whose records have
  * class ANY (RFC 8945, section 4.2), is read in that class, every other type in class IN. peers.py has the protocol. */
 #include <stdio.h>
 #include <stdlib.h>
@@ -22,7 +22,20 @@ static unsigned char room[70000];
 
 static dns_rdataclass_t class_of(unsigned type) { return type == 250 ? 255 : 1; }
 
-static void wire(void)
+static void print(dns_rdata_t *rdata)
+{
+	static char shown[200000];
+	isc_buffer_t to;
+	isc_buffer_init(&to, shown, sizeof shown - 1);
+	isc_result_t result = dns_rdata_totext(rdata, NULL, &to);
+	shown[isc_buffer_usedlength(&to)] = 0;
+	if (result)
+		rejected(isc_result_totext(result));
+	else
+		printf("accepted\t%s\n", shown);
+}
+
+static void wire(int printed)
 {
 	line_t line;
 	while (next_line(&line)) {
@@ -42,6 +55,8 @@ static void wire(void)
 		isc_result_t result = dns_rdata_fromwire(&rdata, class_of(line.type), line.type, &from, &names, 0, &to);
 		if (result)
 			rejected(isc_result_totext(result));
+		else if (printed)
+			print(&rdata);
 		else
 			accepted(rdata.data, rdata.length);
 	}
@@ -99,6 +114,6 @@ int main(int argc, char **argv)
 	if (argc > 1 && !strcmp(argv[1], "text"))
 		text();
 	else
-		wire();
+		wire(argc > 1 && !strcmp(argv[1], "print"));
 	return 0;
 }

@@ -1,4 +1,4 @@
-"""dnspython. `wire` reads lines `TYPE PLACE LENGTH OCTETS` and calls `dns.rdata.from_wire`; `text` reads lines of a type's number, a tab
+"""dnspython. `wire` reads lines `TYPE PLACE LENGTH OCTETS` and calls `dns.rdata.from_wire`; `print` calls `to_text`, too; `text` reads lines of a type's number, a tab
 and zone text, and calls `dns.rdata.from_text` with the origin example.com. peers.py has the protocol."""
 import sys
 
@@ -26,7 +26,7 @@ for line in sys.stdin:
         print("unknown\t-")
         continue
     try:
-        found = {"wire": wire, "text": text}[sys.argv[1]](line)
-        print(f"accepted\t{found.to_wire().hex() or '-'}")
+        found = {"wire": wire, "print": wire, "text": text}[sys.argv[1]](line)
+        print(f"accepted\t{found.to_text() if sys.argv[1] == 'print' else found.to_wire().hex() or '-'}")
     except Exception as error:  # pylint: disable=broad-except
         print(f"rejected\t{type(error).__name__}: {error}".replace("\n", " "))

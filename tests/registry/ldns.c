@@ -1,5 +1,5 @@
-/* NLnet Labs' ldns. `ldns wire` reads lines `TYPE PLACE LENGTH OCTETS` (../peers/lines.h) and calls `ldns_wire2rr`; `ldns text` reads
- * lines of a type's number, a tab and zone text, and calls `ldns_rr_new_frm_str` with the origin example.com; `ldns show` reads
+/* NLnet Labs' ldns. `ldns wire` reads lines `TYPE PLACE LENGTH OCTETS` (../peers/lines.h) and calls `ldns_wire2rr`; `ldns print` calls
+ * `ldns_rr2str`, too; `ldns text` reads lines of a type's number, a tab and zone text, and calls `ldns_rr_new_frm_str` with the origin example.com; `ldns show` reads
  * messages in hexadecimal digits and prints the records of each, one a line, and an empty line. peers.py has the protocol. */
 #include <ldns/ldns.h>
 
@@ -22,7 +22,21 @@ static int has_format(unsigned type)
 	return known && known->_name && ldns_rr_descriptor_field_type(known, 0) != LDNS_RDF_TYPE_UNKNOWN;
 }
 
-static void wire(void)
+/* The text of the RDATA: what is behind owner, TTL, class and type, each with a tab. */
+static void print(ldns_rr *record)
+{
+	char *whole = ldns_rr2str(record), *data = whole;
+	for (int i = 0; data && i < 4; i++)
+		data = strchr(data, '\t') ? strchr(data, '\t') + 1 : NULL;
+	if (data)
+		printf("accepted\t%.*s\n", (int)strcspn(data, "\n"), data);
+	else
+		rejected("no text");
+	free(whole);
+	ldns_rr_free(record);
+}
+
+static void wire(int printed)
 {
 	line_t line;
 	while (next_line(&line)) {
@@ -35,6 +49,8 @@ static void wire(void)
 		ldns_status result = ldns_wire2rr(&record, line.octets, line.size, &at, LDNS_SECTION_ANSWER);
 		if (result != LDNS_STATUS_OK)
 			rejected(ldns_get_errorstr_by_id(result));
+		else if (printed)
+			print(record);
 		else
 			octets_of(record);
 	}
@@ -92,6 +108,6 @@ int main(int argc, char **argv)
 	else if (argc > 1 && !strcmp(argv[1], "show"))
 		show();
 	else
-		wire();
+		wire(argc > 1 && !strcmp(argv[1], "print"));
 	return 0;
 }

@@ -1,5 +1,5 @@
-// miekg/dns. `miekg wire` reads lines `TYPE PLACE LENGTH OCTETS` and calls `UnpackRR`; `miekg text` reads lines of a type's number, a tab
-// and zone text, and calls a `ZoneParser` with the origin example.com; `miekg show` reads messages in hexadecimal digits and prints the
+// miekg/dns. `miekg wire` reads lines `TYPE PLACE LENGTH OCTETS` and calls `UnpackRR`; `miekg print` calls `String`, too;
+// `miekg text` reads lines of a type's number, a tab and zone text, and calls a `ZoneParser` with the origin example.com; `miekg show` reads messages in hexadecimal digits and prints the
 // records of each, one a line, and an empty line. peers.py has the protocol.
 package main
 
@@ -26,6 +26,22 @@ func octets(record dns.RR) string {
 		return "accepted\t-"
 	}
 	return "accepted\t" + hex.EncodeToString(room[11:end])
+}
+
+func printed(line string) string {
+	words := strings.Fields(line)
+	kind, _ := strconv.Atoi(words[0])
+	if _, known := dns.TypeToRR[uint16(kind)]; !known {
+		return "unknown\t-"
+	}
+	place, _ := strconv.Atoi(words[1])
+	message, _ := hex.DecodeString(words[3])
+	record, _, err := dns.UnpackRR(message, place-11)
+	if err != nil {
+		return "rejected\t" + err.Error()
+	}
+	parts := strings.SplitN(record.String(), "\t", 5)
+	return "accepted\t" + parts[len(parts)-1]
 }
 
 func wire(line string) string {
@@ -72,7 +88,7 @@ func show(line string) string {
 }
 
 func main() {
-	mode := map[string]func(string) string{"wire": wire, "text": text, "show": show}[os.Args[1]]
+	mode := map[string]func(string) string{"wire": wire, "text": text, "show": show, "print": printed}[os.Args[1]]
 	in := bufio.NewScanner(os.Stdin)
 	in.Buffer(make([]byte, 0, 200000), 200000)
 	for in.Scan() {

@@ -1,7 +1,7 @@
 #!/usr/bin/env python3
 """A reference model of the types that IANA's registry lists with a format: fields of RDATA, strictly as the RFC of the type has them.
 
-    tests/registry/model.py --check                            holds it to octets.tsv, texts.tsv, differences.tsv, signed/ and messages.tsv
+    tests/registry/model.py --check                            holds it to the files here
     tests/registry/model.py TYPE OFFSET RDLENGTH MESSAGE       prints the fields of one record: name, kind, value; and the octets
 
 It is slow, and written from the RFCs, and not from the library's code. A row is a line of ROWS: a type's number, its name and its
@@ -325,6 +325,13 @@ def check_texts(counts):
             counts.add(read_any(int(kind), octets, 0, len(octets)) == octets, "texts.tsv:", name, text, wanted)
 
 
+def check_printed(counts):
+    """printed.tsv: the octets are RDATA, and are given back."""
+    for kind, name, octets, _, text in table("printed.tsv"):
+        octets = octets_of(octets)
+        counts.add(read_any(int(kind), octets, 0, len(octets)) == octets, "printed.tsv:", name, text)
+
+
 def check_differences(counts):
     """differences.tsv: a line for each case in which BIND, or for a text any library, returns something else than is wanted."""
     listed = {(it[0], it[1], it[3]) for it in table("differences.tsv")}
@@ -367,7 +374,7 @@ def check_messages(counts):
 def check():
     """All checks."""
     counts = Counts()
-    for part in (check_octets, check_texts, check_differences, check_signed, check_messages):
+    for part in (check_octets, check_texts, check_printed, check_differences, check_signed, check_messages):
         part(counts)
     print(f"{counts.passed} as wanted, {counts.failed} not")
     return counts.failed

@@ -2,7 +2,7 @@
 """Asks other libraries about the texts, octets and messages that are stored here, and writes what they return beside them.
 
     tests/registry/build.sh WORK_DIR
-    tests/registry/peers.py WORK_DIR texts octets messages
+    tests/registry/peers.py WORK_DIR texts octets printed messages
 
 The gate does not run this. Type, text, octets and what is wanted stay as they are; only the columns of the libraries are written. In
 them `refused` (of a text) or `rejected` (of RDATA) is an error, `unknown` a type that the library has no format of, `=` the same as
@@ -42,7 +42,7 @@ def run(work, name, mode, lines):
 
 def asked(work, name, mode, lines):
     """A library's answers for lines: octets in hexadecimal digits, `rejected` or `unknown`, and the reason."""
-    answers = [line.split("\t") for line in run(work, name, mode, lines)]
+    answers = [line.split("\t", 1) for line in run(work, name, mode, lines)]
     assert len(answers) == len(lines), (name, mode, len(answers), len(lines))
     return [(more if state == "accepted" else state, more) for state, more in answers]
 
@@ -89,6 +89,26 @@ def octets(work):
     write("octets.tsv", with_versions(comments), rows)
 
 
+def printed(work):
+    """Writes printed.tsv: what libraries print of RDATA, if BIND reads that text as the very octets."""
+    comments, _ = table("printed.tsv")
+    cases = {(row[0], row[4]): None for row in table("texts.tsv")[1] if row[4] not in ("refused", "-")}
+    cases |= {(row[0], row[2][2 * int(row[3]) :]): None for row in table("octets.tsv")[1] if row[5] == "ok" and 0 < int(row[4]) <= 64}
+    head = bytes.fromhex(table("octets.tsv")[1][0][2])[:30].hex()
+    lines = [f"{kind} 40 {len(it) // 2} {head}{int(kind):04x}000100000e10{len(it) // 2:04x}{it}" for kind, it in cases]
+    names = {row[0]: row[1] for row in table("texts.tsv")[1]}
+    rows, seen = [], set()
+    for name in LIBRARIES:
+        texts_of = asked(work, name, "print", lines)
+        read = asked(work, "BIND", "text", [f"{kind}\t{text[0]}" for (kind, _), text in zip(cases, texts_of)])
+        for (kind, octets_here), text, again in zip(cases, texts_of, read):
+            if again[0] == octets_here and (kind, text[0]) not in seen and not text[0].startswith("\\#"):
+                seen.add((kind, text[0]))
+                rows.append([kind, names[kind], octets_here, name, text[0]])
+    rows.sort(key=lambda row: int(row[0]))
+    write("printed.tsv", with_versions(comments), rows)
+
+
 def messages(work):
     """Asks about messages.tsv: each record as a library prints it, with ` | ` between two."""
     comments, rows = table("messages.tsv")
@@ -111,7 +131,7 @@ def messages(work):
 def main():
     work = pathlib.Path(sys.argv[1]).resolve()
     for word in sys.argv[2:]:
-        {"texts": texts, "octets": octets, "messages": messages}[word](work)
+        {"texts": texts, "octets": octets, "printed": printed, "messages": messages}[word](work)
 
 
 if __name__ == "__main__":
