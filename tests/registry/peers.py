@@ -99,7 +99,7 @@ def printed(work):
     names = {row[0]: row[1] for row in table("texts.tsv")[1]}
     rows, seen = [], set()
     for name in LIBRARIES:
-        texts_of = asked(work, name, "print", lines)
+        texts_of = [(text.replace("\t", " "), more) for text, more in asked(work, name, "print", lines)]
         read = asked(work, "BIND", "text", [f"{kind}\t{text[0]}" for (kind, _), text in zip(cases, texts_of)])
         for (kind, octets_here), text, again in zip(cases, texts_of, read):
             if again[0] == octets_here and (kind, text[0]) not in seen and not text[0].startswith("\\#"):
