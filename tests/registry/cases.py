@@ -241,6 +241,25 @@ def digests():
     ok(63, "SHA512, 64 octets", "7848b8ef 01 02" + "c6" * 64)
 
 
+def lengths_that_rows_leave_open():
+    """Rules beyond the format, which BIND has: rows do not have them (differences.tsv has the words)."""
+    for kind in (43, 59, 32768, 32769):
+        ok(kind, "SHA-1, 19 octets", "ec45 05 01" + "2b" * 19)
+        ok(kind, "SHA-1, 21 octets", "ec45 05 01" + "2b" * 21)
+        ok(kind, "SHA-256, 31 octets", "ec45 05 02" + "2b" * 31)
+        ok(kind, "SHA-256, 33 octets", "ec45 05 02" + "2b" * 33)
+        ok(kind, "SHA-384, 47 octets", "ec45 05 04" + "2b" * 47)
+        ok(kind, "SHA-384, 49 octets", "ec45 05 04" + "2b" * 49)
+        ok(kind, "GOST R 34.11-94, 32 octets", "ec45 05 03" + "2b" * 32)
+    ok(63, "scheme 241, SHA384, 20 octets (RFC 8976, A.3)", "7848b8ef f1 01 e1846540e33a9e41 89792d18d5d131f6 05fc283e")
+    ok(63, "SHA384, 47 octets", "7848b8ef 01 01" + "c6" * 47)
+    ok(63, "SHA384, 49 octets", "7848b8ef 01 01" + "c6" * 49)
+    ok(57, "flags 1", "0001 03 05 01")
+    ok(34, "format 1, a letter", "01 31 61")
+    ok(42, "family 3, a zero octet at the end", "0003 20 02 0100")
+    ok(11, "a bitmap of 8193 octets", "c0000201 06" + "00" * 8192 + "01")
+
+
 def location():
     cut(29, "00 12 16 13 89172dd0 70be15f0 0098 8d20")
     for words, octet, wanted in (
@@ -443,8 +462,8 @@ def targets():
 def main():
     load_names()
     for part in (
-        one_name, two_names, number_and_name, services_and_strings, octets_alone, signatures, keys, digests, location, next_records,
-        prefixes, prefix_lists, gateways, host_identity, transactions, targets,
+        one_name, two_names, number_and_name, services_and_strings, octets_alone, signatures, keys, digests,
+        lengths_that_rows_leave_open, location, next_records, prefixes, prefix_lists, gateways, host_identity, transactions, targets,
     ):
         part()
     rows, seen = [], set()

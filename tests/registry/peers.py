@@ -16,6 +16,8 @@ import subprocess
 import sys
 
 HERE = pathlib.Path(__file__).resolve().parent
+sys.path.insert(0, str(HERE.parent))
+import plain_table  # noqa: E402
 
 # The libraries, in the order of the columns: the Debian package whose version is told, and the command.
 LIBRARIES = {
@@ -110,7 +112,7 @@ def printed(work):
 
 
 def messages(work):
-    """Asks about messages.tsv: each record as a library prints it, with ` | ` between two."""
+    """Asks about messages.tsv: each record as a library prints it, with ` | ` between two. BIND must have the octets that are wanted."""
     comments, rows = table("messages.tsv")
     shown = {}
     for name in ("ldns", "miekg/dns"):
@@ -123,6 +125,12 @@ def messages(work):
                 parts = []
         shown[name] = found
         assert len(found) == len(rows), (name, len(found), len(rows))
+    for row in rows:
+        message = bytes.fromhex(row[1])
+        records = [entry for entry in plain_table.entries(message)[0] if entry.section != "question"]
+        found = asked(work, "BIND", "wire", [f"{entry.kind} {entry.place} {entry.length} {row[1]}" for entry in records])
+        wanted = [one.split(":")[1] for one in row[2].split()]
+        assert [answer[0] for answer in found] == wanted, ("BIND has other octets", row[0], found)
     for i, row in enumerate(rows):
         row[3:] = [" | ".join(shown[name][i]) for name in shown]
     write("messages.tsv", with_versions(comments), rows)
