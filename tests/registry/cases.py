@@ -52,14 +52,17 @@ def bad(kind, words, rdata):
     case(kind, words, rdata, False)
 
 
-def cut(kind, rdata, good=(), more=False, words="example"):
-    """A good example, all its truncations, of which those of the lengths `good` are accepted, and one octet 0x01 more."""
+def cut(kind, rdata, good=(), more=False, words="example", open_lengths=()):
+    """A good example, all its truncations, of which those of the lengths `good` are accepted, and one octet 0x01 more.
+
+    Lengths that no RFC decides are left out.
+    """
     rdata = octets(rdata)
     ok(kind, words, rdata)
-    for length in range(len(rdata)):
+    for length in set(range(len(rdata))) - set(open_lengths):
         case(kind, f"{words}, the first {length} of {len(rdata)} octets", rdata[:length], length in good)
     case(kind, f"{words}, and one octet 01 more", rdata + b"\1", more)
-    if len(rdata) - 1 not in good and rdata:
+    if rdata and len(rdata) - 1 not in {*good, *open_lengths}:
         case(kind, f"{words}, whole in the message, RDLENGTH one less", rdata[:-1], False, rdata[-1:])
 
 
@@ -128,6 +131,54 @@ def one_name():
     names(23, "", "", False)
     cut(39, "N")
     names(39, "", "", False)
+
+
+def types_with_structs():
+    """Types that the library has a struct for, by their RFCs."""
+    cut(1, "c0000201")
+    cut(28, "20010db8000000000000000000000001")
+    for kind in (2, 5, 12):
+        cut(kind, "N")
+        names(kind, "", "", True)
+    numbers = "00000001 00001c20 00000e10 00127500 0000012c"
+    cut(6, "N 01 61 00" + numbers)
+    names(6, "", "N" + numbers, True, "first name: ")
+    names(6, "N", numbers, True, "second name: ")
+    chained(6, "N c028" + numbers, True)
+    cut(10, "01020304", good=range(4), more=True)
+    cut(13, "03 616263 02 6465")
+    ok(13, "two empty strings", "00 00")
+    bad(13, "three strings", "01 61 01 62 01 63")
+    cut(15, "000a N")
+    names(15, "000a", "", True)
+    cut(16, "03 616263 00 01 64", good={4, 5})
+    ok(16, "an empty string", "00")
+    ok(16, "255 octets", bytes([255]) + b"a" * 255)
+    cut(33, "0001 0002 13c4 N")
+    names(33, "0001 0002 13c4", "", True)
+    cut(35, "0064 000a 01 73 07 5349502b443255 00 N")
+    names(35, "0064 000a 01 73 00 00", "", True)
+    ok(35, "no flags", "0064 000a 00 00 00 R")
+    bad(35, "flags that are no letters and digits", "0064 000a 01 2d 00 00 R")
+    cut(37, "0001 3039 08 010203", good={6, 7}, more=True, open_lengths={5})
+    cut(44, "01 c8 010203", good={3, 4}, more=True, open_lengths={2})
+    ok(44, "SHA-1, 20 octets", "01 01" + "12" * 20)
+    for kind in (52, 53):
+        cut(kind, "03 01 01 010203", good={4, 5}, more=True, open_lengths={3})
+    cut(61, "010203", good={1, 2}, more=True, open_lengths={0})
+    cut(62, "00000042 0003 0004 60000008", good={6})
+    for words, bits, wanted in BITMAPS:
+        case(62, words, octets("00000042 0003" + bits), wanted)
+    for kind in (64, 65):
+        cut(kind, "0001 N 0003 0002 0035 029b 0003 616263", good={15, 21})
+        names(kind, "0001", "0003 0002 0035", False)
+        ok(kind, "priority 0", "0000 N")
+        bad(kind, "the same key twice", "0001 R 029b 0000 029b 0000")
+        bad(kind, "falling keys", "0001 R 029b 0000 0003 0002 0035")
+    cut(257, "00 05 6973737565 6361", good={7, 8}, more=True)
+    bad(257, "no tag", "00 00 6361")
+    bad(257, "a tag with a hyphen", "00 03 612d62 6361")
+    ok(257, "a tag of one letter, no value", "80 01 61")
 
 
 def two_names():
@@ -462,7 +513,7 @@ def targets():
 def main():
     load_names()
     for part in (
-        one_name, two_names, number_and_name, services_and_strings, octets_alone, signatures, keys, digests,
+        types_with_structs, one_name, two_names, number_and_name, services_and_strings, octets_alone, signatures, keys, digests,
         lengths_that_rows_leave_open, location, next_records, prefixes, prefix_lists, gateways, host_identity, transactions, targets,
     ):
         part()

@@ -6,7 +6,7 @@
 
 It is slow, and written from the RFCs, and not from the library's code. A row is a line of ROWS: a type's number, its name and its
 fields. A field is a kind, rules in brackets, and a name; KINDS and RULES say once what each kind and each rule is. Names and windows are
-those of ../plain_table.py, which also has the types whose data has a struct of its own.
+those of ../plain_table.py, which has hickory's rules for the types whose data has a struct of its own; their rows here are the RFCs'.
 """
 import pathlib
 import sys
@@ -19,13 +19,22 @@ from plain_table import Name, NoData, Window  # noqa: E402
 # Kinds: u8 u16 u32 u48 u64 (numbers), octetsN, name (may be compressed), uname (may not), string (one length octet), strings (to the end),
 # long (two length octets), rest (to the end), and those that depend on fields before them. The section is where the format is.
 ROWS = """
+1      A           octets4 address                                                                      | RFC 1035, 3.4.1
+2      NS          name target                                                                          | RFC 1035, 3.3.11
 3      MD          name target                                                                          | RFC 1035, 3.3.4
 4      MF          name target                                                                          | RFC 1035, 3.3.5
+5      CNAME       name target                                                                          | RFC 1035, 3.3.1
+6      SOA         name mname, name rname, u32 serial, u32 refresh, u32 retry, u32 expire, u32 minimum  | RFC 1035, 3.3.13
 7      MB          name target                                                                          | RFC 1035, 3.3.3
 8      MG          name target                                                                          | RFC 1035, 3.3.6
 9      MR          name target                                                                          | RFC 1035, 3.3.8
+10     NULL        rest data                                                                            | RFC 1035, 3.3.10
 11     WKS         octets4 address, u8 protocol, rest bitmap                                            | RFC 1035, 3.4.2
+12     PTR         name target                                                                          | RFC 1035, 3.3.12
+13     HINFO       string cpu, string os                                                                | RFC 1035, 3.3.2
 14     MINFO       name rmailbx, name emailbx                                                           | RFC 1035, 3.3.7
+15     MX          u16 preference, name exchange                                                        | RFC 1035, 3.3.9
+16     TXT         strings[some] data                                                                   | RFC 1035, 3.3.14
 17     RP          name mbox, name txt                                                                  | RFC 1183, 2.2
 18     AFSDB       u16 subtype, name hostname                                                           | RFC 1183, 1
 19     X25         string[dnic] address                                                                 | RFC 1183, 3.1
@@ -37,17 +46,22 @@ ROWS = """
 25     KEY         u16 flags, u8 protocol, u8 algorithm, rest[unless_no_key] public_key                 | RFC 2535, 3.1
 26     PX          u16 preference, name map822, name mapx400                                            | RFC 2163, 4
 27     GPOS        string longitude, string latitude, string altitude                                   | RFC 1712, 3
+28     AAAA        octets16 address                                                                     | RFC 3596, 2.2
 29     LOC         u8[zero] version, u8[power] size, u8[power] horizontal_precision, u8[power] vertical_precision, u32[latitude] latitude, u32[longitude] longitude, u32 altitude | RFC 1876, 2
 30     NXT         name next, rest[old_bitmap] types                                                    | RFC 2535, 5.2
 31     EID         rest[some] endpoint                                                                  | draft-ietf-nimrod-dns, 3.1
 32     NIMLOC      rest[some] locator                                                                   | draft-ietf-nimrod-dns, 3.2
+33     SRV         u16 priority, u16 weight, u16 port, name target                                      | RFC 2782; RFC 3597, 4
 34     ATMA        u8 format, rest[some] address                                                        | af-saa-0069
+35     NAPTR       u16 order, u16 preference, string[flags] flags, string services, string regexp, name replacement | RFC 3403, 4.1; RFC 3597, 4
 36     KX          u16 preference, uname exchanger                                                      | RFC 2230, 3.1
+37     CERT        u16 cert_type, u16 key_tag, u8 algorithm, rest cert_data                             | RFC 4398, 2
 38     A6          u8[prefix_length] prefix_length, suffix suffix, prefix_name prefix_name              | RFC 2874, 3.1
 39     DNAME       uname target                                                                         | RFC 6672, 2.1
 40     SINK        u8 meaning, u8 coding, u8 subcoding, rest data                                       | draft-eastlake-kitchen-sink
 42     APL         rest[items] items                                                                    | RFC 3123, 4
 43     DS          u16 key_tag, u8 algorithm, u8 digest_type, rest[some] digest                         | RFC 4034, 5.1
+44     SSHFP       u8 algorithm, u8 fingerprint_type, rest fingerprint                                  | RFC 4255, 3.1
 45     IPSECKEY    u8 precedence, u8 gateway_type, u8 algorithm, gateway gateway, rest public_key       | RFC 4025, 2
 46     RRSIG       u16 type_covered, u8 algorithm, u8 labels, u32 original_ttl, u32 expiration, u32 inception, u16 key_tag, uname signer, rest[some] signature | RFC 4034, 3.1
 47     NSEC        uname next, rest[bitmap some] types                                                  | RFC 4034, 4.1
@@ -55,13 +69,19 @@ ROWS = """
 49     DHCID       rest[some] data                                                                      | RFC 4701, 3.1
 50     NSEC3       u8 hash_algorithm, u8 flags, u16 iterations, string salt, string[some] next_hashed_owner, rest[bitmap] types | RFC 5155, 3.2
 51     NSEC3PARAM  u8 hash_algorithm, u8 flags, u16 iterations, string salt                             | RFC 5155, 4.2
+52     TLSA        u8 cert_usage, u8 selector, u8 matching, rest cert_data                              | RFC 6698, 2.1
+53     SMIMEA      u8 cert_usage, u8 selector, u8 matching, rest cert_data                              | RFC 8162, 2
 55     HIP         u8[some] hit_length, u8 public_key_algorithm, u16[some] public_key_length, hit hit, public_key public_key, servers servers | RFC 8005, 5
 56     NINFO       strings[some] strings                                                                | draft-reid-dnsext-zs
 57     RKEY        u16 flags, u8 protocol, u8 algorithm, rest[some] public_key                          | draft-reid-dnsext-rkey
 58     TALINK      uname start, uname end                                                               | draft-wijngaards-dnsop-trust-history
 59     CDS         u16 key_tag, u8 algorithm, u8 digest_type, rest[some] digest                         | RFC 7344, 3.1
 60     CDNSKEY     u16 flags, u8 protocol, u8 algorithm, rest[some] public_key                          | RFC 7344, 3.2
+61     OPENPGPKEY  rest public_key                                                                      | RFC 7929, 2.1
+62     CSYNC       u32 soa_serial, u16 flags, rest[bitmap] types                                        | RFC 7477, 2.1
 63     ZONEMD      u32 serial, u8 scheme, u8 hash_algorithm, rest[twelve] digest                        | RFC 8976, 2.2
+64     SVCB        u16 priority, uname target, rest[parameters] params                                  | RFC 9460, 2.2
+65     HTTPS       u16 priority, uname target, rest[parameters] params                                  | RFC 9460, 2.2
 66     DSYNC       u16 rrtype, u8 scheme, u16 port, uname target                                        | RFC 9859, 2.1
 67     HHIT        rest[some] data                                                                      | RFC 9886, 5.1
 68     BRID        rest[some] data                                                                      | RFC 9886, 5.2
@@ -76,6 +96,7 @@ ROWS = """
 249    TKEY        uname algorithm, u32 inception, u32 expiration, u16 mode, u16 error, long key, long other | RFC 2930, 2
 250    TSIG        uname algorithm, u48 time_signed, u16 fudge, long mac, u16 original_id, u16 error, long other | RFC 8945, 4.2
 256    URI         u16 priority, u16 weight, rest[some] target                                          | RFC 7553, 4.5
+257    CAA         u8 flags, string[tag] tag, rest value                                                | RFC 8659, 4.1
 258    AVC         strings[some] strings                                                                | the registry: as TXT
 259    DOA         u32 enterprise, u32 type, u8 location, string media_type, rest data                  | draft-durand-doa-over-dns, 3.1
 260    AMTRELAY    u8 precedence, u8 discovery_and_type, relay relay                                    | RFC 8777, 4.2
@@ -130,7 +151,23 @@ def items(octets, _before):
     return True
 
 
+def parameters(octets, _before):
+    """Parameters with rising keys: key, length, value (RFC 9460, 2.2). What a value may be is in ../plain_table.py."""
+    last = -1
+    while octets:
+        if len(octets) < 4:
+            return False
+        key, size = octets[0] * 256 + octets[1], octets[2] * 256 + octets[3]
+        if key <= last or len(octets) < 4 + size:
+            return False
+        last, octets = key, octets[4 + size :]
+    return True
+
+
 RULES = {
+    "tag": lambda value, _: plain_table.is_plain(value),
+    "flags": lambda value, _: not value or plain_table.is_plain(value),
+    "parameters": parameters,
     "some": lambda value, _: value != 0 if isinstance(value, int) else len(value) >= 1,
     "zero": lambda value, _: value == 0,
     "twelve": lambda value, _: len(value) >= 12,
@@ -206,7 +243,7 @@ def fixed(size):
 
 KINDS = {
     **{f"u{8 * size}": number(size) for size in (1, 2, 4, 6, 8)},
-    **{f"octets{size}": fixed(size) for size in (4, 6, 8)},
+    **{f"octets{size}": fixed(size) for size in (4, 6, 8, 16)},
     "name": lambda window, _: ("name", window.name()),
     "uname": lambda window, _: ("uname", uncompressed(window)),
     "string": lambda window, _: ("string", window.string()),
