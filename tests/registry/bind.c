@@ -1,6 +1,7 @@
 /* BIND's libdns. `bind wire` reads lines `TYPE PLACE LENGTH OCTETS` (../peers/lines.h) and calls `dns_rdata_fromwire`; `bind print` calls
- * `dns_rdata_totext`, too; `bind text` reads lines of a type's number, a tab and zone text, and calls `dns_rdata_fromtext` with the origin example.com. TSIG, whose records have
- * class ANY (RFC 8945, section 4.2), is read in that class, every other type in class IN. peers.py has the protocol. */
+ * `dns_rdata_totext`, too, and `bind digest` calls `dns_rdata_digest`, which gives what DNSSEC signs; `bind text` reads lines of a type's
+ * number, a tab and zone text, and calls `dns_rdata_fromtext` with the origin example.com. TSIG, whose records have class ANY (RFC 8945,
+ * section 4.2), is read in that class, every other type in class IN. peers.py has the protocol. */
 #include <stdio.h>
 #include <stdlib.h>
 #include <string.h>
@@ -35,7 +36,25 @@ static void print(dns_rdata_t *rdata)
 		printf("accepted\t%s\n", shown);
 }
 
-static void wire(int printed)
+static isc_result_t keep(void *to, isc_region_t *part)
+{
+	return isc_buffer_copyregion(to, part);
+}
+
+/* The octets that DNSSEC signs. */
+static void digest(dns_rdata_t *rdata)
+{
+	static unsigned char octets[70000];
+	isc_buffer_t to;
+	isc_buffer_init(&to, octets, sizeof octets);
+	isc_result_t result = dns_rdata_digest(rdata, keep, &to);
+	if (result)
+		rejected(isc_result_totext(result));
+	else
+		accepted(octets, isc_buffer_usedlength(&to));
+}
+
+static void wire(const char *mode)
 {
 	line_t line;
 	while (next_line(&line)) {
@@ -55,8 +74,10 @@ static void wire(int printed)
 		isc_result_t result = dns_rdata_fromwire(&rdata, class_of(line.type), line.type, &from, &names, 0, &to);
 		if (result)
 			rejected(isc_result_totext(result));
-		else if (printed)
+		else if (!strcmp(mode, "print"))
 			print(&rdata);
+		else if (!strcmp(mode, "digest"))
+			digest(&rdata);
 		else
 			accepted(rdata.data, rdata.length);
 	}
@@ -114,6 +135,6 @@ int main(int argc, char **argv)
 	if (argc > 1 && !strcmp(argv[1], "text"))
 		text();
 	else
-		wire(argc > 1 && !strcmp(argv[1], "print"));
+		wire(argc > 1 ? argv[1] : "wire");
 	return 0;
 }

@@ -1,5 +1,6 @@
-"""dnspython. `wire` reads lines `TYPE PLACE LENGTH OCTETS` and calls `dns.rdata.from_wire`; `print` calls `to_text`, too; `text` reads lines of a type's number, a tab
-and zone text, and calls `dns.rdata.from_text` with the origin example.com. peers.py has the protocol."""
+"""dnspython. `wire` reads lines `TYPE PLACE LENGTH OCTETS` and calls `dns.rdata.from_wire`; `print` calls `to_text`, too, and `digest`
+calls `to_digestable`, which gives what DNSSEC signs; `text` reads lines of a type's number, a tab and zone text, and calls
+`dns.rdata.from_text` with the origin example.com. peers.py has the protocol."""
 import sys
 
 import dns.name
@@ -26,7 +27,8 @@ for line in sys.stdin:
         print("unknown\t-")
         continue
     try:
-        found = {"wire": wire, "print": wire, "text": text}[sys.argv[1]](line)
-        print(f"accepted\t{found.to_text() if sys.argv[1] == 'print' else found.to_wire().hex() or '-'}")
+        found = (text if sys.argv[1] == "text" else wire)(line)
+        shown = {"print": found.to_text, "digest": lambda: found.to_digestable(ORIGIN).hex()}.get(sys.argv[1], lambda: found.to_wire().hex())
+        print(f"accepted\t{shown() or '-'}")
     except Exception as error:  # pylint: disable=broad-except
         print(f"rejected\t{type(error).__name__}: {error}".replace("\n", " "))

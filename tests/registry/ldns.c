@@ -1,6 +1,7 @@
 /* NLnet Labs' ldns. `ldns wire` reads lines `TYPE PLACE LENGTH OCTETS` (../peers/lines.h) and calls `ldns_wire2rr`; `ldns print` calls
- * `ldns_rr2str`, too; `ldns text` reads lines of a type's number, a tab and zone text, and calls `ldns_rr_new_frm_str` with the origin example.com; `ldns show` reads
- * messages in hexadecimal digits and prints the records of each, one a line, and an empty line. peers.py has the protocol. */
+ * `ldns_rr2str`, too; `ldns text` reads lines of a type's number, a tab and zone text, and calls `ldns_rr_new_frm_str` with the origin
+ * example.com; `ldns show` reads messages in hexadecimal digits and prints the records of each, one a line, and an empty line. peers.py
+ * has the protocol. */
 #include <ldns/ldns.h>
 
 #include "../peers/lines.h"

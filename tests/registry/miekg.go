@@ -1,6 +1,6 @@
-// miekg/dns. `miekg wire` reads lines `TYPE PLACE LENGTH OCTETS` and calls `UnpackRR`; `miekg print` calls `String`, too;
-// `miekg text` reads lines of a type's number, a tab and zone text, and calls a `ZoneParser` with the origin example.com; `miekg show` reads messages in hexadecimal digits and prints the
-// records of each, one a line, and an empty line. peers.py has the protocol.
+// miekg/dns. `miekg wire` reads lines `TYPE PLACE LENGTH OCTETS` and calls `UnpackRR`; `miekg print` calls `String`, too; `miekg text`
+// reads lines of a type's number, a tab and zone text, and calls a `ZoneParser` with the origin example.com; `miekg show` reads messages
+// in hexadecimal digits and prints the records of each, one a line, and an empty line. peers.py has the protocol.
 package main
 
 import (

@@ -2,7 +2,7 @@
 """Asks other libraries about the texts, octets and messages that are stored here, and writes what they return beside them.
 
     tests/registry/build.sh WORK_DIR
-    tests/registry/peers.py WORK_DIR texts octets printed messages
+    tests/registry/peers.py WORK_DIR texts octets printed canonical messages
 
 The gate does not run this. Type, text, octets and what is wanted stay as they are; only the columns of the libraries are written. In
 them `refused` (of a text) or `rejected` (of RDATA) is an error, `unknown` a type that the library has no format of, `=` the same as
@@ -111,6 +111,31 @@ def printed(work):
     write("printed.tsv", with_versions(comments), rows)
 
 
+def canonical(work):
+    """Writes canonical.tsv: what DNSSEC signs of RDATA whose names have capitals."""
+    # pylint: disable=import-outside-toplevel
+    import model
+    import signatures
+
+    comments, _ = table("canonical.tsv")
+    cases = {}
+    for kind, name, _, _, octets_here, *_ in table("texts.tsv")[1]:
+        if int(kind) in model.TYPES and octets_here not in ("refused", "-"):
+            found = bytes.fromhex(octets_here)
+            fields = model.read(int(kind), found, 0, len(found))[0]
+            capitals = b"".join(model.wire(it, signatures.in_capitals(value)) for _, it, value in fields)
+            if any(it in ("name", "uname", "names") for _, it, _ in fields) and len(capitals) < 200:
+                cases[kind, capitals.hex()] = name
+    head = bytes.fromhex(table("octets.tsv")[1][0][2])[:30].hex()
+    lines = [f"{kind} 40 {len(it) // 2} {head}{int(kind):04x}000100000e10{len(it) // 2:04x}{it}" for kind, it in cases]
+    answers = [asked(work, name, "digest", lines) for name in ("BIND", "dnspython")]
+    rows = []
+    for i, ((kind, octets_here), name) in enumerate(cases.items()):
+        wanted = signatures.canonical(int(kind), bytes.fromhex(octets_here)).hex()
+        rows.append([kind, name, octets_here, wanted, *("=" if it[i][0] == wanted else it[i][0] for it in answers)])
+    write("canonical.tsv", with_versions(comments), rows)
+
+
 def messages(work):
     """Asks about messages.tsv: each record as a library prints it, with ` | ` between two. BIND must have the octets that are wanted."""
     comments, rows = table("messages.tsv")
@@ -139,7 +164,7 @@ def messages(work):
 def main():
     work = pathlib.Path(sys.argv[1]).resolve()
     for word in sys.argv[2:]:
-        {"texts": texts, "octets": octets, "printed": printed, "messages": messages}[word](work)
+        {"texts": texts, "octets": octets, "printed": printed, "canonical": canonical, "messages": messages}[word](work)
 
 
 if __name__ == "__main__":
