@@ -79,7 +79,7 @@ same_first a b x y e =
     record { number = ap (λ (l : List ℕ). get_or l 0 0) e; octets = s.0; after = s.1 }
 
 -- of a window whose last octet is not 0
-last_bit : (octets : List ℕ) (n : ℕ) → length octets ≡ suc n → EndsInBit octets ↔ (get_or octets n 0 ≢ 0)
+pub last_bit : (octets : List ℕ) (n : ℕ) → length octets ≡ suc n → EndsInBit octets ↔ (get_or octets n 0 ≢ 0)
 last_bit [] n e = absurd (omega (arith, e))
 last_bit (x ∷ []) zero e = ((λ h. h), (λ h. h))
 last_bit (x ∷ []) (suc n) e = absurd (omega (arith, e))

@@ -1,10 +1,11 @@
 -- What an RFC asks of a field beyond its kind, as the field is encoded.
-use Rattle.std.specs.Prelude.{◌≡◌, ◌≢◌, ℕ, ◌+◌, ◌/◌, ◌%◌, ◌≤◌, ◌⊎◌, true, List, [], ◌∷◌, length, map}
+use Rattle.std.specs.Prelude.{◌≡◌, ◌≢◌, ℕ, ◌+◌, ◌/◌, ◌%◌, ◌<◌, ◌≤◌, ◌⊎◌, get_or, true, List, [], ◌∷◌, length, map}
 use Rattle.std.specs.{Char.is_ascii_digit, List.list_all, List.flat_map, List.AllByRecursion}
 use Rattle.dns_fields.specs.declared.Kind.{Kind}
 use Rattle.dns_fields.specs.declared.Kind.TheVariants.{Number, Name, CharacterString, CharacterStrings, Rest, Bitmap}
 use Rattle.dns_fields.specs.{Octets.At, Labels.wire, Fields.Value, Bitmaps.Block, Bitmaps.block, Bitmaps.IsBlock, Bitmaps.Rises}
 use Rattle.dns_rows.specs.Rules.{AreLetters}
+use Rattle.dns_check.specs.Tlvs.{AreComplete}
 use Rattle.dns_registry.specs.declared.rule.FieldRule.{FieldRule}
 use Rattle.dns_registry.specs.declared.rule.FieldRule.TheVariants as rules
 
@@ -26,6 +27,13 @@ pub record IsShortestBitmap (octets : List ℕ) : Type 0 where
   pub spelled : octets ≡ flat_map block windows
   pub shortest : AreShortest windows
 
+-- one bit for each of the types 1 to 127, the first bit clear, without zero octets at the end (RFC 2535, 5.2)
+pub record AreOldTypes (octets : List ℕ) : Type 0 where
+  pub some : 1 ≤ length octets
+  pub most : length octets ≤ 16
+  pub first : get_or octets 0 0 < 128
+  pub ends : EndsInBit octets
+
 -- decimal digits of ASCII
 abbrev pub AreDigits : List ℕ → Type 0
 AreDigits octets = list_all is_ascii_digit octets ≡ true
@@ -41,6 +49,8 @@ abbrev pub Passes : FieldRule → List ℕ → ℕ → (k : Kind) → Value k �
 Passes rules.Uncompressed m p Name x q = q ≡ p + length (wire x.labels) + 1
 Passes rules.ShortestBitmap m p Bitmap v q = (octets : List ℕ) × At m p octets q × IsShortestBitmap octets
 Passes rules.SomeTypes m p Bitmap v q = (octets : List ℕ) × At m p octets q × (1 ≤ length octets) × IsShortestBitmap octets
+Passes rules.OldTypes m p Rest s q = AreOldTypes s
+Passes rules.Options m p Rest s q = AreComplete s
 Passes (rules.AtLeast n) m p CharacterString s q = n ≤ length s
 Passes (rules.AtLeast n) m p Rest s q = n ≤ length s
 Passes (rules.Within low high) m p (Number w) n q = (low ≤ n) × (n ≤ high)

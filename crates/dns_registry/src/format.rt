@@ -5,14 +5,13 @@
 ghost use Rattle.std.specs.Prelude.{◌≡◌, true, get_or, IfSome, IfNone, Some, None, length};
 ghost use Rattle.dns_rows.specs.Fronts.{IsFront};
 ghost use Rattle.dns_check.specs.Rows.{is_row};
-ghost use Rattle.dns_registry.specs.{Formats.row_of_format, Registry.registry, Registry.key_row, Registry.gateway_row, Registry.relay_row, Registry.row_among};
+ghost use Rattle.dns_registry.specs.{Formats.row_of_format, Registry.registry, Registry.prefix_row, Registry.suffix_row, Registry.key_row, Registry.gateway_row, Registry.relay_row, Registry.row_among};
 ghost use Rattle.dns_registry.specs.Registry.{first_rows, second_rows, third_rows, fourth_rows, fifth_rows, last_rows};
 
 use crate::rule::FieldRule;
 use dns_fields::Kind;
 use dns_rows::row::{
-    A, AAAA, CERT, HINFO, MX, NAME, NAPTR, NULL, OPENPGPKEY, OPT, SOA, SRV, SSHFP, SVCB, TLSA, TXT,
-    ZERO,
+    A, AAAA, HINFO, MX, NAME, NAPTR, NULL, OPENPGPKEY, SOA, SRV, SSHFP, SVCB, TLSA, TXT, ZERO,
 };
 use dns_rows::{Front, Part, Rule};
 
@@ -42,6 +41,60 @@ macro_rules! fields_of {
 }
 
 // ---- kinds of fields
+
+/// A number and sixteen octets.
+pub static A6_WHOLE_PARTS: [Part; 2] = [part!(Number(1)), part!(Octets(16))];
+
+/// A number, 0 octets and a name.
+pub static A6_SUFFIX0_PARTS: [Part; 3] = [part!(Number(1)), part!(Octets(0)), part!(Name)];
+
+/// A number, 1 octets and a name.
+pub static A6_SUFFIX1_PARTS: [Part; 3] = [part!(Number(1)), part!(Octets(1)), part!(Name)];
+
+/// A number, 2 octets and a name.
+pub static A6_SUFFIX2_PARTS: [Part; 3] = [part!(Number(1)), part!(Octets(2)), part!(Name)];
+
+/// A number, 3 octets and a name.
+pub static A6_SUFFIX3_PARTS: [Part; 3] = [part!(Number(1)), part!(Octets(3)), part!(Name)];
+
+/// A number, 4 octets and a name.
+pub static A6_SUFFIX4_PARTS: [Part; 3] = [part!(Number(1)), part!(Octets(4)), part!(Name)];
+
+/// A number, 5 octets and a name.
+pub static A6_SUFFIX5_PARTS: [Part; 3] = [part!(Number(1)), part!(Octets(5)), part!(Name)];
+
+/// A number, 6 octets and a name.
+pub static A6_SUFFIX6_PARTS: [Part; 3] = [part!(Number(1)), part!(Octets(6)), part!(Name)];
+
+/// A number, 7 octets and a name.
+pub static A6_SUFFIX7_PARTS: [Part; 3] = [part!(Number(1)), part!(Octets(7)), part!(Name)];
+
+/// A number, 8 octets and a name.
+pub static A6_SUFFIX8_PARTS: [Part; 3] = [part!(Number(1)), part!(Octets(8)), part!(Name)];
+
+/// A number, 9 octets and a name.
+pub static A6_SUFFIX9_PARTS: [Part; 3] = [part!(Number(1)), part!(Octets(9)), part!(Name)];
+
+/// A number, 10 octets and a name.
+pub static A6_SUFFIX10_PARTS: [Part; 3] = [part!(Number(1)), part!(Octets(10)), part!(Name)];
+
+/// A number, 11 octets and a name.
+pub static A6_SUFFIX11_PARTS: [Part; 3] = [part!(Number(1)), part!(Octets(11)), part!(Name)];
+
+/// A number, 12 octets and a name.
+pub static A6_SUFFIX12_PARTS: [Part; 3] = [part!(Number(1)), part!(Octets(12)), part!(Name)];
+
+/// A number, 13 octets and a name.
+pub static A6_SUFFIX13_PARTS: [Part; 3] = [part!(Number(1)), part!(Octets(13)), part!(Name)];
+
+/// A number, 14 octets and a name.
+pub static A6_SUFFIX14_PARTS: [Part; 3] = [part!(Number(1)), part!(Octets(14)), part!(Name)];
+
+/// A number, 15 octets and a name.
+pub static A6_SUFFIX15_PARTS: [Part; 3] = [part!(Number(1)), part!(Octets(15)), part!(Name)];
+
+/// A number, 16 octets and a name.
+pub static A6_SUFFIX16_PARTS: [Part; 3] = [part!(Number(1)), part!(Octets(16)), part!(Name)];
 
 /// Two names.
 pub static NAMES_PARTS: [Part; 2] = [part!(Name), part!(Name)];
@@ -93,6 +146,17 @@ pub static LOC_PARTS: [Part; 7] = [
     part!(Number(4)),
     part!(Number(4)),
 ];
+
+/// Numbers of two, two and one octets, and the rest.
+pub static CERTIFICATE_PARTS: [Part; 4] = [
+    part!(Number(2)),
+    part!(Number(2)),
+    part!(Number(1)),
+    part!(Rest),
+];
+
+/// A name and the rest.
+pub static NXT_PARTS: [Part; 2] = [part!(Name), part!(Rest)];
 
 /// A number and the rest.
 pub static ATMA_PARTS: [Part; 2] = [part!(Number(1)), part!(Rest)];
@@ -211,14 +275,14 @@ pub static RELAY_NAME_PARTS: [Part; 3] = [part!(Number(1)), part!(Number(1)), pa
 /// Nothing is asked.
 pub static NO_RULES: [FieldRule; 0] = [];
 
-/// NSAP-PTR (RFC 1706, 6), DNAME (RFC 6672, 2.1) and ANAME: a name that is not compressed.
-pub static NEW_TARGET_RULES: [FieldRule; 1] = [FieldRule::Uncompressed];
+/// NSAP-PTR (RFC 1348; not in the list of RFC 3597, 4): a name that is not compressed.
+pub static OWNER_RULES: [FieldRule; 1] = [FieldRule::Uncompressed];
 
-/// EID, NIMLOC, DHCID (RFC 4701, 3.1), HHIT and BRID: octets, and at least one.
-pub static SOME_DATA_RULES: [FieldRule; 1] = [FieldRule::AtLeast(1)];
+/// EID (Nimrod): octets, and at least one.
+pub static EID_RULES: [FieldRule; 1] = [FieldRule::AtLeast(1)];
 
-/// TXT (RFC 1035, 3.3.14), NINFO, SPF (RFC 7208, 3.1), AVC, RESINFO (RFC 9606, 5), WALLET and CLA: character strings, and at least one.
-pub static STRINGS_RULES: [FieldRule; 1] = [FieldRule::Count(1, 65535)];
+/// TXT (RFC 1035, 3.3.14): character strings, and at least one.
+pub static TXT_RULES: [FieldRule; 1] = [FieldRule::Count(1, 65535)];
 
 /// X25 (RFC 1183, 3.1).
 pub static X25_RULES: [FieldRule; 1] = [FieldRule::Digits];
@@ -270,11 +334,17 @@ pub static LOC_RULES: [FieldRule; 6] = [
     FieldRule::Within(1499483648, 2795483648),
 ];
 
+/// NXT (RFC 2535, 5.2): its next name may be compressed (RFC 3597, 4).
+pub static NXT_RULES: [FieldRule; 2] = [FieldRule::Free, FieldRule::OldTypes];
+
 /// ATMA: a format and an address.
 pub static ATMA_RULES: [FieldRule; 2] = [FieldRule::Free, FieldRule::AtLeast(1)];
 
 /// KX (RFC 2230, 3).
 pub static KX_RULES: [FieldRule; 2] = [FieldRule::Free, FieldRule::Uncompressed];
+
+/// OPT (RFC 6891, 6.1.2).
+pub static OPT_RULES: [FieldRule; 1] = [FieldRule::Options];
 
 /// NSEC (RFC 4034, 4.1).
 pub static NSEC_RULES: [FieldRule; 2] = [FieldRule::Uncompressed, FieldRule::SomeTypes];
@@ -321,15 +391,18 @@ pub static URI_RULES: [FieldRule; 3] = [FieldRule::Free, FieldRule::Free, FieldR
 /// CAA (RFC 8659, 4.1).
 pub static CAA_RULES: [FieldRule; 2] = [FieldRule::Free, FieldRule::Letters];
 
-/// IPSECKEY (RFC 4025, 2.1) without a gateway, or of a gateway type that no RFC has.
-pub static NO_GATEWAY_RULES: [FieldRule; 2] = [FieldRule::Free, FieldRule::Within(0, 3)];
-
-/// AMTRELAY with the name of a relay.
-pub static NAMED_RELAY_RULES: [FieldRule; 3] = [
+/// A6 with the name of its prefix.
+pub static PREFIXED_RULES: [FieldRule; 3] = [
     FieldRule::Free,
     FieldRule::Free,
     FieldRule::Uncompressed,
 ];
+
+/// A6 with a prefix of more than 128 bits, which no RFC has.
+pub static LONG_PREFIX_RULES: [FieldRule; 1] = [FieldRule::Within(0, 128)];
+
+/// IPSECKEY (RFC 4025, 2.1) without a gateway, or of a gateway type that no RFC has.
+pub static NO_GATEWAY_RULES: [FieldRule; 2] = [FieldRule::Free, FieldRule::Within(0, 3)];
 
 // ---- names of fields
 
@@ -339,7 +412,10 @@ pub static ADDRESS_NAMES: [&str; 1] = ["address"];
 /// NS, MD, MF, CNAME, MB, MG, MR and PTR (RFC 1035, 3.3): a name.
 pub static TARGET_NAMES: [&str; 1] = ["target"];
 
-/// NSAP-PTR (RFC 1706, 6), DNAME (RFC 6672, 2.1) and ANAME: a name that is not compressed.
+/// NSAP-PTR (RFC 1348; not in the list of RFC 3597, 4): a name that is not compressed.
+pub static OWNER_NAMES: [&str; 1] = ["owner"];
+
+/// DNAME (RFC 6672, 2.1) and ANAME: a name that is not compressed.
 pub static NEW_TARGET_NAMES: [&str; 1] = ["target"];
 
 /// SOA (RFC 1035, 3.3.13).
@@ -348,7 +424,7 @@ pub static SOA_NAMES: [&str; 7] = [
 ];
 
 /// WKS (RFC 1035, 3.4.2).
-pub static WKS_NAMES: [&str; 3] = ["address", "protocol", "ports"];
+pub static WKS_NAMES: [&str; 3] = ["address", "protocol", "bitmap"];
 
 /// HINFO (RFC 1035, 3.3.2).
 pub static HINFO_NAMES: [&str; 2] = ["cpu", "os"];
@@ -365,11 +441,20 @@ pub static NO_NAMES: [&str; 0] = [];
 /// NULL (RFC 1035, 3.3.10): any octets.
 pub static DATA_NAMES: [&str; 1] = ["data"];
 
-/// EID, NIMLOC, DHCID (RFC 4701, 3.1), HHIT and BRID: octets, and at least one.
+/// EID (Nimrod): octets, and at least one.
+pub static EID_NAMES: [&str; 1] = ["endpoint"];
+
+/// NIMLOC (Nimrod): octets, and at least one.
+pub static NIMLOC_NAMES: [&str; 1] = ["locator"];
+
+/// DHCID (RFC 4701, 3.1), HHIT and BRID (RFC 9886, 5): octets, and at least one.
 pub static SOME_DATA_NAMES: [&str; 1] = ["data"];
 
-/// TXT (RFC 1035, 3.3.14), NINFO, SPF (RFC 7208, 3.1), AVC, RESINFO (RFC 9606, 5), WALLET and CLA: character strings, and at least one.
-pub static STRINGS_NAMES: [&str; 1] = ["data"];
+/// TXT (RFC 1035, 3.3.14): character strings, and at least one.
+pub static TXT_NAMES: [&str; 1] = ["data"];
+
+/// NINFO, SPF (RFC 4408, 3.1.1), AVC, RESINFO (RFC 9606, 4), WALLET and CLA: as TXT.
+pub static STRINGS_NAMES: [&str; 1] = ["strings"];
 
 /// RP (RFC 1183, 2.2).
 pub static RP_NAMES: [&str; 2] = ["mbox", "txt"];
@@ -438,6 +523,9 @@ pub static LOC_NAMES: [&str; 7] = [
     "altitude",
 ];
 
+/// NXT (RFC 2535, 5.2): its next name may be compressed (RFC 3597, 4).
+pub static NXT_NAMES: [&str; 2] = ["next", "types"];
+
 /// SRV (RFC 2782): its target may be compressed (RFC 3597, 4).
 pub static SRV_NAMES: [&str; 4] = ["priority", "weight", "port", "target"];
 
@@ -489,7 +577,7 @@ pub static NSEC3PARAM_NAMES: [&str; 4] = ["hash_algorithm", "flags", "iterations
 pub static TLSA_NAMES: [&str; 4] = ["cert_usage", "selector", "matching", "cert_data"];
 
 /// TALINK.
-pub static TALINK_NAMES: [&str; 2] = ["previous", "next"];
+pub static TALINK_NAMES: [&str; 2] = ["start", "end"];
 
 /// OPENPGPKEY (RFC 7929, 2.1).
 pub static OPENPGPKEY_NAMES: [&str; 1] = ["public_key"];
@@ -510,10 +598,10 @@ pub static DSYNC_NAMES: [&str; 4] = ["rrtype", "scheme", "port", "target"];
 pub static NID_NAMES: [&str; 2] = ["preference", "node_id"];
 
 /// L32 (RFC 6742, 2.2).
-pub static L32_NAMES: [&str; 2] = ["preference", "locator32"];
+pub static L32_NAMES: [&str; 2] = ["preference", "locator"];
 
 /// L64 (RFC 6742, 2.3).
-pub static L64_NAMES: [&str; 2] = ["preference", "locator64"];
+pub static L64_NAMES: [&str; 2] = ["preference", "locator"];
 
 /// LP (RFC 6742, 2.4).
 pub static LP_NAMES: [&str; 2] = ["preference", "fqdn"];
@@ -528,10 +616,19 @@ pub static URI_NAMES: [&str; 3] = ["priority", "weight", "target"];
 pub static CAA_NAMES: [&str; 3] = ["flags", "tag", "value"];
 
 /// DOA.
-pub static DOA_NAMES: [&str; 5] = ["enterprise", "doa_type", "location", "media_type", "data"];
+pub static DOA_NAMES: [&str; 5] = ["enterprise", "type", "location", "media_type", "data"];
 
 /// IPN.
 pub static IPN_NAMES: [&str; 1] = ["node"];
+
+/// A6 (RFC 2874, 3.1) without a prefix.
+pub static ADDRESS_SUFFIX_NAMES: [&str; 2] = ["prefix_length", "suffix"];
+
+/// A6 with the name of its prefix.
+pub static PREFIXED_NAMES: [&str; 3] = ["prefix_length", "suffix", "prefix_name"];
+
+/// A6 with a prefix of more than 128 bits, which no RFC has.
+pub static LONG_PREFIX_NAMES: [&str; 2] = ["prefix_length", "suffix"];
 
 /// KEY (RFC 2535, 3.1.2) whose flags say that it has no key.
 pub static NO_KEY_NAMES: [&str; 3] = ["flags", "protocol", "algorithm"];
@@ -561,16 +658,16 @@ pub static NAMED_GATEWAY_NAMES: [&str; 5] = [
 ];
 
 /// AMTRELAY (RFC 8777, 4.2) without a relay: the discovery bit, and the type 0.
-pub static NO_RELAY_NAMES: [&str; 2] = ["precedence", "relay_type"];
+pub static NO_RELAY_NAMES: [&str; 2] = ["precedence", "discovery_and_type"];
 
 /// AMTRELAY with an address of a relay.
-pub static RELAY_NAMES: [&str; 3] = ["precedence", "relay_type", "relay"];
+pub static RELAY_NAMES: [&str; 3] = ["precedence", "discovery_and_type", "relay"];
 
 /// AMTRELAY with the name of a relay.
-pub static NAMED_RELAY_NAMES: [&str; 3] = ["precedence", "relay_type", "relay"];
+pub static NAMED_RELAY_NAMES: [&str; 3] = ["precedence", "discovery_and_type", "relay"];
 
 /// AMTRELAY of a relay type that no RFC has.
-pub static UNKNOWN_RELAY_NAMES: [&str; 2] = ["precedence", "relay_type"];
+pub static UNKNOWN_RELAY_NAMES: [&str; 2] = ["precedence", "discovery_and_type"];
 
 // The octet of this index, or 255 if there are not so many.
 #[inline]
@@ -582,6 +679,54 @@ fn octet_at(octets: &[u8], index: usize) -> u8
     } else {
         255
     }
+}
+
+// A6 with a prefix by how many octets its suffix has (RFC 2874, 3.1).
+#[inline]
+fn suffix_format(size: u8) -> Option<Format>
+    ensures some { IfSome result (λ f. row_of_format f ≡ suffix_row size) }
+    ensures front { IfSome result (λ f. IsFront f.parts.now f.front) }
+    ensures checked { IfSome result (λ f. is_row f.parts.now ≡ true) }
+    ensures names { IfSome result (λ f. length f.names.now ≡ length f.parts.now) }
+    ensures none { IfNone result ⊥ }
+{
+    match size {
+        0 => fields_of!(A6_SUFFIX0_PARTS, PREFIXED_RULES, PREFIXED_NAMES, 1, 1),
+        1 => fields_of!(A6_SUFFIX1_PARTS, PREFIXED_RULES, PREFIXED_NAMES, 1, 1),
+        2 => fields_of!(A6_SUFFIX2_PARTS, PREFIXED_RULES, PREFIXED_NAMES, 1, 1),
+        3 => fields_of!(A6_SUFFIX3_PARTS, PREFIXED_RULES, PREFIXED_NAMES, 1, 1),
+        4 => fields_of!(A6_SUFFIX4_PARTS, PREFIXED_RULES, PREFIXED_NAMES, 1, 1),
+        5 => fields_of!(A6_SUFFIX5_PARTS, PREFIXED_RULES, PREFIXED_NAMES, 1, 1),
+        6 => fields_of!(A6_SUFFIX6_PARTS, PREFIXED_RULES, PREFIXED_NAMES, 1, 1),
+        7 => fields_of!(A6_SUFFIX7_PARTS, PREFIXED_RULES, PREFIXED_NAMES, 1, 1),
+        8 => fields_of!(A6_SUFFIX8_PARTS, PREFIXED_RULES, PREFIXED_NAMES, 1, 1),
+        9 => fields_of!(A6_SUFFIX9_PARTS, PREFIXED_RULES, PREFIXED_NAMES, 1, 1),
+        10 => fields_of!(A6_SUFFIX10_PARTS, PREFIXED_RULES, PREFIXED_NAMES, 1, 1),
+        11 => fields_of!(A6_SUFFIX11_PARTS, PREFIXED_RULES, PREFIXED_NAMES, 1, 1),
+        12 => fields_of!(A6_SUFFIX12_PARTS, PREFIXED_RULES, PREFIXED_NAMES, 1, 1),
+        13 => fields_of!(A6_SUFFIX13_PARTS, PREFIXED_RULES, PREFIXED_NAMES, 1, 1),
+        14 => fields_of!(A6_SUFFIX14_PARTS, PREFIXED_RULES, PREFIXED_NAMES, 1, 1),
+        15 => fields_of!(A6_SUFFIX15_PARTS, PREFIXED_RULES, PREFIXED_NAMES, 1, 1),
+        _ => fields_of!(A6_SUFFIX16_PARTS, PREFIXED_RULES, PREFIXED_NAMES, 1, 1),
+    }
+}
+
+// A6 by the length of its prefix (RFC 2874, 3.1).
+#[inline]
+fn prefix_format(prefix_length: u8) -> Option<Format>
+    ensures some { IfSome result (λ f. row_of_format f ≡ prefix_row prefix_length) }
+    ensures front { IfSome result (λ f. IsFront f.parts.now f.front) }
+    ensures checked { IfSome result (λ f. is_row f.parts.now ≡ true) }
+    ensures names { IfSome result (λ f. length f.names.now ≡ length f.parts.now) }
+    ensures none { IfNone result ⊥ }
+{
+    if prefix_length == 0 {
+        return fields_of!(A6_WHOLE_PARTS, NO_RULES, ADDRESS_SUFFIX_NAMES, 1, 1);
+    }
+    if prefix_length > 128 {
+        return fields_of!(ATMA_PARTS, LONG_PREFIX_RULES, LONG_PREFIX_NAMES, 1, 1);
+    }
+    suffix_format((128 - prefix_length + 7) / 8)
 }
 
 // KEY by the two highest bits of its flags, which say that it has no key if both are set (RFC 2535, 3.1.2).
@@ -629,7 +774,7 @@ fn relay_format(relay_type: u8) -> Option<Format>
         0 => fields_of!(NO_RELAY_PARTS, NO_RULES, NO_RELAY_NAMES, 2, 2),
         1 => fields_of!(RELAY_IPV4_PARTS, NO_RULES, RELAY_NAMES, 2, 2),
         2 => fields_of!(RELAY_IPV6_PARTS, NO_RULES, RELAY_NAMES, 2, 2),
-        3 => fields_of!(RELAY_NAME_PARTS, NAMED_RELAY_RULES, NAMED_RELAY_NAMES, 2, 2),
+        3 => fields_of!(RELAY_NAME_PARTS, PREFIXED_RULES, NAMED_RELAY_NAMES, 2, 2),
         _ => fields_of!(NO_RELAY_PARTS, NO_GATEWAY_RULES, UNKNOWN_RELAY_NAMES, 2, 2),
     }
 }
@@ -672,20 +817,21 @@ fn second_formats(number: u16) -> Option<Format>
     ensures none { IfNone result (row_among second_rows number ≡ None) }
 {
     match number {
-        16 => fields_of!(TXT, STRINGS_RULES, STRINGS_NAMES),
+        16 => fields_of!(TXT, TXT_RULES, TXT_NAMES),
         17 => fields_of!(NAMES_PARTS, NO_RULES, RP_NAMES),
         18 => fields_of!(MX, NO_RULES, AFSDB_NAMES, 1, 2),
         19 => fields_of!(STRING_PARTS, X25_RULES, X25_NAMES),
         20 => fields_of!(TXT, ISDN_RULES, ISDN_NAMES),
         21 => fields_of!(MX, NO_RULES, RT_NAMES, 1, 2),
-        22 => fields_of!(NULL, SOME_DATA_RULES, NSAP_NAMES),
-        23 => fields_of!(NAME, NEW_TARGET_RULES, NEW_TARGET_NAMES),
+        22 => fields_of!(NULL, EID_RULES, NSAP_NAMES),
+        23 => fields_of!(NAME, OWNER_RULES, OWNER_NAMES),
         24 => fields_of!(RRSIG_PARTS, SIG_RULES, SIG_NAMES, 7, 18),
         26 => fields_of!(PX_PARTS, NO_RULES, PX_NAMES, 1, 2),
         27 => fields_of!(GPOS_PARTS, NO_RULES, GPOS_NAMES),
         28 => fields_of!(AAAA, NO_RULES, ADDRESS_NAMES),
         29 => fields_of!(LOC_PARTS, LOC_RULES, LOC_NAMES, 7, 16),
-        31 => fields_of!(NULL, SOME_DATA_RULES, SOME_DATA_NAMES),
+        30 => fields_of!(NXT_PARTS, NXT_RULES, NXT_NAMES),
+        31 => fields_of!(NULL, EID_RULES, EID_NAMES),
         _ => None,
     }
 }
@@ -699,15 +845,15 @@ fn third_formats(number: u16) -> Option<Format>
     ensures none { IfNone result (row_among third_rows number ≡ None) }
 {
     match number {
-        32 => fields_of!(NULL, SOME_DATA_RULES, SOME_DATA_NAMES),
+        32 => fields_of!(NULL, EID_RULES, NIMLOC_NAMES),
         33 => fields_of!(SRV, NO_RULES, SRV_NAMES, 3, 6),
         34 => fields_of!(ATMA_PARTS, ATMA_RULES, ATMA_NAMES, 1, 1),
         35 => fields_of!(NAPTR, NO_RULES, NAPTR_NAMES, 2, 4),
         36 => fields_of!(MX, KX_RULES, KX_NAMES, 1, 2),
-        37 => fields_of!(CERT, NO_RULES, CERT_NAMES, 3, 5),
-        39 => fields_of!(NAME, NEW_TARGET_RULES, NEW_TARGET_NAMES),
+        37 => fields_of!(CERTIFICATE_PARTS, NO_RULES, CERT_NAMES, 3, 5),
+        39 => fields_of!(NAME, OWNER_RULES, NEW_TARGET_NAMES),
         40 => fields_of!(TLSA, NO_RULES, SINK_NAMES, 3, 3),
-        41 => fields_of!(OPT, NO_RULES, OPT_NAMES),
+        41 => fields_of!(NULL, OPT_RULES, OPT_NAMES),
         43 => fields_of!(KEYS_PARTS, DNSKEY_RULES, DS_NAMES, 3, 4),
         44 => fields_of!(SSHFP, NO_RULES, SSHFP_NAMES, 2, 2),
         46 => fields_of!(RRSIG_PARTS, RRSIG_RULES, RRSIG_NAMES, 7, 18),
@@ -726,12 +872,12 @@ fn fourth_formats(number: u16) -> Option<Format>
 {
     match number {
         48 => fields_of!(KEYS_PARTS, DNSKEY_RULES, DNSKEY_NAMES, 3, 4),
-        49 => fields_of!(NULL, SOME_DATA_RULES, SOME_DATA_NAMES),
+        49 => fields_of!(NULL, EID_RULES, SOME_DATA_NAMES),
         50 => fields_of!(NSEC3_PARTS, NSEC3_RULES, NSEC3_NAMES, 3, 4),
         51 => fields_of!(NSEC3PARAM_PARTS, NO_RULES, NSEC3PARAM_NAMES, 3, 4),
         52 => fields_of!(TLSA, NO_RULES, TLSA_NAMES, 3, 3),
         53 => fields_of!(TLSA, NO_RULES, TLSA_NAMES, 3, 3),
-        56 => fields_of!(TXT, STRINGS_RULES, STRINGS_NAMES),
+        56 => fields_of!(TXT, TXT_RULES, STRINGS_NAMES),
         57 => fields_of!(KEYS_PARTS, DNSKEY_RULES, DNSKEY_NAMES, 3, 4),
         58 => fields_of!(NAMES_PARTS, TALINK_RULES, TALINK_NAMES),
         59 => fields_of!(KEYS_PARTS, DNSKEY_RULES, DS_NAMES, 3, 4),
@@ -755,9 +901,9 @@ fn fifth_formats(number: u16) -> Option<Format>
         64 => fields_of!(SVCB, KX_RULES, SVCB_NAMES, 1, 2),
         65 => fields_of!(SVCB, KX_RULES, SVCB_NAMES, 1, 2),
         66 => fields_of!(DSYNC_PARTS, DSYNC_RULES, DSYNC_NAMES, 3, 5),
-        67 => fields_of!(NULL, SOME_DATA_RULES, SOME_DATA_NAMES),
-        68 => fields_of!(NULL, SOME_DATA_RULES, SOME_DATA_NAMES),
-        99 => fields_of!(TXT, STRINGS_RULES, STRINGS_NAMES),
+        67 => fields_of!(NULL, EID_RULES, SOME_DATA_NAMES),
+        68 => fields_of!(NULL, EID_RULES, SOME_DATA_NAMES),
+        99 => fields_of!(TXT, TXT_RULES, STRINGS_NAMES),
         104 => fields_of!(LOCATOR64_PARTS, NO_RULES, NID_NAMES, 1, 2),
         105 => fields_of!(LOCATOR32_PARTS, NO_RULES, L32_NAMES, 1, 2),
         106 => fields_of!(LOCATOR64_PARTS, NO_RULES, L64_NAMES, 1, 2),
@@ -780,21 +926,21 @@ fn last_formats(number: u16) -> Option<Format>
     match number {
         256 => fields_of!(URI_PARTS, URI_RULES, URI_NAMES, 2, 4),
         257 => fields_of!(CAA_PARTS, CAA_RULES, CAA_NAMES, 1, 1),
-        258 => fields_of!(TXT, STRINGS_RULES, STRINGS_NAMES),
+        258 => fields_of!(TXT, TXT_RULES, STRINGS_NAMES),
         259 => fields_of!(DOA_PARTS, NO_RULES, DOA_NAMES, 3, 9),
-        261 => fields_of!(TXT, STRINGS_RULES, STRINGS_NAMES),
-        262 => fields_of!(TXT, STRINGS_RULES, STRINGS_NAMES),
-        263 => fields_of!(TXT, STRINGS_RULES, STRINGS_NAMES),
+        261 => fields_of!(TXT, TXT_RULES, STRINGS_NAMES),
+        262 => fields_of!(TXT, TXT_RULES, STRINGS_NAMES),
+        263 => fields_of!(TXT, TXT_RULES, STRINGS_NAMES),
         264 => fields_of!(OCTETS8_PARTS, NO_RULES, IPN_NAMES),
         32768 => fields_of!(KEYS_PARTS, DNSKEY_RULES, DS_NAMES, 3, 4),
         32769 => fields_of!(KEYS_PARTS, DNSKEY_RULES, DS_NAMES, 3, 4),
-        65305 => fields_of!(NAME, NEW_TARGET_RULES, NEW_TARGET_NAMES),
+        65305 => fields_of!(NAME, OWNER_RULES, NEW_TARGET_NAMES),
         _ => None,
     }
 }
 
-/// Returns the format of a type by its number, for RDATA that begins with these octets: the format of KEY depends on its first
-/// octet, and that of IPSECKEY and AMTRELAY on their second one. `None` if the type has no format here, or its RDATA is never read.
+/// Returns the format of a type by its number, for RDATA that begins with these octets: the formats of KEY and A6 depend on
+/// their first octet, and those of IPSECKEY and AMTRELAY on their second one. `None` if the type has no format here, or its RDATA is never read.
 pub fn format_of(number: u16, octets: &[u8]) -> Option<Format>
     ensures some { IfSome result (λ f. registry number octets.now ≡ Some (row_of_format f)) }
     ensures front { IfSome result (λ f. IsFront f.parts.now f.front) }
@@ -802,6 +948,9 @@ pub fn format_of(number: u16, octets: &[u8]) -> Option<Format>
     ensures names { IfSome result (λ f. length f.names.now ≡ length f.parts.now) }
     ensures none { IfNone result (registry number octets.now ≡ None) }
 {
+    if number == 38 {
+        return prefix_format(octet_at(octets, 0));
+    }
     if number == 25 {
         return key_format(octet_at(octets, 0) / 64);
     }

@@ -7,9 +7,10 @@ ghost use Rattle.std.specs.{List.flat_map, List.list_all, Char.is_ascii_alphanum
 ghost use Rattle.dns_fields.specs.{Labels.DomainName, Labels.wire, Names.IsNameIn, Octets.At, Tlvs.string};
 ghost use Rattle.dns_fields.specs.declared.Kind.{TheVariants.Bitmap};
 ghost use Rattle.dns_view.specs.Shown.{Shows};
-ghost use Rattle.dns_registry.specs.FieldRules.{Passes, IsShortestBitmap, IsPrecision};
+ghost use Rattle.dns_registry.specs.FieldRules.{Passes, IsShortestBitmap, IsPrecision, AreOldTypes};
 
 use dns_check::bitmap::block_len;
+use dns_check::tlvs::are_complete;
 use dns_names_wire::name_ends::skip_run;
 use dns_view::FieldRef;
 
@@ -24,6 +25,11 @@ pub enum FieldRule {
     ShortestBitmap,
     /// The same, and there is a window (NSEC: RFC 4034, 4.1.2).
     SomeTypes,
+    /// One bit for each of the types 1 to 127: 1 to 16 octets, of which the first has its highest bit clear, and the last one is not
+    /// zero (NXT: RFC 2535, 5.2).
+    OldTypes,
+    /// Options of EDNS, each whole: a code, a length, and so many octets (RFC 6891, 6.1.2).
+    Options,
     /// At least so many octets.
     AtLeast(u8),
     /// A number from the first to the second.
@@ -161,11 +167,29 @@ fn strings_pass(rule: FieldRule, octets: &[u8]) -> bool
     }
 }
 
+// Returns whether octets are the types of NXT.
+fn are_old_types(octets: &[u8]) -> bool
+    ensures { (result ≡ true) ↔ AreOldTypes octets.now }
+{
+    if octets.len() < 1 || octets.len() > 16 {
+        return false;
+    }
+    if octets[0] >= 128 {
+        return false;
+    }
+    if octets[octets.len() - 1] == 0 {
+        return false;
+    }
+    true
+}
+
 fn rest_passes(rule: FieldRule, octets: &[u8]) -> bool
     ensures { (m : List ℕ) (p q : ℕ) → (result ≡ true) ↔ Passes rule m p Rest octets.now q }
 {
     match rule {
         FieldRule::AtLeast(count) => octets.len() >= count as usize,
+        FieldRule::OldTypes => are_old_types(octets),
+        FieldRule::Options => are_complete(octets),
         _ => true,
     }
 }

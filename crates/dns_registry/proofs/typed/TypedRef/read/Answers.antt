@@ -1,13 +1,31 @@
 use Rattle.std.proofs.Common.{◌≡◌, ℕ, List, take, drop, inl, inr, refl, sym, ◌∙◌, ap, subst, arith}
 use Rattle.std.proofs.lemmas.Option.{slice_get-get_or}
+use Rattle.dns_check.specs.Checks.{IsRowError}
 use Rattle.dns_registry.specs.{Formats.FormatRow, Formats.row_of_format, Typed.format_at, Typed.format_for, Typed.IsQuestionType}
 use Rattle.dns_registry.specs.declared.rule.FieldRule.TheVariants as rules
-use Rattle.dns_registry.proofs.Views.{typed_view, rejects, not_typed, moved_to}
+use Rattle.dns_registry.proofs.Views.{typed_view, rejects, not_typed, none_typed, moved_to}
 use Rattle.dns_registry.proofs.typed.TypedRef.read.Goals as goal
 
 -- the format is that of the octets
 same_format : (m : List ℕ) (p n k : ℕ) (octets unread : List ℕ) → octets ≡ take k unread → unread ≡ drop p m → k ≡ n → octets ≡ take n (drop p m)
 same_format m p n k octets unread o u s = cc
+
+pub returns-in-Err-clause-refused : goal.returns-in-Err-clause-refused
+returns-in-Err-clause-refused c =
+    let same : row_of_format c.format_for_type-format.result ≡ format_at c.args.walk.now.message c.args.walk.now.index c.args.length c.args.record_type =
+    c.format_for_type-format.ensures.row c.args.record_type (sym c.from-number.ensures)
+    ∙ ap (format_for c.args.record_type) (same_format c.args.walk.now.message c.args.walk.now.index c.args.length _ _ _ c.front_of.ensures
+    c.unread-unread.ensures c.unverified.ensures) in
+    none_typed c.args.walk.now.message c.args.walk.now.index c.args.length c.args.record_type (row_of_format c.format_for_type-format.result) same
+    c.in-Err.ensures.refused.none
+
+pub returns-in-Err-clause-why : goal.returns-in-Err-clause-why
+returns-in-Err-clause-why c =
+    let same : row_of_format c.format_for_type-format.result ≡ format_at c.args.walk.now.message c.args.walk.now.index c.args.length c.args.record_type =
+    c.format_for_type-format.ensures.row c.args.record_type (sym c.from-number.ensures)
+    ∙ ap (format_for c.args.record_type) (same_format c.args.walk.now.message c.args.walk.now.index c.args.length _ _ _ c.front_of.ensures
+    c.unread-unread.ensures c.unverified.ensures) in
+    inr (subst (λ (row : FormatRow). IsRowError row.parts c.args.length c.args.walk.now c.in-Err.e c.view_by.new.walk) same c.in-Err.ensures.why)
 
 pub returns-in-None-clause-found : goal.returns-in-None-clause-found
 returns-in-None-clause-found c =
