@@ -2,7 +2,6 @@
 use Rattle.std.proofs.Common.{◌≡◌, ℕ, ◌+◌, ◌-◌, ◌≤◌, inl, inr, List, ◌++◌, length, take, drop, sym, ap, ◌∙◌, arith, subst}
 use Rattle.std.proofs.lemmas.List.{take_all, drop-drop, length-take, length-drop}
 use Rattle.std.proofs.Math.Seq.{take-add}
-use Rattle.dns_fields.specs.declared.Kind.{Kind}
 use Rattle.dns_fields.specs.declared.Kind.TheVariants.{CharacterStrings, Options, Parameters, Bitmap}
 use Rattle.dns_fields.specs.{Octets.At, Tlvs.IsTruncated, Fields.Value, Fields.IsField, Fields.Field}
 

@@ -1,18 +1,17 @@
 -- Records that are read by their rows.
-use Rattle.std.proofs.Common.{Bool, ◌≡◌, ◌≢◌, ℕ, ◌+◌, ◌<◌, ◌≤◌, ◌&&◌, ◌⊎◌, inl, inr, List, [], ◌∷◌, ◌++◌, length, true, false, refl, sym, ◌∙◌, arith, subst, Result, Ok, Err}
+use Rattle.std.proofs.Common.{Bool, ◌≡◌, ◌≢◌, ℕ, ◌+◌, inl, inr, List, [], ◌∷◌, true, false, refl, arith, subst, Result, Ok, Err}
 use Rattle.dns_types.specs.declared.error.DecodeError.{DecodeError}
 use Rattle.dns_types.specs.declared.error.DecodeError.TheVariants as decode
 use Rattle.dns_fields.specs.declared.Kind.{Kind}
 use Rattle.dns_fields.specs.declared.Kind.TheVariants.{Number, Octets, Name, CharacterString, CharacterStrings, Rest, Options, Parameters, Bitmap}
-use Rattle.dns_fields.specs.{Fields.EndsItself, Fields.Value, Fields.Values, Fields.Stands, Tlvs.string}
-use Rattle.dns_names_wire.specs.{State.Reading, Facts.Facts, Terms.Lacks, Terms.Refused, Terms.ReadsBy, Facts.RecordStands, Terms.Region, Terms.NoRegion, Terms.RefusedRegion, Terms.ReadsIf, Terms.ReadsTo, Terms.ReadsRegion}
+use Rattle.dns_fields.specs.{Fields.EndsItself, Fields.Value, Fields.Values}
+use Rattle.dns_names_wire.specs.{State.Reading, Facts.Facts, Terms.Lacks, Terms.Refused, Terms.ReadsBy, Facts.RecordStands, Terms.NoRegion, Terms.RefusedRegion, Terms.ReadsIf, Terms.ReadsTo}
 use Rattle.dns_names_wire.specs.{Terms.IsLong, Terms.AllEnd, Terms.StaysBehind, Terms.StringsReach, Terms.UnlessMemory, Terms.moved}
 use Rattle.dns_names_wire.proofs.{RegionReads.Given, RegionReads.fields_region, RegionReads.filled_region, FieldReads.unless_map}
 use Rattle.dns_rows.specs.{declared.row.Part.Part, declared.row.Rule.Rule, Table.kinds_of, Rules.MeetsRow}
 use Rattle.dns_rows.specs.declared.row.Rule.TheVariants as rules
 use Rattle.dns_check.proofs.RowTests.{both}
-use Rattle.dns_check.specs.{Parts.Ends, Parts.KindFault, Rows.RowError, Rows.RowFault, Rows.HasRow, Rows.NoRow, Rows.RowReached, Rows.SkipsRow, Rows.TookRow, Rows.RefusedRow}
-use Rattle.dns_check.specs.Checks.{IsRowError}
+use Rattle.dns_check.specs.{Parts.Ends, Parts.KindFault, Rows.RowError, Rows.RowFault, Rows.NoRow, Rows.RowReached, Rows.RefusedRow}
 use Rattle.dns_check.specs.ByRow.{IsAlone, NoneTaken, ReadsRow, RecordRefuses, all_alone, ends_alone}
 
 pub unless_given : {P : Type 0} (e : DecodeError) → P → UnlessMemory e P
@@ -112,6 +111,11 @@ refused_row row n e old new h = record { behind = h.behind; none = unless_given 
 pub refused_none : (row : List Part) (n : ℕ) (e : DecodeError) (old : Reading) → UnlessMemory e (NoneTaken row n old)
     → UnlessMemory e (NoRegion old.message old.index n (kinds_of row) (MeetsRow row))
 refused_none row n e old h = unless_map e _ _ (none_region row n old) h
+
+-- the decoder stays in the message, and does not go back
+pub reads_behind : {T : Type 0} (f : Facts T) (n : ℕ) (r : Result T DecodeError) (old new : Reading) → ReadsRow f n r old new → StaysBehind old new
+reads_behind f n (Ok x) old new h = h.behind
+reads_behind f n (Err e) old new h = h.0
 
 moved_start : {old d : Reading} {start : ℕ} → StaysBehind old d → start ≡ old.index → moved d start ≡ old
 moved_start {old} {d} {start} h i = rw (h.message, i) refl

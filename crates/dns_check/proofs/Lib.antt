@@ -21,3 +21,4 @@ pub mod TlvParts
 pub mod ByRow
 pub mod CheckedFirst
 pub mod RowErrors
+pub mod ListRows

@@ -14,7 +14,7 @@ use Rattle.dns_names_wire.proofs.{FieldReads.took_number, Strings.at_front, Stri
 use Rattle.dns_rows.specs.declared.row.Rule.{Rule}
 use Rattle.dns_rows.specs.declared.row.Rule.TheVariants as rules
 use Rattle.dns_check.specs.Parts.{IsUnasked, Skips}
-use Rattle.dns_check.specs.{Tlvs.TlvThere, Options.HasOptions}
+use Rattle.dns_check.specs.{Tlvs.TlvThere, Tlvs.CompleteBy, Options.HasOptions}
 use Rattle.dns_check.specs.Options.{OptionsLeft, NoneLeft, TookTlv, TookCut, TookHead, RefusedTlv, IsTlvError, HasOption, IsSubnetError, IsNextError}
 use Rattle.dns_check.proofs.{Alone.slice, Alone.slice_at, Alone.between_is, Asked.unasked, Splits.all_append, Subnets.subnet_none}
 
@@ -340,16 +340,21 @@ cut_taken {rule} {start} {n} {from} {size} {old} {d} {b} {done} before same is r
 
 -- ---- whole options that fill octets
 
-pub record OptionsRead (octets : List ℕ) (offset : ℕ) : Type 0 where
+-- so many were gone over
+pub record OptionsRead (octets : List ℕ) (count offset : ℕ) : Type 0 where
   pub inside : offset ≤ length octets
   pub values : List (Numbered OptionValue)
   pub complete : CompleteOptions octets 0 values offset
+  pub number : count ≡ length complete.read
+  pub few : count ≤ offset
 
-pub none_read : (octets : List ℕ) → OptionsRead octets 0
+pub none_read : (octets : List ℕ) → OptionsRead octets 0 0
 none_read octets = record {
   inside = omega arith;
   values = [];
   complete = record { read = []; at = record { ends = omega arith; within = omega arith; same = refl }; fit = tt; held = tt };
+  number = refl;
+  few = omega arith;
 }
 
 -- the octets of the value of an option
@@ -360,10 +365,10 @@ body_is {octets} {offset} {end} t =
     let four : offset + 2 + 2 ≡ offset + 4 = omega arith in
     between_is (subst (λ (p : ℕ). At octets p t.body end) four there)
 
-pub one_read : {octets : List ℕ} {offset end : ℕ} → OptionsRead octets offset → end ≤ length octets → (t : TlvThere octets offset end) → HasOption t.key t.body
-    → OptionsRead octets end
-one_read {octets} {offset} {end} o room t h = record {
-  inside = room;
+pub one_read : {octets : List ℕ} {count offset end : ℕ} → OptionsRead octets count offset → (offset + 4 ≤ end) × (end ≤ length octets)
+    → (t : TlvThere octets offset end) → HasOption t.key t.body → OptionsRead octets (count + 1) end
+one_read {octets} {count} {offset} {end} o room t h = record {
+  inside = room.1;
   values = o.values ++ (t.key, h.value) ∷ [];
   complete = record {
     read = o.complete.read ++ (t.key, t.body) ∷ [];
@@ -371,12 +376,26 @@ one_read {octets} {offset} {end} o room t h = record {
     fit = all_append IsTlv o.complete.read ((t.key, t.body) ∷ []) o.complete.fit (t.is.fits, tt);
     held = held_more o.complete.read o.values (t.key, t.body) h.value o.complete.held h.held;
   };
+  number = omega (arith, o.number, length-append o.complete.read ((t.key, t.body) ∷ []));
+  few = omega (arith, o.few, room);
 }
 
-pub all_read : {octets : List ℕ} {offset : ℕ} → OptionsRead octets offset → length octets ≤ offset → HasOptions octets
-all_read {octets} {offset} o end =
+pub all_read : {octets : List ℕ} {count offset : ℕ} → OptionsRead octets count offset → length octets ≤ offset → HasOptions octets
+all_read {octets} {count} {offset} o end =
     let all : offset ≡ length octets = omega (arith, o.inside, end) in
     record { values = o.values; complete = subst (λ (q : ℕ). CompleteOptions octets 0 o.values q) all o.complete }
+
+pub all_counted : {octets : List ℕ} {count offset : ℕ} → OptionsRead octets count offset → length octets ≤ offset → CompleteBy octets count
+all_counted {octets} {count} {offset} o end =
+    let all : offset ≡ length octets = omega (arith, o.inside, end) in
+    record {
+      parts = record {
+        read = o.complete.read;
+        at = subst (λ (q : ℕ). At octets 0 (tlvs o.complete.read) q) all o.complete.at;
+        fit = o.complete.fit;
+      };
+      number = o.number;
+    }
 
 -- they are taken if they fill the RDATA
 pub options_fill : (start n : ℕ) {m : List ℕ} {at : ℕ} → at ≤ start + n → start + n ≤ length m → HasOptions (slice m at (start + n)) → (rule : Rule)

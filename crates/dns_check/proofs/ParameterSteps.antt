@@ -1,5 +1,5 @@
 -- Taking parameters one after the other.
-use Rattle.std.proofs.Common.{◌≡◌, inl, inr, ℕ, ◌+◌, ◌-◌, ◌<◌, ◌≤◌, List, [], ◌∷◌, ◌++◌, length, drop, Option, Some, refl, sym, ap, ◌∙◌, arith, subst, Ok}
+use Rattle.std.proofs.Common.{◌≡◌, inl, inr, ℕ, ◌+◌, ◌-◌, ◌<◌, ◌≤◌, List, [], ◌∷◌, ◌++◌, length, drop, Option, Some, None, refl, sym, ap, ◌∙◌, arith, subst, Ok}
 use Rattle.std.proofs.Common.{Err}
 use Rattle.std.proofs.{lemmas.List.length-append, lemmas.List.length-drop, lemmas.Bool.cases_eq}
 use Rattle.std.specs.Int.{bytes_high_first}
@@ -16,10 +16,10 @@ use Rattle.dns_rows.specs.Rules.{HasText, HaveTexts}
 use Rattle.dns_rows.specs.declared.row.Rule.TheVariants as rules
 use Rattle.dns_check.specs.Parts.{Skips}
 use Rattle.dns_check.specs.Parameters.{IsAbove, TookParameter, ParametersBefore, LacksHead, TruncatedValue, RefusedValue, IsParameterError}
-use Rattle.dns_check.specs.ParameterValues.{HasValue, IsKeyError}
+use Rattle.dns_check.specs.{ParameterValues.HasValue, ParameterValues.IsKeyError, Tlvs.TlvThere, Lists.ParametersThere}
 use Rattle.dns_check.proofs.ParameterLists.{StandEach, Risen, risen_push, risen_not, risen_rises, fails_test, OneOf, one_long, one_once, one_of}
 use Rattle.dns_check.proofs.ParameterLists.{parameters_each, each_parameters, each_inside, each_rest}
-use Rattle.dns_check.proofs.{ValueForms.key_none, Splits.at_split, Splits.stays_then, Splits.all_behind, Splits.all_append}
+use Rattle.dns_check.proofs.{Alone.slice, OptionLists.body_is, ValueForms.key_none, Splits.at_split, Splits.stays_then, Splits.all_behind, Splits.all_append}
 
 -- ---- one parameter
 
@@ -284,3 +284,75 @@ parameters_passed {start} {n} {key} {size} {old} {d} {b} {last} on room f above 
         );
       };
     }
+
+-- ---- parameters that are counted
+
+-- so many were gone over
+pub record Counted (m : List ℕ) (at count : ℕ) (last : Option ℕ) (offset : ℕ) : Type 0 where
+  pub on : ParametersOn (record { message = m; index = at }) last (record { message = m; index = offset })
+  pub number : count ≡ length on.items
+  pub few : count ≤ offset
+
+pub counted_none : {m : List ℕ} {at : ℕ} → at ≤ length m → Counted m at 0 None at
+counted_none {m} {at} within = record {
+  on = record {
+    items = [];
+    behind = stays (record { message = m; index = at });
+    stand = refl;
+    within = within;
+    risen = record { rest = λ zs. refl };
+    texts = tt;
+  };
+  number = refl;
+  few = omega arith;
+}
+
+one_more : (xs : List (Numbered ParameterValue)) (x : Numbered ParameterValue) (n : ℕ) → n ≡ length xs → n + 1 ≡ length (xs ++ x ∷ [])
+one_more xs x n e = omega (arith, e, length-append xs (x ∷ []))
+
+-- one is there, and its octets hold a value
+tlv_taken : {m : List ℕ} {offset end : ℕ} (t : TlvThere m offset end) → HasValue t.key t.body
+    → TookParameter (record { message = m; index = offset }) t.key (record { message = m; index = end })
+tlv_taken {m} {offset} {end} t v =
+    let one : OneOf m offset (t.key, v.value) end = record { octets = t.body; at = t.is.at; fits = t.is.fits; held = v.held } in
+    record {
+      value = v.value;
+      took = record { message = refl; field = each_parameters t.is.at.within (end, one, refl) (tt, tt) };
+      text = v.text;
+    }
+
+pub counted_more : {m : List ℕ} {at count key offset end : ℕ} {last : Option ℕ} → Counted m at count last offset → (t : TlvThere m offset end)
+    → offset + 4 ≤ end → key ≡ t.key → HasValue key (slice m (offset + 4) end) → IsAbove last key → Counted m at (count + 1) (Some key) end
+unfolding on_more tlv_taken
+counted_more {m} {at} {count} {key} {offset} {end} {last} c t long is v above =
+    let value : HasValue t.key t.body = subst (λ (k : ℕ). HasValue k t.body) is (subst (HasValue key) (body_is t) v) in
+    let on = on_more c.on (tlv_taken t value) (subst (IsAbove last) is above) in
+    subst (λ (k : ℕ). Counted m at (count + 1) (Some k) end) (sym is) (record {
+      on = on;
+      number = one_more c.on.items (t.key, value.value) count c.number;
+      few = omega (arith, c.few, long);
+    })
+
+pub counted_all : {m : List ℕ} {at count offset end : ℕ} {last : Option ℕ} → Counted m at count last offset → offset ≤ end → end ≤ offset
+    → ParametersThere m at end count
+counted_all {m} {at} {count} {offset} {end} c within past =
+    let there : offset ≡ end = omega (arith, within, past) in
+    record {
+      values = c.on.items;
+      field = subst (λ (q : ℕ). Field m at Parameters c.on.items q) there (on_taken c.on).field;
+      texts = c.on.texts;
+      number = c.number;
+    }
+
+-- they are taken if they end with the RDATA
+pub parameters_there : {m : List ℕ} {at count start n : ℕ} (h : ParametersThere m at (start + n) count)
+    → Skips rules.Paths Parameters start n (Ok tt) (record { message = m; index = at }) (record { message = m; index = start + n })
+parameters_there h = record {
+  is = record {
+    value = h.values;
+    took = record { message = refl; field = h.field };
+    asked = (h.texts, tt);
+    one = λ v q f r. r;
+    ends = (omega arith, omega arith);
+  };
+}

@@ -75,6 +75,28 @@ on_more {old} {d} {b} {end} {s} r f lt =
           (x.1, subst (λ (q : ℕ). Field old.message q CharacterStrings x.1 end) there x.3);
     }
 
+-- so many were gone over
+pub record Counted (old : Reading) (end count : ℕ) (d : Reading) : Type 0 where
+  pub on : On old end d
+  pub number : count ≡ length on.strings
+  pub few : old.index + count ≤ d.index
+
+pub counted_none : {old : Reading} (end : ℕ) → old.index ≤ length old.message → Counted old end 0 old
+unfolding on_none
+counted_none {old} end within = record { on = on_none end within; number = refl; few = omega arith }
+
+one_more : (xs : List (List ℕ)) (s : List ℕ) (n : ℕ) → n ≡ length xs → n + 1 ≡ length (xs ++ s ∷ [])
+one_more xs s n e = omega (arith, e, length-append xs (s ∷ []))
+
+pub counted_more : {old d b : Reading} {end count : ℕ} {s : List ℕ} → Counted old end count d → TookField d CharacterString s b → d.index < end
+    → Counted old end (count + 1) b
+unfolding on_more
+counted_more {count = count} {s = s} c f lt = record {
+  on = on_more c.on f lt;
+  number = one_more c.on.strings s count c.number;
+  few = omega (arith, c.few, f.field.is.1.ends);
+}
+
 any_strings : (rule : Rule) → IsUnasked rule CharacterStrings
 any_strings rules.Letters = tt
 any_strings r = tt

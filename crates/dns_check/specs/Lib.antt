@@ -9,3 +9,4 @@ pub mod RowSteps
 pub mod Checks
 pub mod Tlvs
 pub mod ByRow
+pub mod Lists

@@ -3,6 +3,7 @@
 ghost use Rattle.std.specs.Prelude.{◌≡◌, ◌+◌, ◌<◌, ◌≤◌, true, length, Ok, IfSome, IfNone, OnOk, IfErr};
 ghost use Rattle.dns_fields.specs.declared.Kind.TheVariants.{Options};
 ghost use Rattle.dns_check.specs.Parts.{Skips};
+ghost use Rattle.dns_check.specs.Tlvs.{CompleteBy};
 ghost use Rattle.dns_check.specs.Options.{HasOption, HasOptions, IsFamily, IsSubnetError, ReadsTlv, family_octets};
 
 use crate::tlvs::end_of;
@@ -159,26 +160,29 @@ pub(crate) fn skip_options(
     Ok(())
 }
 
-// Returns whether whole options fill the octets. `false` says nothing about them.
-fn are_options(octets: &[u8]) -> bool
-    ensures { result ≡ true → HasOptions octets.now }
+/// Returns how many whole options fill the octets. `None` says nothing about them.
+pub(crate) fn count_options(octets: &[u8]) -> Option<usize>
+    ensures options { IfSome result (λ count. HasOptions octets.now) }
+    ensures count { IfSome result (λ count. CompleteBy octets.now count) }
 {
     let mut offset = 0;
+    let mut count = 0;
     'tlvs: while offset < octets.len() {
         let end = match end_of(octets, offset) {
             Some(end) => end,
-            None => return false,
+            None => return None,
         };
+        count += 1;
         let code = u16::from_be_bytes([octets[offset], octets[offset + 1]]);
         if code == SUBNET {
             match check_subnet(&octets[offset + 4..end]) {
                 Ok(()) => {}
-                Err(_) => return false,
+                Err(_) => return None,
             }
         }
         offset = end;
     }
-    true
+    Some(count)
 }
 
 /// Returns the end of the RDATA if whole options fill it from an offset on. `None` says nothing about them. Nothing is
@@ -194,8 +198,8 @@ pub(crate) fn options_end(message: &[u8], at: usize, start: usize, len: usize) -
     if end < at || message.len() < end {
         return None;
     }
-    if !are_options(&message[at..end]) {
-        return None;
+    match count_options(&message[at..end]) {
+        Some(_) => Some(end),
+        None => None,
     }
-    Some(end)
 }

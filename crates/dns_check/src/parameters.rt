@@ -1,11 +1,13 @@
 //! The parameters of a service binding, one after the other (RFC 9460, 2.2).
 
-ghost use Rattle.std.specs.Prelude.{◌≡◌, ◌<◌, ◌≤◌, ◌↔◌, IsTrue, IfOk, IfErr};
+ghost use Rattle.std.specs.Prelude.{◌≡◌, ◌<◌, ◌≤◌, ◌↔◌, IsTrue, IfOk, IfErr, IfSome, length};
 ghost use Rattle.dns_fields.specs.declared.Kind.TheVariants.{Parameters};
 ghost use Rattle.dns_check.specs.Parts.{Skips};
 ghost use Rattle.dns_check.specs.Parameters.{IsAbove, TookParameter, IsParameterError};
+ghost use Rattle.dns_check.specs.Lists.{ParametersThere};
 
 use crate::parameter_values::check_value;
+use crate::tlvs::end_of;
 use dns_names_wire::walk::Walk;
 use dns_rows::Rule;
 use dns_types::DecodeError;
@@ -87,4 +89,39 @@ pub(crate) fn skip_parameters(
         }
     }
     Ok(())
+}
+
+/// Returns how many parameters there are from an offset to the end of RDATA, whose keys rise. `None` says nothing about them.
+pub(crate) fn count_parameters(message: &[u8], at: usize, end: usize) -> Option<usize>
+    requires within { at ≤ length message.now }
+    requires inside { end ≤ length message.now }
+    ensures { IfSome result (λ count. ParametersThere message.now at end count) }
+{
+    if end < at {
+        return None;
+    }
+    let mut offset = at;
+    let mut count = 0;
+    let mut last = None;
+    'parameters: while offset < end {
+        let next = match end_of(message, offset) {
+            Some(next) => next,
+            None => return None,
+        };
+        let key = u16::from_be_bytes([message[offset], message[offset + 1]]);
+        if end < next {
+            return None;
+        }
+        if !is_above(last, key) {
+            return None;
+        }
+        match check_value(key, &message[offset + 4..next]) {
+            Ok(()) => {}
+            Err(_) => return None,
+        }
+        last = Some(key);
+        offset = next;
+        count += 1;
+    }
+    Some(count)
 }

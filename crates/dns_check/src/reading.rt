@@ -1,5 +1,5 @@
-//! Records that are read by the rows of their types. A record's reader answers whether there is a value, and takes it in one
-//! pass; the error of RDATA that is rejected is made by its row, so that no error is defined twice.
+//! Records that are read by the rows of their types. A record's reader returns whether there is a value, and takes it; the error of
+//! RDATA that is rejected is made by its row, so that no error is defined twice.
 
 ghost use Rattle.std.specs.Prelude.{◌≡◌, ◌≤◌, ◌↔◌, ◌-◌, IsTrue, true, ℕ, length as size, take, drop, IfOk, IfErr, OnOk, OnErr};
 ghost use Rattle.dns_rows.specs.{Table.kinds_of, Rules.MeetsRow};
@@ -150,6 +150,34 @@ pub fn whole_error(
     }
 }
 
+// The value that a reader returned that began at this offset, if it took exactly this length. It is a function of its own, so that the
+// value is not copied on its way.
+#[inline]
+fn of_length<T: DecodesRow + Drop>(
+    outcome: Result<T, DecodeError>,
+    decoder: &mut BinDecoder<'_>,
+    start: usize,
+    length: Restrict<u16>,
+) -> Result<T, DecodeError>
+    requires before { start ≤ decoder.old.index }
+    requires inside { start ≤ size decoder.old.message }
+    ensures whole { IfOk result (λ x. (outcome ≡ Ok x) × (decoder.new ≡ decoder.old) × (decoder.old.index - start ≡ length)) }
+    ensures refused { IfErr result (λ e. UnlessMemory e (NoFill decoder.old.message start length T.facts.row)) }
+    ensures why { IfErr result (λ e. UnlessMemory e (IsRowError T.facts.row length (moved decoder.old start) e decoder.new)) }
+    ensures behind { IfErr result (λ e. StaysBehind (moved decoder.old start) decoder.new) }
+{
+    match outcome {
+        Err(DecodeError::Memory) => Err(DecodeError::Memory),
+        Err(_) => Err(whole_error(decoder, start, T::row(), length)),
+        outcome => {
+            if decoder.index() - start == length.unverified() as usize {
+                return outcome;
+            }
+            Err(whole_error(decoder, start, T::row(), length))
+        }
+    }
+}
+
 /// Reads RDATA that fills exactly this length.
 ///
 /// # Errors
@@ -168,16 +196,8 @@ pub fn read_whole<T: DecodesRow + Drop>(
     ensures after_read { IfOk result (λ x. T.facts.after_read length x decoder.old decoder.new) }
 {
     let start = decoder.index();
-    match T::read_row(decoder, length) {
-        Err(DecodeError::Memory) => Err(DecodeError::Memory),
-        Err(_) => Err(whole_error(decoder, start, T::row(), length)),
-        outcome => {
-            if decoder.index() - start == length.unverified() as usize {
-                return outcome;
-            }
-            Err(whole_error(decoder, start, T::row(), length))
-        }
-    }
+    let outcome = T::read_row(decoder, length);
+    of_length(outcome, decoder, start, length)
 }
 
 impl<T: DecodesFields + EncodesFields> BinDecodable for T {

@@ -94,26 +94,6 @@ txt_after {x} {n} {old} {new} h same =
       subst (λ (l : List (List ℕ)). StringsReach (old.index + n) l new.index) one h.took.reached,
     )
 
--- ---- how many strings there are
-
--- behind some strings that were counted, the others stand
-pub record CountsOn (m : List ℕ) (end count : ℕ) (q : ℕ) : Type 0 where
-  pub rest : (ws : List (List ℕ)) → Field m 0 CharacterStrings ws end
-      → (vs : List (List ℕ)) × Field m q CharacterStrings vs end × (count + length vs ≡ length ws)
-
-pub counts_more : {m : List ℕ} {end count q : ℕ} → q < end → q < length m → CountsOn m end count q → CountsOn m end (count + 1) (q + (1 + get_or m q 0))
-counts_more {m} {end} {count} {q} lt inside c = record {
-  rest = λ ws f.
-      let vs = c.rest ws f in
-      let split = next_string m q end vs.0 lt vs.1 in
-      let offset_is : q + length (string split.0) ≡ q + (1 + get_or m q 0) = omega (arith, first_octet inside split.2) in
-      (split.1, subst (λ (r : ℕ). Field m r CharacterStrings split.1 end) offset_is split.3, omega (arith, vs.2, ap length split.4));
-}
-
-pub counts_all : {m : List ℕ} {end count q : ℕ} → CountsOn m end count q → end ≤ q → (ws : List (List ℕ)) → Field m 0 CharacterStrings ws end
-    → count ≡ length ws
-counts_all {m} {end} {count} {q} c past ws f = let vs = c.rest ws f in omega (arith, vs.2, ap length (no_text m q end vs.0 past vs.1))
-
 -- ---- strings that are written one after the other
 
 long_inner : (xs : List (List ℕ)) (s : List ℕ) (ys : List (List ℕ)) → nat_le (length s) 255 ≡ false

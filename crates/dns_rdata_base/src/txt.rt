@@ -12,7 +12,8 @@ ghost use Rattle.dns_tokens.specs.Reads.{ReadsTokenRow};
 use crate::OrderedRecord;
 use bstr::BStr;
 use dns_canonical::{Head, Step, text_behind};
-use dns_check::{DecodesRow, take_row};
+use dns_check::DecodesRow;
+use dns_check::lists::take_strings;
 use dns_names_wire::{
     BinDecoder, BinEncodable, BinEncoder, DecodeError, Octets, ParseError, ProtoError, Record,
     Restrict,
@@ -96,20 +97,20 @@ impl DecodesRow for TXT {
     /// Checks character strings until RDLENGTH is reached or passed, and then keeps them. If it is passed, the strings do not
     /// fill the RDATA, and the value has the strings that were read. Allocates once for the list, and once for each string.
     fn read_row(decoder: &mut BinDecoder<'_>, length: Restrict<u16>) -> Result<TXT, DecodeError> {
-        match take_row(decoder, &row::TXT, length) {
-            Ok(octets) => Ok(TXT {
-                txt_data: strings_in(decoder.allocator(), octets)?,
+        match take_strings(decoder, length) {
+            Some((octets, count)) => Ok(TXT {
+                txt_data: strings_in(decoder.allocator(), octets, count)?,
             }),
-            Err(e) => Err(e),
+            None => Err(DecodeError::InsufficientBytes),
         }
     }
 }
 
-// The strings that fill the octets, which were checked.
-fn strings_in(alloc: Global, octets: &[u8]) -> Result<Strings, AllocError>
+// The strings that fill the octets, which were checked and counted.
+fn strings_in(alloc: Global, octets: &[u8], count: usize) -> Result<Strings, AllocError>
     ensures { IfOk result (λ strings. (v : List (List ℕ)) → Field octets.now 0 CharacterStrings v (list_length octets.now) → strings ≡ v) }
 {
-    let mut strings = Strings::with_capacity(alloc, strings_within(octets))?;
+    let mut strings = Strings::with_capacity(alloc, count)?;
     let mut offset = 0;
     while offset < octets.len() {
         let end = octets.len().min(offset + 1 + octets[offset] as usize);
@@ -117,19 +118,6 @@ fn strings_in(alloc: Global, octets: &[u8]) -> Result<Strings, AllocError>
         offset = end;
     }
     Ok(strings)
-}
-
-// How many strings begin in the octets. If strings fill them, this is their number.
-fn strings_within(octets: &[u8]) -> usize
-    ensures { (strings : List (List ℕ)) → Field octets.now 0 CharacterStrings strings (list_length octets.now) → result ≡ list_length strings }
-{
-    let mut count = 0;
-    let mut offset = 0;
-    while offset < octets.len() {
-        offset += 1 + octets[offset] as usize;
-        count += 1;
-    }
-    count
 }
 
 impl BinEncodable for TXT {

@@ -21,7 +21,8 @@ mod text;
 pub(crate) mod walks;
 
 pub use code::EdnsCode;
-use dns_check::{DecodesRow, take_row};
+use dns_check::DecodesRow;
+use dns_check::lists::take_options;
 use dns_names_wire::{
     BinDecoder, BinEncodable, BinEncoder, DecodeError, ProtoError, Record, Restrict,
 };
@@ -197,9 +198,13 @@ impl DecodesRow for OPT {
     /// allocated. Otherwise this allocates once for the list, and once for each option that is not a client subnet.
     #[inline(always)]
     fn read_row(decoder: &mut BinDecoder<'_>, length: Restrict<u16>) -> Result<OPT, DecodeError> {
-        match take_row(decoder, &row::OPT, length) {
-            Ok(octets) => Ok(reading::options_in(decoder.allocator(), octets)?),
-            Err(e) => Err(e),
+        match take_options(decoder, length) {
+            Some((octets, count)) => Ok(reading::whole_options(
+                decoder.allocator(),
+                octets,
+                count,
+            )?),
+            None => reading::read_cut(decoder, length),
         }
     }
 }

@@ -7,13 +7,14 @@ use Rattle.dns_canonical.specs.Fronts.{canonical_cmp, field_cmp}
 use Rattle.dns_canonical.proofs.{Fronts.fields_decide, Comparing.then_kept}
 use Rattle.dns_rdata_policy.specs.{RecordTypeSet.set_fields, RecordTypeSet.set_shape, declared.csync.CSYNC.CSYNC}
 use Rattle.dns_rows.specs.declared.row.TheConstants as rows
-use Rattle.dns_check.specs.ByRow.{ReadsRow, RowThere}
-use Rattle.dns_check.proofs.CheckedFirst.{number_there, row_reads, took_first}
-use Rattle.dns_fields.proofs.FieldLaws.{field_same}
+use Rattle.dns_rows.specs.Rules.{AreKnownFlags, MeetsRow}
+use Rattle.dns_check.specs.ByRow.{ReadsRow}
+use Rattle.dns_check.proofs.ByRow.{exact_row}
 use Rattle.dns_rdata_policy.specs.CSYNC.{csync_shape, csync_flags, csync_fields, csync_key_shape, csync_keys, bit, IsReadCsync, csync_facts}
 use Rattle.dns_types.specs.declared.error.DecodeError.{DecodeError}
-use Rattle.dns_names_wire.specs.{Terms.Lacks, Terms.LacksOctets, Terms.Refused, Terms.Took, Terms.TookField, Terms.moved, State.Reading}
-use Rattle.dns_names_wire.proofs.FieldReads.{stands_inside, took_number, took_stays, unless_map}
+use Rattle.dns_names_wire.specs.{Terms.Lacks, Terms.Refused, Terms.Took, Terms.TookField, State.Reading}
+use Rattle.dns_names_wire.proofs.FieldReads.{refused_then, took_number, took_then, unless_map}
+use Rattle.dns_names_wire.proofs.RegionReads.{Given}
 
 abbrev pub csync_from : Values csync_shape → CSYNC
 csync_from vs = record {
@@ -87,49 +88,18 @@ numbers_decide a b o e apart =
 
 -- ---- reading: serial and flags were taken, and then the types
 
--- they are those of the row, and the types follow
-pub csync_head : {n end serial flags : ℕ} {old a b : Reading} (h : RowThere rows.CSYNC n old (moved old end)) → TookField old (Number 4) serial a
-    → TookField a (Number 2) flags b → (serial ≡ h.took.fields.values.0) × (flags ≡ h.took.fields.values.1.0)
-    × Stands b.message b.index set_shape h.took.fields.values.1.1 end
-csync_head {end = end} h f g =
-    let vs = h.took.fields.values in
-    let first = took_first (Number 2 ∷ Bitmap ∷ []) vs end tt f h.took.fields.stands in
-    let second = took_first set_shape vs.1 end tt g first.1 in
-    (first.0, second.0, second.1)
+-- the types are not read
+pub types_stop : (m : ℕ) {n serial flags : ℕ} {e : DecodeError} {old a b c : Reading} → Given old n → TookField old (Number 4) serial a
+    → TookField a (Number 2) flags b → m + 6 ≡ n → Refused e b set_shape (λ vs q. (q ≡ b.index + m) × Unit {0}) c → ReadsRow csync_facts n (Err e) old c
+types_stop m {n} {e = e} {old} {c = c} g f h all r = exact_row csync_facts (Err e) old c n tt refl g (refused_then f tt (refused_then h tt (record {
+  behind = r.behind;
+  none = unless_map e _ _ (λ l. record { none = λ vs q s k. l.none vs q s (omega (arith, k.0, all, took_number f, took_number h), tt) }) r.none;
+})))
 
--- how many octets are left
-pub csync_left : {n end serial flags : ℕ} {old a b : Reading} → RowThere rows.CSYNC n old (moved old end) → TookField old (Number 4) serial a
-    → TookField a (Number 2) flags b → (b.index ≤ end) × (end < b.index + 65536)
-csync_left {end = end} {b = b} h f g =
-    let inside = stands_inside b.message b.index set_shape h.took.fields.values.1.1 end (csync_head h f g).2 in
-    (inside, omega (arith, h.took.reached, h.short, took_number f, took_number g))
-
--- no flags are missing
-pub flags_there : {n end serial : ℕ} {old a : Reading} → RowThere rows.CSYNC n old (moved old end) → TookField old (Number 4) serial a → LacksOctets a 2 → ⊥
-flags_there {end = end} h f l =
-    number_there set_shape h.took.fields.values.1 end (took_first (Number 2 ∷ Bitmap ∷ []) h.took.fields.values end tt f h.took.fields.stands).1 l
-
--- the types are not kept: memory ran out
-pub types_stop : (m : ℕ) {n end serial flags : ℕ} {e : DecodeError} {old a b c : Reading} → RowThere rows.CSYNC n old (moved old end) → TookField old (Number 4) serial a
-    → TookField a (Number 2) flags b → b.index + m ≡ end → Refused e b set_shape (λ vs q. (q ≡ b.index + m) × Unit {0}) c → ReadsRow csync_facts n (Err e) old c
-types_stop m {n} {end} {e = e} {old} {b = b} h f g left r = (
-  took_stays f (took_stays g r.behind),
-  unless_map e _ _ (λ (l : Lacks b set_shape (λ vs q. (q ≡ b.index + m) × Unit {0})).
-      absurd (l.none h.took.fields.values.1.1 end (csync_head h f g).2 (omega (arith, left), tt))) r.none,
-)
-
--- the fields that were read are those of the row, and end where it ends
-pub csync_read : (m : ℕ) {n end serial flags : ℕ} (x : CSYNC) {types : List ℕ} {old a b c : Reading} (h : RowThere rows.CSYNC n old (moved old end))
-    → TookField old (Number 4) serial a → TookField a (Number 2) flags b → b.index + m ≡ end
-    → Took b set_shape (set_fields types) c × ((c.index ≡ b.index + m) × Unit {0}) → csync_fields x ≡ (serial, (flags, (types, tt)))
-    → ReadsRow csync_facts n (Ok x) old c
-csync_read m {n} {end} x {types} {old} {a} {b} {c} h f g left t fields =
-    let s = csync_head h f g in
-    let there : c.index ≡ end = omega (arith, left, t.1.0) in
-    let own : Field b.message b.index Bitmap types end = subst (λ (q : ℕ). Field b.message b.index Bitmap types q) (t.0.stands.2 ∙ there) t.0.stands.1 in
-    let row : Field b.message b.index Bitmap h.took.fields.values.1.1.0 end =
-    subst (λ (q : ℕ). Field b.message b.index Bitmap h.took.fields.values.1.1.0 q) s.2.2 s.2.1 in
-    let same : types ≡ h.took.fields.values.1.1.0 = field_same own row in
-    let last : c ≡ moved old end = λ i. record { message = (t.0.message ∙ g.message ∙ f.message) i; index = there i } in
-    subst (λ (d : Reading). ReadsRow csync_facts n (Ok x) old d) (sym last)
-    (row_reads csync_facts x tt h (fields ∙ (λ i. (s.0 i, (s.1 i, (same i, tt))))))
+-- they end with the RDATA
+pub csync_read : (m : ℕ) {n serial flags : ℕ} (x : CSYNC) {types : List ℕ} {old a b c : Reading} → Given old n → TookField old (Number 4) serial a
+    → TookField a (Number 2) flags b → m + 6 ≡ n → AreKnownFlags flags → Took b set_shape (set_fields types) c × ((c.index ≡ b.index + m) × Unit {0})
+    → csync_fields x ≡ (serial, (flags, (types, tt))) → ReadsRow csync_facts n (Ok x) old c
+csync_read m {n} x {old = old} {c = c} g f h all known t fields = exact_row csync_facts (Ok x) old c n tt refl g
+    (subst (λ (vs : Values csync_shape). Took old csync_shape vs c × ((c.index ≡ old.index + n) × MeetsRow rows.CSYNC vs)) (sym fields)
+    (took_then f (took_then h t.0), (omega (arith, t.1.0, all, took_number f, took_number h), (known, tt))))

@@ -13,7 +13,7 @@ ghost use Rattle.dns_types.specs.declared.error.ParseError.TheVariants as parse;
 
 use crate::record_type_set::{RecordTypeSet, next_window};
 use dns_canonical::{Count, Head, Step, Tail, four_behind, two_behind};
-use dns_check::{DecodesRow, row_end};
+use dns_check::DecodesRow;
 use dns_names_wire::{
     BinDecoder, BinEncodable, BinEncoder, DecodeError, ParseError, ProtoError, Record, RecordType,
     Restrict,
@@ -33,6 +33,9 @@ const IMMEDIATE: u16 = 1;
 const SOA_MINIMUM: u16 = 2;
 // The bits of flags that have no field of their own.
 const RESERVED: u16 = 0xFFFC;
+
+// The flags that are rejected (RFC 7477, 2.1.1.2).
+const UNKNOWN: u16 = 252;
 
 const SOA_SERIAL: Field = number_field!("CSYNC soa_serial");
 
@@ -205,16 +208,18 @@ impl Record for CSYNC {
 impl DecodesRow for CSYNC {
     ghost checked = { refl };
 
-    /// Checks serial, flags, and the types to the end of RDLENGTH, and then reads them. Allocates for the types of the set.
+    /// Reads serial and flags, and the types to the end of RDLENGTH. Allocates for the types of the set, after all of them are checked.
     #[inline]
     fn read_row(decoder: &mut BinDecoder<'_>, length: Restrict<u16>) -> Result<CSYNC, DecodeError> {
-        let end = match row_end(decoder, &row::CSYNC, length) {
-            Ok(end) => end,
-            Err(e) => return Err(e),
-        };
+        // For the proof: brings in that the message is octets.
+        let _start = decoder.index();
+        let len = length.unverified() as usize;
         let soa_serial = decoder.read_u32()?.unverified();
         let flags = decoder.read_u16()?.unverified();
-        let left = Restrict::new((end - decoder.index()) as u16);
+        if flags & UNKNOWN != 0 || len < 6 {
+            return Err(DecodeError::UnrecognizedCsyncFlags(flags));
+        }
+        let left = Restrict::new((len - 6) as u16);
         let type_bit_maps = RecordTypeSet::read_data(decoder, left)?;
         Ok(CSYNC::with_flags(soa_serial, flags, type_bit_maps))
     }

@@ -2,10 +2,10 @@
 use Rattle.std.proofs.Common.{◌≡◌, ℕ, ◌+◌, ◌-◌, ◌≤◌, ◌⊎◌, inl, inr, Ok, Err, List, [], ◌∷◌, ◌++◌, length, take, drop, map, refl, sym, ap, ◌∙◌, arith, subst, append_assoc}
 use Rattle.std.proofs.lemmas.List.{append-nil, map_push}
 use Rattle.dns_fields.specs.{Fields.Field, Fields.Stands, Fields.Values, Tlvs.IsTlv, Tlvs.Numbered, Tlvs.ParameterHeld, Tlvs.ParameterValue, Tlvs.tlv, Octets.At}
-use Rattle.dns_fields.specs.declared.Kind.{TheVariants.Number, TheVariants.Name, TheVariants.Octets, TheVariants.Parameters}
+use Rattle.dns_fields.specs.declared.Kind.{Kind, TheVariants.Number, TheVariants.Name, TheVariants.Octets, TheVariants.Parameters}
 use Rattle.dns_fields.specs.Labels.{DomainName}
 use Rattle.dns_names_wire.specs.{State.Reading, Terms.LacksField, Terms.StaysBehind, Terms.TookField, Terms.moved}
-use Rattle.dns_names_wire.proofs.FieldReads.{stands_inside, stays, took_stays}
+use Rattle.dns_names_wire.proofs.FieldReads.{stands_inside, stands_within, stays, took_stays}
 use Rattle.dns_types.specs.declared.error.DecodeError.{DecodeError}
 use Rattle.dns_types.specs.declared.error.DecodeError.TheVariants as decode
 use Rattle.dns_rows.specs.Rules.{MeetsRow}
@@ -90,6 +90,15 @@ pub svcb_inside : {n end priority : ℕ} {target : DomainName} {old a b : Readin
     → TookField a Name target b → b.index ≤ end
 svcb_inside {end = end} {b = b} h f g =
     stands_inside b.message b.index (Parameters ∷ []) h.took.fields.values.1.1 end (svcb_head h f g).2
+
+-- they are in the message
+pub svcb_within : {n end : ℕ} {old : Reading} → RowThere rows.SVCB n old (moved old end) → (old.index ≤ end) × (end ≤ length old.message)
+svcb_within {end = end} {old} h =
+    let vs = h.took.fields.values in
+    let kinds : List Kind = Number 2 ∷ Name ∷ Parameters ∷ [] in (
+      stands_inside old.message old.index kinds vs end h.took.fields.stands,
+      stands_within old.message old.index kinds vs end tt h.took.fields.stands,
+    )
 
 -- the target name is there
 pub svcb_named : {n end priority : ℕ} {old a : Reading} → RowThere rows.SVCB n old (moved old end) → TookField old (Number 2) priority a → LacksField a Name → ⊥

@@ -1,7 +1,10 @@
 //! SVCB: how a service is reached (RFC 9460).
 
 ghost use Rattle.std.specs.{List.Sorted.IsPermutation, List.Sorted.IsNonDecreasingBy, List.Sorted.IsStableByKey, Cmp.Lexicographic.pointwise};
-ghost use Rattle.std.specs.{Prelude.◌≡◌, Prelude.◌≤◌, Prelude.length, Prelude.refl, Prelude.IfOk, Option.option_copied, Ordering.nat_cmp};
+ghost use Rattle.dns_rows.specs.declared.row.TheConstants as rows;
+ghost use Rattle.dns_names_wire.specs.Terms.{moved};
+ghost use Rattle.dns_check.specs.ByRow.{RowThere, RowRejected};
+ghost use Rattle.std.specs.{Prelude.◌≡◌, Prelude.◌≤◌, Prelude.length, Prelude.length as length_of, Prelude.refl, Prelude.IfOk, Prelude.OnErr, Option.option_copied, Ordering.nat_cmp};
 ghost use Rattle.dns_names_wire.specs.Facts.{same, same_equiv, same_partial};
 ghost use Rattle.dns_rdata_service.specs.SVCB.{svcb_facts, svcb_key_shape, svcb_keys, number_of_parameter, value_at};
 ghost use Rattle.dns_rdata_service.specs.{OwnKeys.parameter_eq, SvcParamKey.key_number};
@@ -20,6 +23,7 @@ mod value;
 
 use crate::items::Items;
 pub use alpn::Alpn;
+use dns_check::lists::near_parameters;
 use dns_check::{DecodesRow, row_end};
 use dns_names_wire::{
     BinDecoder, BinEncodable, BinEncoder, DecodeError, EncodesFields, Name, ProtoError,
@@ -138,19 +142,39 @@ impl DecodesRow for SVCB {
     /// three octets that are left over are not read. Allocates once for the list, and for what the values hold.
     #[inline(always)]
     fn read_row(decoder: &mut BinDecoder<'_>, length: Restrict<u16>) -> Result<SVCB, DecodeError> {
-        let end = match row_end(decoder, &row::SVCB, length) {
-            Ok(end) => end,
+        let found = match parameters_end(decoder, length) {
+            Ok(found) => found,
             Err(e) => return Err(e),
         };
         let svc_priority = decoder.read_u16()?.unverified();
         let target_name = Name::read(decoder)?;
-        let octets = decoder.read_slice(end - decoder.index())?.unverified();
-        let svc_params = parameters::parameters_in(decoder.allocator(), octets)?;
+        let octets = decoder.read_slice(found.0 - decoder.index())?.unverified();
+        let svc_params = parameters::parameters_in(decoder.allocator(), octets, found.1)?;
         Ok(SVCB {
             svc_priority,
             target_name,
             svc_params,
         })
+    }
+}
+
+// Where the fields end, and for how many parameters memory is taken at once. RDATA that is damaged, or has octets left over after its
+// parameters, is gone over by its row.
+#[inline]
+fn parameters_end(
+    decoder: &BinDecoder<'_>,
+    length: Restrict<u16>,
+) -> Result<(usize, usize), DecodeError>
+    ensures there { IfOk result (λ r. RowThere rows.SVCB length decoder.now (moved decoder.now r.0)) }
+    ensures inside { IfOk result (λ r. (decoder.now.index ≤ r.0) × (r.0 ≤ length_of decoder.now.message)) }
+    ensures rejected { OnErr result (RowRejected rows.SVCB length decoder.now) }
+{
+    match near_parameters(decoder, length) {
+        Some(count) => Ok((decoder.index() + length.unverified() as usize, count)),
+        None => match row_end(decoder, &row::SVCB, length) {
+            Ok(end) => Ok((end, 0)),
+            Err(e) => Err(e),
+        },
     }
 }
 

@@ -2,17 +2,21 @@
 
 ghost use Rattle.std.specs.Prelude.{◌≡◌, IfOk};
 ghost use Rattle.dns_check.specs.Tlvs.{AreComplete};
-ghost use Rattle.dns_rdata_options.specs.OPT.{HasOptionsOf, IsReadOpt};
+ghost use Rattle.dns_check.specs.ByRow.{ReadsRow};
+ghost use Rattle.dns_rdata_options.specs.OPT.{HasOptionsOf, IsReadOpt, opt_facts};
 
 use crate::opt::OPT;
 use crate::opt::code::EdnsCode;
 use crate::opt::option::EdnsOption;
+use dns_check::take_row;
 use dns_check::tlvs::{count_parts, end_of};
+use dns_names_wire::{BinDecoder, DecodeError, Restrict};
+use dns_rows::row;
 use std::alloc::{AllocError, Global};
 
 // The options of octets that were checked. Where they end inside an option there are none, and no memory is taken.
 #[tactic(auto, using(crate::proofs::OptionLists::made_cut))]
-pub(crate) fn options_in(alloc: Global, octets: &[u8]) -> Result<OPT, AllocError>
+fn options_in(alloc: Global, octets: &[u8]) -> Result<OPT, AllocError>
     ensures made { IfOk result (HasOptionsOf octets.now) }
     ensures read { IfOk result IsReadOpt }
 {
@@ -23,7 +27,7 @@ pub(crate) fn options_in(alloc: Global, octets: &[u8]) -> Result<OPT, AllocError
 }
 
 // The options that fill the octets, of which there are so many.
-fn whole_options(alloc: Global, octets: &[u8], count: usize) -> Result<OPT, AllocError>
+pub(crate) fn whole_options(alloc: Global, octets: &[u8], count: usize) -> Result<OPT, AllocError>
     requires { AreComplete octets.now }
     ensures made { IfOk result (HasOptionsOf octets.now) }
     ensures read { IfOk result IsReadOpt }
@@ -40,4 +44,21 @@ fn whole_options(alloc: Global, octets: &[u8], count: usize) -> Result<OPT, Allo
         offset = end;
     }
     Ok(OPT::new(options))
+}
+
+/// Reads options that do not fill RDLENGTH: the options are checked by the row, and none of a truncated record is kept. Never inlined, so
+/// that reading other options keeps little for it.
+#[cold]
+#[inline(never)]
+pub(crate) fn read_cut(
+    decoder: &mut BinDecoder<'_>,
+    length: Restrict<u16>,
+) -> Result<OPT, DecodeError>
+    ensures reads { ReadsRow opt_facts length result decoder.old decoder.new }
+    ensures after_read { IfOk result (λ x. opt_facts.after_read length x decoder.old decoder.new) }
+{
+    match take_row(decoder, &row::OPT, length) {
+        Ok(octets) => Ok(options_in(decoder.allocator(), octets)?),
+        Err(e) => Err(e),
+    }
 }

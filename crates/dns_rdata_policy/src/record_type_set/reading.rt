@@ -1,6 +1,6 @@
 //! The numbers of a bitmap.
 
-ghost use Rattle.std.specs.Prelude.{◌≡◌, ◌*◌, ◌<◌, length, IfOk, IfErr, OnOk};
+ghost use Rattle.std.specs.Prelude.{◌≡◌, ◌*◌, ◌<◌, length, IfOk, IfErr, IfNone, OnOk};
 ghost use Rattle.dns_types.specs.declared.error.DecodeError.TheVariants as decode;
 ghost use Rattle.dns_fields.specs.Bitmaps.{has_type};
 ghost use Rattle.dns_rdata_policy.specs.RecordTypeSet.{held, Adds, octet_has, FitsBlock, TookBlock, NoBlock, AreBlocks, NoBlocks, IsBlockError};
@@ -19,8 +19,10 @@ pub(super) fn read_blocks(alloc: Global, octets: &[u8]) -> Result<Vec<u16>, Deco
     ensures read { IfOk result (λ numbers. AreBlocks octets.now (held numbers.items)) }
     ensures refused { IfErr result (λ e. IsBlockError e (NoBlocks octets.now)) }
 {
-    if !windows_rise(octets) {
-        return read_marked(alloc, octets);
+    match windows_rise(octets) {
+        None => return Err(DecodeError::BitmapInvalid),
+        Some(false) => return read_marked(alloc, octets),
+        Some(true) => {}
     }
     let mut numbers = Vec::with_capacity(alloc, octets.len())?;
     let mut rest = octets;
@@ -30,24 +32,28 @@ pub(super) fn read_blocks(alloc: Global, octets: &[u8]) -> Result<Vec<u16>, Deco
     Ok(numbers)
 }
 
-// Whether the window of each block is greater than the one before.
+// Whether the window of each block is greater than the one before. `None` if the octets are no blocks; a window that is not greater is
+// found before blocks after it are looked at.
 #[inline]
-fn windows_rise(octets: &[u8]) -> bool {
+#[tactic(auto, using(crate::proofs::Marks::left_shorter))]
+fn windows_rise(octets: &[u8]) -> Option<bool>
+    ensures { IfNone result (NoBlocks octets.now) }
+{
     let mut rest = octets;
     let mut least = 0;
-    while rest.len() >= 2 {
+    while rest.len() > 0 {
+        let len = match block_len(rest) {
+            Ok(len) => len,
+            Err(_) => return None,
+        };
         let window = rest[0] as usize;
-        let len = rest[1] as usize;
         if window < least {
-            return false;
-        }
-        if rest.len() - 2 < len {
-            return true;
+            return Some(false);
         }
         least = window + 1;
         rest = &rest[2 + len..];
     }
-    true
+    Some(true)
 }
 
 // How many octets the window of the first block has.

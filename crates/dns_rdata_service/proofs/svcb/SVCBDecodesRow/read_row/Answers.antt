@@ -7,7 +7,7 @@ use Rattle.dns_rdata_service.proofs.svcb.SVCBDecodesRow.read_row.Goals as goal
 pub returns-in_err-read_u16-clause-reads : goal.returns-in_err-read_u16-clause-reads
 returns-in_err-read_u16-clause-reads c =
     let h = c.in-Ok.ensures.there in
-    absurd (number_there (Name ∷ Parameters ∷ []) h.took.fields.values c.in-Ok.end h.took.fields.stands c.in_err-read_u16.ensures.lacking.1)
+    absurd (number_there (Name ∷ Parameters ∷ []) h.took.fields.values c.in-Ok.found.0 h.took.fields.stands c.in_err-read_u16.ensures.lacking.1)
 
 pub returns-in_err-target_name-clause-reads : goal.returns-in_err-target_name-clause-reads
 returns-in_err-target_name-clause-reads c =
@@ -36,6 +36,6 @@ returns-clause-after_read c =
     rw c.unverified-svc_priority.ensures (svcb_after h c.in_ok-svc_params.ensures.read (svcb_read h c.in_ok-read_u16.ensures.taken c.in_ok-target_name.ensures.field
     c.in_ok-read_slice.ensures.taken (omega (arith, c.index.ensures.offset)) (rw c.unverified-octets.ensures at c.in_ok-svc_params.ensures.made)))
 
-pub overflow_sub-end : goal.overflow_sub-end
-overflow_sub-end c =
+pub overflow_sub-found : goal.overflow_sub-found
+overflow_sub-found c =
     omega (arith, c.index.ensures.offset, svcb_inside c.in-Ok.ensures.there c.in_ok-read_u16.ensures.taken c.in_ok-target_name.ensures.field)
