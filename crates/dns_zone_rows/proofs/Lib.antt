@@ -11,6 +11,7 @@ pub mod WrittenTokens
 pub mod Base32Steps
 pub mod GroupSteps
 pub mod HexSteps
+pub mod OtherTypes
 pub mod RegistryRows
 pub mod SaltSteps
 pub mod TimeSteps
