@@ -9,7 +9,7 @@ use Rattle.dns_types.specs.declared.error.ParseError.{ParseError}
 use Rattle.dns_types.specs.declared.error.ParseError.TheVariants as parse
 use Rattle.dns_tokens.specs.Reads.{UnlessParseMemory}
 use Rattle.dns_tokens.proofs.Steps.{unless_map}
-use Rattle.dns_zone_rows.specs.{Rows.RowGives, RowTexts.row_texts, RowTexts.no_more, declared.zone_row.ZoneRow.ZoneRow, RowFaults.row_value, RowFaults.RowFault}
+use Rattle.dns_zone_rows.specs.{Rows.RowGives, RowTexts.row_texts, RegistryTexts.no_more, declared.zone_row.ZoneRow.ZoneRow, RowFaults.row_value, RowFaults.RowFault}
 use Rattle.dns_zone_tokens.specs.{FieldTexts.name_called, NameTokens.IsNameToken, NameTokens.name_octets, Tokens.Token, Tokens.Cursor, Tokens.tokens_at, Tokens.seen_at, Tokens.seen_from, Tokens.between, Tokens.zone_tokens}
 use Rattle.dns_zone_tokens.specs.Remaining.{TookAll, NoneOfAll}
 use Rattle.dns_zone_tokens.proofs.FirstSteps.{exit_with, or_then}

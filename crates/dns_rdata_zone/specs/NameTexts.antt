@@ -2,7 +2,7 @@
 use Rattle.std.specs.Prelude.{◌≡◌, ℕ, false, List, [], ◌∷◌, Option, Ok, codes}
 use Rattle.dns_fields.specs.Labels.{DomainName, full_name}
 use Rattle.dns_types.specs.declared.error.ParseError.{ParseError}
-use Rattle.dns_zone_rows.specs.{RowFaults.row_value, RowFaults.RowFault, RowTexts.row_texts, RowTexts.no_more, declared.zone_row.ZoneRow.ZoneRow}
+use Rattle.dns_zone_rows.specs.{RowFaults.row_value, RowFaults.RowFault, RowTexts.row_texts, RegistryTexts.no_more, declared.zone_row.ZoneRow.ZoneRow}
 use Rattle.dns_zone_rows.specs.Rows.{Name, NoToken, RowShape}
 use Rattle.dns_zone_tokens.specs.{FieldTexts.name_called, NameTokens.IsNameToken, Tokens.Token, Tokens.Cursor, Tokens.tokens_at, Tokens.seen_at, Tokens.zone_tokens}
 

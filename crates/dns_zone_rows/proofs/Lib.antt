@@ -8,6 +8,13 @@ pub mod OneReading
 pub mod ParameterSteps
 pub mod WrittenLists
 pub mod WrittenTokens
+pub mod Base32Steps
+pub mod GroupSteps
+pub mod HexSteps
+pub mod OtherTypes
+pub mod RegistryRows
+pub mod SaltSteps
+pub mod TimeSteps
 pub mod FieldNames
 pub mod Adding
 pub mod Once

@@ -1,4 +1,4 @@
--- Numbers that tokens have by name: certificate types (RFC 4398, 2.1) and algorithms (RFC 4034, A.1).
+-- Numbers that tokens have by name: certificate types (RFC 4398, 2.1), algorithms (RFC 4034, A.1) and schemes (RFC 9859, 2.1).
 use Rattle.std.specs.Prelude.{◌≡◌, ◌⊎◌, ℕ, true, false, List, [], ◌∷◌, Option, Some, None, codes}
 use Rattle.dns_fields.specs.declared.Kind.{TheVariants.Number}
 use Rattle.dns_zone_tokens.specs.{Forms.ZoneForm, Forms.number, Mnemonics.Named, Mnemonics.named, Mnemonics.number_named, Tokens.Token}
@@ -65,3 +65,7 @@ algorithms =
     ∷ named (codes "PRIVATEDNS") 253
     ∷ named (codes "PRIVATEOID") 254
     ∷ []
+
+-- schemes of DSYNC (RFC 9859, 2.1)
+abbrev pub schemes : List Named
+schemes = named (codes "NOTIFY") 1 ∷ []

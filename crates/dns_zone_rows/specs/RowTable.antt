@@ -1,7 +1,9 @@
 -- The zone row of each type of record in a zone file.
-use Rattle.std.specs.Prelude.{List, [], ◌∷◌, Option, Some, None}
-use Rattle.dns_types.specs.declared.record_type.RecordType.{RecordType}
+use Rattle.std.specs.Prelude.{List, [], ◌∷◌, Option, Some}
+use Rattle.std.specs.Option.{option_map}
+use Rattle.dns_types.specs.{RecordTypes.number_of, declared.record_type.RecordType.RecordType}
 use Rattle.dns_types.specs.declared.record_type.RecordType.TheVariants as types
+use Rattle.dns_zone_rows.specs.Registry.{registered, shape_of}
 use Rattle.dns_zone_rows.specs.Mnemonics.{cert_types, algorithms}
 use Rattle.dns_zone_rows.specs.Rows.{FieldKind, Number, NamedNumber, Ttl, Ipv4, Ipv6, Name, String, Tag, Octets, RestKind, NoToken, SomeStrings}
 use Rattle.dns_zone_rows.specs.Rows.{SomeHex, SomeBase64, AnyTypes, AnyParameters, RowShape}
@@ -9,7 +11,7 @@ use Rattle.dns_zone_rows.specs.Rows.{SomeHex, SomeBase64, AnyTypes, AnyParameter
 abbrev pub zone_row : List FieldKind → RestKind → Option RowShape
 zone_row fields rest = Some (record { fields = fields; rest = rest })
 
--- types that are not named here have only the unknown-data form (RFC 3597, 5)
+-- Types that are named neither here nor in `registry` have only the unknown-data form (RFC 3597, 5).
 abbrev pub zone_row_of : RecordType → Option RowShape
 -- RFC 1035, 3.4.1
 zone_row_of types.A = zone_row (Ipv4 ∷ []) NoToken
@@ -51,4 +53,5 @@ zone_row_of types.SVCB = zone_row (Number 2 ∷ Name ∷ []) AnyParameters
 zone_row_of types.TLSA = zone_row (Number 1 ∷ Number 1 ∷ Number 1 ∷ []) SomeHex
 -- RFC 1035, 3.3.14
 zone_row_of types.TXT = zone_row [] SomeStrings
-zone_row_of record_type = None
+-- a type without a struct
+zone_row_of record_type = option_map shape_of (registered (number_of record_type))

@@ -1,10 +1,12 @@
 -- The texts of errors about each field of each record type: the field's name, and a text for each thing that may be
 -- wrong with its token.
-use Rattle.std.specs.Prelude.{◌≡◌, ◌<◌, ℕ, suc, length, slice_get, List, [], ◌∷◌, ◌++◌, map, codes, Option, Some, None}
-use Rattle.dns_types.specs.declared.record_type.RecordType.{RecordType}
+use Rattle.std.specs.Prelude.{◌≡◌, ◌<◌, ℕ, suc, length, slice_get, List, [], ◌∷◌, ◌++◌, map, codes, Option, Some}
+use Rattle.std.specs.Option.{option_map}
+use Rattle.dns_types.specs.{RecordTypes.number_of, declared.record_type.RecordType.RecordType}
 use Rattle.dns_types.specs.declared.record_type.RecordType.TheVariants as types
 use Rattle.dns_zone_tokens.specs.FieldTexts.{field_texts, string_texts, name_texts, hex_texts, number_called, ttl_called, address_called}
-use Rattle.dns_zone_tokens.specs.FieldTexts.{text_called, string_called, name_called, base64_called, hex_called, named}
+use Rattle.dns_zone_tokens.specs.FieldTexts.{text_called, string_called, name_called, base64_called, named}
+use Rattle.dns_zone_rows.specs.{Registry.registered, RegistryTexts.digits_called, RegistryTexts.no_more, RegistryTexts.registered_texts}
 use Rattle.dns_zone_rows.specs.{declared.zone_row.ZoneField.ZoneField, declared.zone_row.ZoneRest.ZoneRest, declared.zone_row.ZoneRow.ZoneRow}
 use Rattle.dns_zone_rows.specs.declared.zone_row.ZoneField.TheVariants as field
 use Rattle.dns_zone_rows.specs.declared.zone_row.ZoneRest.TheVariants as rest
@@ -24,12 +26,25 @@ texts_of_field (field.Tag f) = field_texts f
 texts_of_field (field.CertType f) = field_texts f
 texts_of_field (field.Algorithm f) = field_texts f
 texts_of_field (field.RawText f) = field_texts f
+texts_of_field (field.QuotedText f) = field_texts f
+texts_of_field (field.Digits f) = field_texts f
+texts_of_field (field.Type f) = field_texts f
+texts_of_field (field.Scheme f) = field_texts f
+texts_of_field (field.Time f) = field_texts f
+texts_of_field (field.Salt f) = field_texts f
+texts_of_field (field.Base32 f) = field_texts f
+texts_of_field (field.Groups f) = field_texts f
+texts_of_field (field.Eui48 f) = field_texts f
+texts_of_field (field.Eui64 f) = field_texts f
 
 abbrev pub texts_of_rest : ZoneRest → List (List ℕ)
 texts_of_rest (rest.Nothing surplus) = surplus.now ∷ []
 texts_of_rest (rest.Strings f) = string_texts f
+texts_of_rest (rest.MaybeString f surplus) = string_texts f ++ surplus.now ∷ []
 texts_of_rest (rest.Hex missing f) = missing.now ∷ hex_texts f
+texts_of_rest (rest.LongHex f) = f.name.now ∷ hex_texts f.digits ++ f.few.now ∷ []
 texts_of_rest (rest.Base64 f) = field_texts f
+texts_of_rest (rest.MaybeBase64 f) = field_texts f
 texts_of_rest (rest.Types f) = field_texts f
 -- service parameters have texts of their own, which no zone row gives
 texts_of_rest rest.Parameters = []
@@ -50,13 +65,6 @@ pub record HasFieldAt (zone_row : ZoneRow) (name : List ℕ) (index : ℕ) : Typ
   pub named : IsFirstOf name (texts_of_field field)
 
 -- ---- the table
-
--- a token after the last field
-abbrev pub no_more : List (List ℕ)
-no_more = codes "surplus token after the RDATA" ∷ []
-
-abbrev pub digits_called : List ℕ → List (List ℕ)
-digits_called name = name ∷ hex_called name
 
 abbrev pub service_texts : List (List (List ℕ))
 service_texts = number_called (codes "service priority") ∷ name_called (codes "service target") ∷ [] ∷ []
@@ -133,7 +141,8 @@ texts_of types.SSHFP = Some (
 texts_of types.SVCB = Some service_texts
 texts_of types.TLSA = Some certificate_texts
 texts_of types.TXT = Some (string_called (codes "TXT data") ∷ [])
-texts_of record_type = None
+-- a type without a struct
+texts_of record_type = option_map registered_texts (registered (number_of record_type))
 
 -- The type's field with this index, of those that are one token, has this name. The last texts of a type are those of
 -- the rest.

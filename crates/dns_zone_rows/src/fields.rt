@@ -2,20 +2,44 @@
 #![tactic(auto, using(crate::proofs::Adding::exit_puts, crate::proofs::Adding::puts_field))]
 
 ghost use Rattle.std.specs.Prelude.{◌≡◌, ◌≤◌, ◌⊎◌, ◌++◌, IfErr, OnOk};
-ghost use Rattle.std.specs.{Int.bytes_high_first, Option.option_copied};
+ghost use Rattle.std.specs.{Int.bytes_high_first, List.list_all, Option.option_copied};
 ghost use Rattle.dns_fields.specs.Tlvs.{string as string_octets};
 ghost use Rattle.dns_tokens.specs.Forms.{ttl, ipv4, ipv6};
-ghost use Rattle.dns_zone_tokens.specs.{Forms.bare, Forms.number, Mnemonics.named_values, Views.token_value, ZoneReads.PutsAs, ZoneReads.WrongToken};
+ghost use Rattle.dns_zone_tokens.specs.{Forms.bare, Forms.number, Letters.is_digit, Mnemonics.named_values, Views.token_value, ZoneReads.PutsAs, ZoneReads.WrongToken};
 ghost use Rattle.dns_zone_rows.specs.{Mnemonics.named_number, RowFaults.kind_of, RowFaults.TokenFault, RowFaults.FieldFault, RowSteps.AddsFirst};
-ghost use Rattle.dns_zone_rows.specs.{RowSteps.PutsField, Rows.FieldGives, Rows.tag};
+ghost use Rattle.dns_zone_rows.specs.{RowSteps.PutsField, Rows.FieldGives, Rows.digits, Rows.grouped, Rows.quoted_text, Rows.tag, Rows.type_number, Times.time};
 
-use crate::mnemonics::{algorithm_names, cert_type_names, named_of};
+use crate::digits::{put_base32, put_salt};
+use crate::groups::{Groups, put_groups};
+use crate::mnemonics::{algorithm_names, cert_type_names, named_of, scheme_names};
+use crate::times::time_of;
 use crate::zone_row::ZoneField;
 use dns_names_wire::Name;
 use dns_types::ParseError;
 use dns_zone_tokens::{
     Mnemonic, ZoneToken, ZoneTokens, ipv4_of, ipv6_of, number_of, put_name, put_string, put_text,
-    some_token, ttl_of,
+    some_token, ttl_of, type_of,
+};
+
+const COLONS: Groups = Groups {
+    separator: b':',
+    least: 1,
+    width: 2,
+    total: 8,
+};
+
+const EUI48: Groups = Groups {
+    separator: b'-',
+    least: 2,
+    width: 1,
+    total: 6,
+};
+
+const EUI64: Groups = Groups {
+    separator: b'-',
+    least: 2,
+    width: 1,
+    total: 8,
 };
 
 // Takes the next token and appends the octets that it gives for the field.
@@ -59,6 +83,16 @@ fn put_field(
         ZoneField::CertType(field) => put_named(octets, token, 2, cert_type_names(), field.wrong),
         ZoneField::Algorithm(field) => put_named(octets, token, 1, algorithm_names(), field.wrong),
         ZoneField::RawText(field) => put_text(octets, token, field.wrong),
+        ZoneField::QuotedText(field) => put_quoted(octets, token, field.wrong),
+        ZoneField::Digits(field) => put_digits(octets, token, field.wrong),
+        ZoneField::Type(field) => put_type(octets, token, field.wrong),
+        ZoneField::Scheme(field) => put_named(octets, token, 1, scheme_names(), field.wrong),
+        ZoneField::Time(field) => put_time(octets, token, field.wrong),
+        ZoneField::Salt(field) => put_salt(octets, token, field.wrong),
+        ZoneField::Base32(field) => put_base32(octets, token, field.wrong),
+        ZoneField::Groups(field) => put_grouped(octets, token, COLONS, field.wrong),
+        ZoneField::Eui48(field) => put_grouped(octets, token, EUI48, field.wrong),
+        ZoneField::Eui64(field) => put_grouped(octets, token, EUI64, field.wrong),
     }
 }
 
@@ -149,10 +183,104 @@ fn put_tag(
     add_octets(octets, tag)
 }
 
+// Appends the number of a type.
+fn put_type(
+    octets: &mut Vec<u8>,
+    token: ZoneToken<'_>,
+    wrong: &'static str,
+) -> Result<(), ParseError>
+    ensures puts { PutsAs type_number (bytes_high_first 2) result octets.old.items octets.new.items (token_value token.entry) }
+    ensures why { IfErr result (λ e. (e ≡ ParseError.Memory) ⊎ WrongToken type_number (ParseError.Message wrong.entry) (token_value token.entry) e) }
+{
+    let record_type = type_of(token, wrong)?;
+    add_octets(octets, &u16::from(record_type).to_be_bytes())
+}
+
+fn put_time(
+    octets: &mut Vec<u8>,
+    token: ZoneToken<'_>,
+    wrong: &'static str,
+) -> Result<(), ParseError>
+    ensures puts { PutsAs time (bytes_high_first 4) result octets.old.items octets.new.items (token_value token.entry) }
+    ensures why { IfErr result (λ e. (e ≡ ParseError.Memory) ⊎ WrongToken time (ParseError.Message wrong.entry) (token_value token.entry) e) }
+{
+    let seconds = time_of(token, wrong)?;
+    add_octets(octets, &seconds.to_be_bytes())
+}
+
+// Appends the octets of groups of digits.
+fn put_grouped(
+    octets: &mut Vec<u8>,
+    token: ZoneToken<'_>,
+    form: Groups,
+    wrong: &'static str,
+) -> Result<(), ParseError>
+    requires { form.width ≤ 2 }
+    ensures puts { PutsAs (grouped form) (λ s. s) result octets.old.items octets.new.items (token_value token.entry) }
+    ensures why { IfErr result (λ e. (e ≡ ParseError.Memory) ⊎ WrongToken (grouped form) (ParseError.Message wrong.entry) (token_value token.entry) e) }
+{
+    if token.quoted {
+        return Err(ParseError::Message(wrong));
+    }
+    if !put_groups(octets, token.raw, form)? {
+        return Err(ParseError::Message(wrong));
+    }
+    Ok(())
+}
+
+// Appends the octets of a text in quotes, one or more.
+fn put_quoted(
+    octets: &mut Vec<u8>,
+    token: ZoneToken<'_>,
+    wrong: &'static str,
+) -> Result<(), ParseError>
+    ensures puts { PutsAs quoted_text (λ s. s) result octets.old.items octets.new.items (token_value token.entry) }
+    ensures why { IfErr result (λ e. (e ≡ ParseError.Memory) ⊎ WrongToken quoted_text (ParseError.Message wrong.entry) (token_value token.entry) e) }
+{
+    if !token.quoted {
+        return Err(ParseError::Message(wrong));
+    }
+    let start = octets.len();
+    put_text(octets, token, wrong)?;
+    if octets.len() == start {
+        return Err(ParseError::Message(wrong));
+    }
+    Ok(())
+}
+
+// Appends the length and the octets of a token of 4 to 255 decimal digits.
+fn put_digits(
+    octets: &mut Vec<u8>,
+    token: ZoneToken<'_>,
+    wrong: &'static str,
+) -> Result<(), ParseError>
+    ensures puts { PutsAs digits string_octets result octets.old.items octets.new.items (token_value token.entry) }
+    ensures why { IfErr result (λ e. (e ≡ ParseError.Memory) ⊎ WrongToken digits (ParseError.Message wrong.entry) (token_value token.entry) e) }
+{
+    let digits = token.raw;
+    if digits.len() < 4 || digits.len() > 255 || !are_digits(digits) {
+        return Err(ParseError::Message(wrong));
+    }
+    octets.push(digits.len() as u8)?;
+    add_octets(octets, digits)
+}
+
+// Whether all octets are decimal digits.
+fn are_digits(text: &[u8]) -> bool
+    ensures { result ≡ list_all is_digit text.now }
+{
+    for octet in text {
+        if !octet.is_ascii_digit() {
+            return false;
+        }
+    }
+    true
+}
+
 // Appends the last octets of a number, the highest first.
 #[inline]
 #[tactic(auto, using(crate::proofs::Adding::last_octets))]
-fn add_number(octets: &mut Vec<u8>, value: u32, count: u32) -> Result<(), ParseError>
+pub(crate) fn add_number(octets: &mut Vec<u8>, value: u32, count: u32) -> Result<(), ParseError>
     requires { count ≤ 4 }
     ensures added { OnOk result (octets.new.items ≡ octets.old.items ++ bytes_high_first count value) }
     ensures memory { IfErr result (λ e. e ≡ ParseError.Memory) }

@@ -1,16 +1,20 @@
 //! RDATA in zone files: zone rows of fields, and the octets that the tokens of a text give by them.
 #![tactic(auto)]
 
+mod digits;
 mod faults;
 mod fields;
+mod groups;
 pub mod laws;
 pub mod mnemonics;
 pub mod names;
 mod near;
 pub mod parameters;
 pub mod reading;
+pub mod registry;
 mod remaining;
 pub mod table;
+mod times;
 mod types;
 pub mod zone_row;
 
@@ -19,4 +23,4 @@ pub use faults::token_at_fault;
 pub use near::put_near_row;
 pub use reading::row_octets;
 pub use table::{fields_alone_of, zone_row_of};
-pub use zone_row::{ZoneField, ZoneRest, ZoneRow};
+pub use zone_row::{LongHexField, ZoneField, ZoneRest, ZoneRow};

@@ -1,7 +1,7 @@
 //! Numbers that tokens have by name.
 
 ghost use Rattle.std.specs.Prelude.{◌≡◌, ◌≤◌, IfErr, IfSome, IfNone};
-ghost use Rattle.dns_zone_rows.specs.Mnemonics.{named_number, cert_types, algorithms, IsByName, IsNotByName};
+ghost use Rattle.dns_zone_rows.specs.Mnemonics.{named_number, cert_types, algorithms, schemes, IsByName, IsNotByName};
 ghost use Rattle.dns_zone_tokens.specs.{Mnemonics.named_values, Views.token_value, ZoneReads.ReadsAs, ZoneReads.WrongToken};
 
 use dns_types::ParseError;
@@ -43,6 +43,16 @@ static ALGORITHMS: [Mnemonic; 21] = [
     named!("PRIVATEDNS" = 253),
     named!("PRIVATEOID" = 254),
 ];
+
+static SCHEMES: [Mnemonic; 1] = [named!("NOTIFY" = 1)];
+
+/// The names of schemes of DSYNC (RFC 9859, section 2.1).
+#[inline]
+pub fn scheme_names() -> &'static [Mnemonic]
+    ensures { named_values result.now ≡ schemes }
+{
+    &SCHEMES
+}
 
 /// The names of certificate types (RFC 4398, section 2.1).
 #[inline]

@@ -21,7 +21,17 @@ impl ZoneField {
             | ZoneField::Tag(field)
             | ZoneField::CertType(field)
             | ZoneField::Algorithm(field)
-            | ZoneField::RawText(field) => field.name,
+            | ZoneField::RawText(field)
+            | ZoneField::QuotedText(field)
+            | ZoneField::Type(field)
+            | ZoneField::Scheme(field)
+            | ZoneField::Time(field)
+            | ZoneField::Salt(field)
+            | ZoneField::Base32(field)
+            | ZoneField::Groups(field)
+            | ZoneField::Eui48(field)
+            | ZoneField::Eui64(field)
+            | ZoneField::Digits(field) => field.name,
             ZoneField::Name(field) => field.name,
             ZoneField::String(field) => field.name,
         }

@@ -5,12 +5,12 @@ ghost use Rattle.std.specs.List.{flat_map};
 ghost use Rattle.dns_fields.specs.Tlvs.{string as string_octets};
 ghost use Rattle.dns_zone_tokens.specs.{Forms.StringFault, Tokens.tokens_at, ZoneReads.LacksFirst};
 ghost use Rattle.dns_zone_tokens.specs.Remaining.{AmongFault, HexFault, Base64Fault, PutsAll};
-ghost use Rattle.dns_zone_rows.specs.RowFaults.{rest_kind_of, SurplusFault, RestFault};
-ghost use Rattle.dns_zone_rows.specs.Rows.{NoToken, SomeStrings, SomeHex, SomeBase64, RestGives};
+ghost use Rattle.dns_zone_rows.specs.RowFaults.{rest_kind_of, LongHexFault, MaybeStringFault, SurplusFault, RestFault};
+ghost use Rattle.dns_zone_rows.specs.Rows.{NoToken, SomeStrings, MaybeString, SomeHex, LongHex, SomeBase64, RestGives};
 
 use crate::parameters::put_parameters;
 use crate::types::add_types;
-use crate::zone_row::ZoneRest;
+use crate::zone_row::{LongHexField, ZoneRest};
 use dns_types::ParseError;
 use dns_zone_tokens::{
     Field, HexField, StringField, ZoneTokens, no_more, put_base64, put_hex, put_string, some_token,
@@ -30,8 +30,11 @@ pub(crate) fn add_rest(
     match rest {
         ZoneRest::Nothing(surplus) => add_nothing(tokens, *surplus, octets),
         ZoneRest::Strings(field) => add_strings(tokens, field, octets),
+        ZoneRest::MaybeString(field, surplus) => add_maybe_string(tokens, field, *surplus, octets),
         ZoneRest::Hex(missing, field) => add_hex(alloc, tokens, *missing, field, octets),
+        ZoneRest::LongHex(field) => add_long_hex(alloc, tokens, field, octets),
         ZoneRest::Base64(field) => add_base64(alloc, tokens, *field, octets),
+        ZoneRest::MaybeBase64(field) => put_base64(alloc, tokens, field.wrong, octets),
         ZoneRest::Types(field) => add_types(alloc, tokens, *field, octets),
         ZoneRest::Parameters => put_parameters(alloc, tokens, octets),
     }
@@ -66,6 +69,41 @@ fn add_strings(
             None => return Ok(()),
         }
     }
+}
+
+fn add_maybe_string(
+    tokens: &mut ZoneTokens<'_>,
+    field: &StringField,
+    surplus: &'static str,
+    octets: &mut Vec<u8>,
+) -> Result<(), ParseError>
+    ensures adds { PutsAll (RestGives MaybeString) result octets.old.items octets.new.items tokens.old }
+    ensures why { IfErr result (λ e. (e ≡ ParseError.Memory) ⊎ MaybeStringFault field.now (ParseError.Message surplus.entry) tokens.old e) }
+{
+    match tokens.next_token()? {
+        Some(token) => {
+            put_string(octets, token, field)?;
+            no_more(tokens, surplus)
+        }
+        None => Ok(()),
+    }
+}
+
+fn add_long_hex(
+    alloc: Global,
+    tokens: &mut ZoneTokens<'_>,
+    field: &LongHexField,
+    octets: &mut Vec<u8>,
+) -> Result<(), ParseError>
+    ensures adds { PutsAll (RestGives (LongHex field.now.least)) result octets.old.items octets.new.items tokens.old }
+    ensures why { IfErr result (λ e. (e ≡ ParseError.Memory) ⊎ LongHexFault field.now tokens.old e) }
+{
+    let start = octets.len();
+    add_hex(alloc, tokens, field.name, &field.digits, octets)?;
+    if octets.len() - start < field.least {
+        return Err(ParseError::Message(field.few));
+    }
+    Ok(())
 }
 
 fn add_hex(

@@ -3,8 +3,10 @@
 ghost use Rattle.std.specs.Prelude.{◌≡◌, ◌∷◌, ◌++◌, [], map, Some, IfSome};
 ghost use Rattle.std.specs.Option.{option_map};
 ghost use Rattle.dns_zone_rows.specs.{RowFaults.kind_of, RowFaults.rest_kind_of, RowFaults.row_value, RowTable.zone_row, RowTable.zone_row_of, Rows.NoToken};
-ghost use Rattle.dns_zone_rows.specs.RowTexts.{no_more, row_texts, texts_of, texts_of_field, texts_of_rest};
+ghost use Rattle.dns_zone_rows.specs.RowTexts.{row_texts, texts_of, texts_of_field, texts_of_rest};
+ghost use Rattle.dns_zone_rows.specs.RegistryTexts.{no_more};
 
+use crate::registry::registry_row_of;
 use crate::zone_row::{ZoneField, ZoneRest, ZoneRow};
 use dns_tokens::{number_field, time_field};
 use dns_types::RecordType;
@@ -13,7 +15,7 @@ use dns_zone_tokens::{
     text_field,
 };
 
-const SURPLUS: &str = "surplus token after the RDATA";
+pub(crate) const SURPLUS: &str = "surplus token after the RDATA";
 
 const CERT_DATA: Field = base64_field!("CERT data");
 
@@ -168,7 +170,8 @@ pub fn zone_row_of(record_type: RecordType) -> Option<ZoneRow>
         RecordType::SVCB => fields_and(&SVCB, ZoneRest::Parameters),
         RecordType::TLSA => fields_and(&TLSA, ZoneRest::Hex(CERTIFICATE, CERTIFICATE_DATA)),
         RecordType::TXT => fields_and(&NO_FIELDS, ZoneRest::Strings(TXT_DATA)),
-        _ => None
+        // A type without a struct.
+        other => registry_row_of(u16::from(other))
     )
 }
 
