@@ -13,7 +13,7 @@ import sys
 
 TOP = pathlib.Path(__file__).resolve().parent.parent
 WITHIN = pathlib.Path(sys.argv[1]).resolve() if len(sys.argv) > 1 else TOP
-USERS = ["dns_rdata", "dns_message", "dns_rdata_zone", "dns_rdata_laws"]
+USERS = ["dns_rdata", "dns_message", "dns_registry", "dns_rdata_zone", "dns_rdata_laws"]
 
 
 def interface(crate):

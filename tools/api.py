@@ -17,7 +17,7 @@ import sys
 TOP = pathlib.Path(__file__).resolve().parent.parent
 PAGE = TOP / "docs/API.md"
 FOLDER = TOP / "docs/api"
-USERS = ["dns_rdata", "dns_message", "dns_rdata_zone", "dns_rdata_laws"]
+USERS = ["dns_rdata", "dns_message", "dns_registry", "dns_rdata_zone", "dns_rdata_laws"]
 ITEM = re.compile(r"^( *)pub (?:const |unsafe |extern \"C\" )*(struct|enum|trait|fn|const|static|type|macro) (\w+)")
 IMPL = re.compile(r"^impl(?:<[^{]*?>)? (?:(?P<trait>[\w:]+)(?P<of><.*?>)? for )?(?P<lent>&?)(?:'\w+ )?(?P<type>\w+)")
 HIDDEN_TRAIT = re.compile(r"^(?:pub\([a-z]+\) )?trait ")

@@ -1,5 +1,5 @@
 #!/usr/bin/env bash
-# Copies the crates `dns_rdata` and `dns_message`, and with the word `zone` also `dns_rdata_zone`, with all crates that they use,
+# Copies the crates `dns_rdata`, `dns_message` and `dns_registry`, and with the word `zone` also `dns_rdata_zone`, with all crates that they use,
 # into another repository, and writes their lines into its crates.txt:
 #   tools/vendor.sh FOLDER [zone]
 #   tools/vendor.sh --check FOLDER
@@ -49,7 +49,7 @@ commit_here() {
   echo "$commit"
 }
 
-wanted=(dns_rdata dns_message)
+wanted=(dns_rdata dns_message dns_registry)
 case "$#-${1:-}-${2:-}" in
   2---check-*) check_copy "$2" ;;
   1-*-) [ "${1#-}" = "$1" ] || usage ;;

@@ -45,10 +45,10 @@ macro_rules! fields_of {
 /// A number and sixteen octets.
 pub static A6_WHOLE_PARTS: [Part; 2] = [part!(Number(1)), part!(Octets(16))];
 
-/// A number, 0 octets and a name.
+/// A number and a name.
 pub static A6_SUFFIX0_PARTS: [Part; 3] = [part!(Number(1)), part!(Octets(0)), part!(Name)];
 
-/// A number, 1 octets and a name.
+/// A number, one octet and a name.
 pub static A6_SUFFIX1_PARTS: [Part; 3] = [part!(Number(1)), part!(Octets(1)), part!(Name)];
 
 /// A number, 2 octets and a name.

@@ -5,9 +5,9 @@
 //! [`TypedRef`] is RDATA that was checked by the format of its type. Nothing here allocates.
 #![tactic(auto)]
 
-pub mod format;
-pub mod rule;
-pub mod typed;
+mod format;
+mod rule;
+mod typed;
 
 pub use format::{Format, format_of};
 pub use rule::FieldRule;
