@@ -20,6 +20,7 @@ PLACES = [
     ("README.md", "Golden tests: {golden-runs} runs of the program and {golden-calls} calls of the library"),
     ("README.md", "- {damaged} damaged messages and truncated texts give"),
     ("README.md", "- {calls} calls run with failing allocators and short buffers"),
+    ("README.md", "that was written from the RFCs, over {registry} RDATA"),
     ("README.md", "every definition that the promise above rests on: {headline} lines"),
     ("docs/dev/GATE.md", "other results than the reference model's for {messages} truncated and changed messages"),
     ("docs/dev/GATE.md", "with a line `only: FUNCTION`, {wrong-bodies-tried} of {wrong-bodies}."),
