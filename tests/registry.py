@@ -19,8 +19,8 @@ import counted  # noqa: E402
 import model  # noqa: E402
 import plain_table  # noqa: E402
 
-# APL, HIP, TKEY and TSIG have no format in `dns_registry` yet; the model knows no values of options and of parameters.
-ANY_OCTETS = {42, 55, 249, 250}
+# TKEY and TSIG have no format in `dns_registry` yet; the model knows no values of options and of parameters.
+ANY_OCTETS = {249, 250}
 OTHER_RULES = {41, 64, 65}
 
 
@@ -37,6 +37,9 @@ def line_of(kind, message, offset, length):
     if found is None:
         return None
     fields, octets = found
+    if kind == 55:
+        # One field of `dns_registry`.
+        return f"identity={octets.hex()} {octets.hex()}"
     if kind == 25 and fields[-1][2] == b"":
         # Without a key there is no such field.
         fields = fields[:-1]

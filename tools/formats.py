@@ -15,7 +15,7 @@ import model  # noqa: E402
 PAGE = TOP / "docs/TYPES.md"
 BEGIN, END = "| Type | Number | RFC | Fields |\n", "\n\nWhat the table says of a field"
 # Types that have no format in `dns_registry`.
-ANY_OCTETS = {42, 55, 249, 250}
+ANY_OCTETS = {249, 250}
 KINDS = {"name": "name", "uname": "uncompressed name", "string": "string", "strings": "strings", "rest": "octets"}
 RULES = {
     "some": "at least one octet",
@@ -33,6 +33,8 @@ RULES = {
     "old_bitmap": "bits of types 1 to 127",
     "bitmap": "shortest bitmap",
     "parameters": "service parameters",
+    "host": "length of the HIT, algorithm, length of the key in two octets, HIT, key, uncompressed names",
+    "items": "address prefixes, or none",
 }
 
 
@@ -64,6 +66,8 @@ def table():
         kind, (name, fields) = model.row(line)
         if kind in ANY_OCTETS:
             continue
+        if kind == 55:
+            fields = [("rest", ["host"], "identity")]
         source = line.split("|")[1].strip()
         lines.append(f"| {name} | {kind} | {source} | {', '.join(map(shown, fields)) or 'none'} |")
     return "\n".join(lines)

@@ -49,8 +49,8 @@ ROWS = """
 28     AAAA        octets16 address                                                                     | RFC 3596, 2.2
 29     LOC         u8[zero] version, u8[power] size, u8[power] horizontal_precision, u8[power] vertical_precision, u32[latitude] latitude, u32[longitude] longitude, u32 altitude | RFC 1876, 2
 30     NXT         name next, rest[old_bitmap] types                                                    | RFC 2535, 5.2
-31     EID         rest[some] endpoint                                                                  | draft-ietf-nimrod-dns, 3.1
-32     NIMLOC      rest[some] locator                                                                   | draft-ietf-nimrod-dns, 3.2
+31     EID         rest[some] data                                                                      | draft-ietf-nimrod-dns, 3.1
+32     NIMLOC      rest[some] data                                                                      | draft-ietf-nimrod-dns, 3.2
 33     SRV         u16 priority, u16 weight, u16 port, name target                                      | RFC 2782; RFC 3597, 4
 34     ATMA        u8 format, rest[some] address                                                        | af-saa-0069
 35     NAPTR       u16 order, u16 preference, string[flags] flags, string services, string regexp, name replacement | RFC 3403, 4.1; RFC 3597, 4
@@ -72,7 +72,7 @@ ROWS = """
 52     TLSA        u8 cert_usage, u8 selector, u8 matching, rest cert_data                              | RFC 6698, 2.1
 53     SMIMEA      u8 cert_usage, u8 selector, u8 matching, rest cert_data                              | RFC 8162, 2
 55     HIP         u8[some] hit_length, u8 public_key_algorithm, u16[some] public_key_length, hit hit, public_key public_key, servers servers | RFC 8005, 5
-56     NINFO       strings[some] strings                                                                | draft-reid-dnsext-zs
+56     NINFO       strings[some] data                                                                   | draft-reid-dnsext-zs
 57     RKEY        u16 flags, u8 protocol, u8 algorithm, rest[some] public_key                          | draft-reid-dnsext-rkey
 58     TALINK      uname start, uname end                                                               | draft-wijngaards-dnsop-trust-history
 59     CDS         u16 key_tag, u8 algorithm, u8 digest_type, rest[some] digest                         | RFC 7344, 3.1
@@ -85,7 +85,7 @@ ROWS = """
 66     DSYNC       u16 rrtype, u8 scheme, u16 port, uname target                                        | RFC 9859, 2.1
 67     HHIT        rest[some] data                                                                      | RFC 9886, 5.1
 68     BRID        rest[some] data                                                                      | RFC 9886, 5.2
-99     SPF         strings[some] strings                                                                | RFC 4408, 3.1.1
+99     SPF         strings[some] data                                                                   | RFC 4408, 3.1.1
 104    NID         u16 preference, octets8 node_id                                                      | RFC 6742, 2.1.1
 105    L32         u16 preference, octets4 locator                                                      | RFC 6742, 2.2.1
 106    L64         u16 preference, octets8 locator                                                      | RFC 6742, 2.3.1
@@ -97,12 +97,12 @@ ROWS = """
 250    TSIG        uname algorithm, u48 time_signed, u16 fudge, long mac, u16 original_id, u16 error, long other | RFC 8945, 4.2
 256    URI         u16 priority, u16 weight, rest[some] target                                          | RFC 7553, 4.5
 257    CAA         u8 flags, string[tag] tag, rest value                                                | RFC 8659, 4.1
-258    AVC         strings[some] strings                                                                | the registry: as TXT
+258    AVC         strings[some] data                                                                   | the registry: as TXT
 259    DOA         u32 enterprise, u32 type, u8 location, string media_type, rest data                  | draft-durand-doa-over-dns, 3.1
 260    AMTRELAY    u8 precedence, u8 discovery_and_type, relay relay                                    | RFC 8777, 4.2
-261    RESINFO     strings[some] strings                                                                | RFC 9606, 4
-262    WALLET      strings[some] strings                                                                | the registry: as TXT
-263    CLA         strings[some] strings                                                                | the registry: as TXT
+261    RESINFO     strings[some] data                                                                   | RFC 9606, 4
+262    WALLET      strings[some] data                                                                   | the registry: as TXT
+263    CLA         strings[some] data                                                                   | the registry: as TXT
 264    IPN         u64 node                                                                             | the registry
 32768  TA          u16 key_tag, u8 algorithm, u8 digest_type, rest[some] digest                         | the registry: as DS
 32769  DLV         u16 key_tag, u8 algorithm, u8 digest_type, rest[some] digest                         | RFC 4431, 2

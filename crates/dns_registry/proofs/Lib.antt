@@ -1,4 +1,7 @@
+mod Chains
+mod HostSteps
 mod Passing
+mod PrefixSteps
 mod Ranges
 mod Rules
 mod ShortestBitmaps

@@ -56,7 +56,7 @@ weaker : (m n : ℕ) (windows : List Block) → m ≤ n → AllByRecursion (λ (
 weaker m n [] le h = tt
 weaker m n (w ∷ windows) le h = (omega (arith, h.0, le), weaker m n windows le h.1)
 
-same_parts : (x y a b : List ℕ) → length a ≡ length b → a ++ x ≡ b ++ y → (a ≡ b) × (x ≡ y)
+pub same_parts : (x y a b : List ℕ) → length a ≡ length b → a ++ x ≡ b ++ y → (a ≡ b) × (x ≡ y)
 same_parts x y [] [] n e = (refl, e)
 same_parts x y [] (c ∷ b) n e = absurd (omega arith)
 same_parts x y (c ∷ a) [] n e = absurd (omega arith)

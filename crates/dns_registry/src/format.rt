@@ -278,11 +278,11 @@ pub static NO_RULES: [FieldRule; 0] = [];
 /// NSAP-PTR (RFC 1348; not in the list of RFC 3597, 4): a name that is not compressed.
 pub static OWNER_RULES: [FieldRule; 1] = [FieldRule::Uncompressed];
 
-/// EID (Nimrod): octets, and at least one.
-pub static EID_RULES: [FieldRule; 1] = [FieldRule::AtLeast(1)];
+/// EID, NIMLOC, DHCID (RFC 4701, 3.1), HHIT and BRID (RFC 9886, 5): octets, and at least one.
+pub static SOME_DATA_RULES: [FieldRule; 1] = [FieldRule::AtLeast(1)];
 
-/// TXT (RFC 1035, 3.3.14): character strings, and at least one.
-pub static TXT_RULES: [FieldRule; 1] = [FieldRule::Count(1, 65535)];
+/// TXT (RFC 1035, 3.3.14), NINFO, SPF (RFC 4408, 3.1.1), AVC, RESINFO (RFC 9606, 4), WALLET and CLA: character strings, and at least one.
+pub static STRINGS_RULES: [FieldRule; 1] = [FieldRule::Count(1, 65535)];
 
 /// X25 (RFC 1183, 3.1).
 pub static X25_RULES: [FieldRule; 1] = [FieldRule::Digits];
@@ -345,6 +345,12 @@ pub static KX_RULES: [FieldRule; 2] = [FieldRule::Free, FieldRule::Uncompressed]
 
 /// OPT (RFC 6891, 6.1.2).
 pub static OPT_RULES: [FieldRule; 1] = [FieldRule::Options];
+
+/// APL (RFC 3123, 4): address prefixes, and perhaps none.
+pub static APL_RULES: [FieldRule; 1] = [FieldRule::Prefixes];
+
+/// HIP (RFC 8005, 5): a host identity.
+pub static HIP_RULES: [FieldRule; 1] = [FieldRule::HostIdentity];
 
 /// NSEC (RFC 4034, 4.1).
 pub static NSEC_RULES: [FieldRule; 2] = [FieldRule::Uncompressed, FieldRule::SomeTypes];
@@ -441,20 +447,11 @@ pub static NO_NAMES: [&str; 0] = [];
 /// NULL (RFC 1035, 3.3.10): any octets.
 pub static DATA_NAMES: [&str; 1] = ["data"];
 
-/// EID (Nimrod): octets, and at least one.
-pub static EID_NAMES: [&str; 1] = ["endpoint"];
-
-/// NIMLOC (Nimrod): octets, and at least one.
-pub static NIMLOC_NAMES: [&str; 1] = ["locator"];
-
-/// DHCID (RFC 4701, 3.1), HHIT and BRID (RFC 9886, 5): octets, and at least one.
+/// EID, NIMLOC, DHCID (RFC 4701, 3.1), HHIT and BRID (RFC 9886, 5): octets, and at least one.
 pub static SOME_DATA_NAMES: [&str; 1] = ["data"];
 
-/// TXT (RFC 1035, 3.3.14): character strings, and at least one.
-pub static TXT_NAMES: [&str; 1] = ["data"];
-
-/// NINFO, SPF (RFC 4408, 3.1.1), AVC, RESINFO (RFC 9606, 4), WALLET and CLA: as TXT.
-pub static STRINGS_NAMES: [&str; 1] = ["strings"];
+/// TXT (RFC 1035, 3.3.14), NINFO, SPF (RFC 4408, 3.1.1), AVC, RESINFO (RFC 9606, 4), WALLET and CLA: character strings, and at least one.
+pub static STRINGS_NAMES: [&str; 1] = ["data"];
 
 /// RP (RFC 1183, 2.2).
 pub static RP_NAMES: [&str; 2] = ["mbox", "txt"];
@@ -553,6 +550,12 @@ pub static SINK_NAMES: [&str; 4] = ["meaning", "coding", "subcoding", "data"];
 
 /// OPT (RFC 6891, 6.1.2).
 pub static OPT_NAMES: [&str; 1] = ["options"];
+
+/// APL (RFC 3123, 4): address prefixes, and perhaps none.
+pub static APL_NAMES: [&str; 1] = ["items"];
+
+/// HIP (RFC 8005, 5): a host identity.
+pub static HIP_NAMES: [&str; 1] = ["identity"];
 
 /// SSHFP (RFC 4255, 3.1).
 pub static SSHFP_NAMES: [&str; 3] = ["algorithm", "fingerprint_type", "fingerprint"];
@@ -817,13 +820,13 @@ fn second_formats(number: u16) -> Option<Format>
     ensures none { IfNone result (row_among second_rows number ≡ None) }
 {
     match number {
-        16 => fields_of!(TXT, TXT_RULES, TXT_NAMES),
+        16 => fields_of!(TXT, STRINGS_RULES, STRINGS_NAMES),
         17 => fields_of!(NAMES_PARTS, NO_RULES, RP_NAMES),
         18 => fields_of!(MX, NO_RULES, AFSDB_NAMES, 1, 2),
         19 => fields_of!(STRING_PARTS, X25_RULES, X25_NAMES),
         20 => fields_of!(TXT, ISDN_RULES, ISDN_NAMES),
         21 => fields_of!(MX, NO_RULES, RT_NAMES, 1, 2),
-        22 => fields_of!(NULL, EID_RULES, NSAP_NAMES),
+        22 => fields_of!(NULL, SOME_DATA_RULES, NSAP_NAMES),
         23 => fields_of!(NAME, OWNER_RULES, OWNER_NAMES),
         24 => fields_of!(RRSIG_PARTS, SIG_RULES, SIG_NAMES, 7, 18),
         26 => fields_of!(PX_PARTS, NO_RULES, PX_NAMES, 1, 2),
@@ -831,7 +834,7 @@ fn second_formats(number: u16) -> Option<Format>
         28 => fields_of!(AAAA, NO_RULES, ADDRESS_NAMES),
         29 => fields_of!(LOC_PARTS, LOC_RULES, LOC_NAMES, 7, 16),
         30 => fields_of!(NXT_PARTS, NXT_RULES, NXT_NAMES),
-        31 => fields_of!(NULL, EID_RULES, EID_NAMES),
+        31 => fields_of!(NULL, SOME_DATA_RULES, SOME_DATA_NAMES),
         _ => None,
     }
 }
@@ -845,7 +848,7 @@ fn third_formats(number: u16) -> Option<Format>
     ensures none { IfNone result (row_among third_rows number ≡ None) }
 {
     match number {
-        32 => fields_of!(NULL, EID_RULES, NIMLOC_NAMES),
+        32 => fields_of!(NULL, SOME_DATA_RULES, SOME_DATA_NAMES),
         33 => fields_of!(SRV, NO_RULES, SRV_NAMES, 3, 6),
         34 => fields_of!(ATMA_PARTS, ATMA_RULES, ATMA_NAMES, 1, 1),
         35 => fields_of!(NAPTR, NO_RULES, NAPTR_NAMES, 2, 4),
@@ -854,6 +857,7 @@ fn third_formats(number: u16) -> Option<Format>
         39 => fields_of!(NAME, OWNER_RULES, NEW_TARGET_NAMES),
         40 => fields_of!(TLSA, NO_RULES, SINK_NAMES, 3, 3),
         41 => fields_of!(NULL, OPT_RULES, OPT_NAMES),
+        42 => fields_of!(NULL, APL_RULES, APL_NAMES),
         43 => fields_of!(KEYS_PARTS, DNSKEY_RULES, DS_NAMES, 3, 4),
         44 => fields_of!(SSHFP, NO_RULES, SSHFP_NAMES, 2, 2),
         46 => fields_of!(RRSIG_PARTS, RRSIG_RULES, RRSIG_NAMES, 7, 18),
@@ -872,12 +876,13 @@ fn fourth_formats(number: u16) -> Option<Format>
 {
     match number {
         48 => fields_of!(KEYS_PARTS, DNSKEY_RULES, DNSKEY_NAMES, 3, 4),
-        49 => fields_of!(NULL, EID_RULES, SOME_DATA_NAMES),
+        49 => fields_of!(NULL, SOME_DATA_RULES, SOME_DATA_NAMES),
         50 => fields_of!(NSEC3_PARTS, NSEC3_RULES, NSEC3_NAMES, 3, 4),
         51 => fields_of!(NSEC3PARAM_PARTS, NO_RULES, NSEC3PARAM_NAMES, 3, 4),
         52 => fields_of!(TLSA, NO_RULES, TLSA_NAMES, 3, 3),
         53 => fields_of!(TLSA, NO_RULES, TLSA_NAMES, 3, 3),
-        56 => fields_of!(TXT, TXT_RULES, STRINGS_NAMES),
+        55 => fields_of!(NULL, HIP_RULES, HIP_NAMES),
+        56 => fields_of!(TXT, STRINGS_RULES, STRINGS_NAMES),
         57 => fields_of!(KEYS_PARTS, DNSKEY_RULES, DNSKEY_NAMES, 3, 4),
         58 => fields_of!(NAMES_PARTS, TALINK_RULES, TALINK_NAMES),
         59 => fields_of!(KEYS_PARTS, DNSKEY_RULES, DS_NAMES, 3, 4),
@@ -901,9 +906,9 @@ fn fifth_formats(number: u16) -> Option<Format>
         64 => fields_of!(SVCB, KX_RULES, SVCB_NAMES, 1, 2),
         65 => fields_of!(SVCB, KX_RULES, SVCB_NAMES, 1, 2),
         66 => fields_of!(DSYNC_PARTS, DSYNC_RULES, DSYNC_NAMES, 3, 5),
-        67 => fields_of!(NULL, EID_RULES, SOME_DATA_NAMES),
-        68 => fields_of!(NULL, EID_RULES, SOME_DATA_NAMES),
-        99 => fields_of!(TXT, TXT_RULES, STRINGS_NAMES),
+        67 => fields_of!(NULL, SOME_DATA_RULES, SOME_DATA_NAMES),
+        68 => fields_of!(NULL, SOME_DATA_RULES, SOME_DATA_NAMES),
+        99 => fields_of!(TXT, STRINGS_RULES, STRINGS_NAMES),
         104 => fields_of!(LOCATOR64_PARTS, NO_RULES, NID_NAMES, 1, 2),
         105 => fields_of!(LOCATOR32_PARTS, NO_RULES, L32_NAMES, 1, 2),
         106 => fields_of!(LOCATOR64_PARTS, NO_RULES, L64_NAMES, 1, 2),
@@ -926,11 +931,11 @@ fn last_formats(number: u16) -> Option<Format>
     match number {
         256 => fields_of!(URI_PARTS, URI_RULES, URI_NAMES, 2, 4),
         257 => fields_of!(CAA_PARTS, CAA_RULES, CAA_NAMES, 1, 1),
-        258 => fields_of!(TXT, TXT_RULES, STRINGS_NAMES),
+        258 => fields_of!(TXT, STRINGS_RULES, STRINGS_NAMES),
         259 => fields_of!(DOA_PARTS, NO_RULES, DOA_NAMES, 3, 9),
-        261 => fields_of!(TXT, TXT_RULES, STRINGS_NAMES),
-        262 => fields_of!(TXT, TXT_RULES, STRINGS_NAMES),
-        263 => fields_of!(TXT, TXT_RULES, STRINGS_NAMES),
+        261 => fields_of!(TXT, STRINGS_RULES, STRINGS_NAMES),
+        262 => fields_of!(TXT, STRINGS_RULES, STRINGS_NAMES),
+        263 => fields_of!(TXT, STRINGS_RULES, STRINGS_NAMES),
         264 => fields_of!(OCTETS8_PARTS, NO_RULES, IPN_NAMES),
         32768 => fields_of!(KEYS_PARTS, DNSKEY_RULES, DS_NAMES, 3, 4),
         32769 => fields_of!(KEYS_PARTS, DNSKEY_RULES, DS_NAMES, 3, 4),

@@ -6,6 +6,8 @@
 #![tactic(auto)]
 
 mod format;
+mod hosts;
+mod prefixes;
 mod rule;
 mod typed;
 

@@ -9,6 +9,8 @@ ghost use Rattle.dns_fields.specs.declared.Kind.{TheVariants.Bitmap};
 ghost use Rattle.dns_view.specs.Shown.{Shows};
 ghost use Rattle.dns_registry.specs.FieldRules.{Passes, IsShortestBitmap, IsPrecision, AreOldTypes};
 
+use crate::hosts::is_host_identity;
+use crate::prefixes::are_prefixes;
 use dns_check::bitmap::block_len;
 use dns_check::tlvs::are_complete;
 use dns_names_wire::name_ends::skip_run;
@@ -30,6 +32,12 @@ pub enum FieldRule {
     OldTypes,
     /// Options of EDNS, each whole: a code, a length, and so many octets (RFC 6891, 6.1.2).
     Options,
+    /// Address prefixes, each whole: a family, a prefix, one bit, a length, and so many octets (APL: RFC 3123, 4). Those of families 1
+    /// and 2 have no more bits and octets than an address, and no zero octet at the end.
+    Prefixes,
+    /// The RDATA of HIP: two lengths with an algorithm between them, a HIT and a key of these lengths, of at least one octet each, and
+    /// uncompressed names (RFC 8005, 5).
+    HostIdentity,
     /// At least so many octets.
     AtLeast(u8),
     /// A number from the first to the second.
@@ -190,6 +198,8 @@ fn rest_passes(rule: FieldRule, octets: &[u8]) -> bool
         FieldRule::AtLeast(count) => octets.len() >= count as usize,
         FieldRule::OldTypes => are_old_types(octets),
         FieldRule::Options => are_complete(octets),
+        FieldRule::Prefixes => are_prefixes(octets),
+        FieldRule::HostIdentity => is_host_identity(octets),
         _ => true,
     }
 }
