@@ -5,7 +5,7 @@
 - The same for the octets of texts.tsv and printed.tsv, which other libraries gave for texts, for each record of the signed zones and of
   messages.tsv; and for the cases of octets.tsv and messages.tsv with one octet changed, cut off or added at the end.
 
-The types that `dns_registry` reads as any octets have no cases here (ANY_OCTETS). The program is `registry_replay` of tests/programs, in
+OPT, SVCB and HTTPS have no cases here (OTHER_RULES). The program is `registry_replay` of tests/programs, in
 which nothing is proved. The last line is 'N as wanted, M not'.
 """
 
@@ -19,15 +19,14 @@ import counted  # noqa: E402
 import model  # noqa: E402
 import plain_table  # noqa: E402
 
-# TKEY and TSIG have no format in `dns_registry` yet; the model knows no values of options and of parameters.
-ANY_OCTETS = {249, 250}
+# The model knows no values of options and of parameters.
 OTHER_RULES = {41, 64, 65}
 
 
 def shown(kind, value):
     """A field as the program prints it."""
     if isinstance(value, int):
-        return str(value) if kind != "u64" else value.to_bytes(8, "big").hex()
+        return str(value) if kind not in ("u48", "u64") else value.to_bytes(int(kind[1:]) // 8, "big").hex()
     return (value.whole() if isinstance(value, plain_table.Name) else b"".join(model.wire("string", it) for it in value) if isinstance(value, list) else value).hex() or "-"
 
 
@@ -38,8 +37,12 @@ def line_of(kind, message, offset, length):
         return None
     fields, octets = found
     if kind == 55:
-        # One field of `dns_registry`.
-        return f"identity={octets.hex()} {octets.hex()}"
+        # One field of `dns_registry`, and so are the ends of TKEY and TSIG.
+        fields = [("identity", "rest", octets)]
+    if kind in (249, 250):
+        size = {249: 5, 250: 3}[kind]
+        end = b"".join(model.wire(base, value) for _, base, value in fields[size:])
+        fields = [*fields[:size], ("key_and_other" if kind == 249 else "mac_and_other", "rest", end)]
     if kind == 25 and fields[-1][2] == b"":
         # Without a key there is no such field.
         fields = fields[:-1]
@@ -92,7 +95,7 @@ def main():
     for sample in dict.fromkeys(worked_out()):
         cases += changed(*sample)
     cases += samples()
-    cases = [it for it in cases if it[0] in model.TYPES and it[0] not in ANY_OCTETS | OTHER_RULES]
+    cases = [it for it in cases if it[0] in model.TYPES and it[0] not in OTHER_RULES]
     cases = list(dict.fromkeys(cases))
     text = "".join(f"{kind} {offset} {length} {message.hex() or '-'}\n" for kind, message, offset, length in cases)
     ran = subprocess.run([program], input=text, capture_output=True, text=True, check=False)

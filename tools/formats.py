@@ -14,8 +14,6 @@ import model  # noqa: E402
 
 PAGE = TOP / "docs/TYPES.md"
 BEGIN, END = "| Type | Number | RFC | Fields |\n", "\n\nWhat the table says of a field"
-# Types that have no format in `dns_registry`.
-ANY_OCTETS = {249, 250}
 KINDS = {"name": "name", "uname": "uncompressed name", "string": "string", "strings": "strings", "rest": "octets"}
 RULES = {
     "some": "at least one octet",
@@ -34,6 +32,8 @@ RULES = {
     "bitmap": "shortest bitmap",
     "parameters": "service parameters",
     "host": "length of the HIT, algorithm, length of the key in two octets, HIT, key, uncompressed names",
+    "two": "a key and other data, each after its length in two octets",
+    "mac": "a MAC after its length in two octets, id, error, other data after its length",
     "items": "address prefixes, or none",
 }
 
@@ -64,10 +64,12 @@ def table():
         if not line:
             continue
         kind, (name, fields) = model.row(line)
-        if kind in ANY_OCTETS:
-            continue
         if kind == 55:
             fields = [("rest", ["host"], "identity")]
+        if kind == 249:
+            fields = [*fields[:5], ("rest", ["two"], "key_and_other")]
+        if kind == 250:
+            fields = [*fields[:3], ("rest", ["mac"], "mac_and_other")]
         source = line.split("|")[1].strip()
         lines.append(f"| {name} | {kind} | {source} | {', '.join(map(shown, fields)) or 'none'} |")
     return "\n".join(lines)

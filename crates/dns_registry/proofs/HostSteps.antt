@@ -1,8 +1,8 @@
 -- Uncompressed names one after the other, and the lengths of a host identity.
-use Rattle.std.proofs.Common.{◌≡◌, ℕ, suc, ◌+◌, ◌-◌, ◌*◌, ◌/◌, ◌%◌, ◌≤◌, ◌<◌, List, [], ◌∷◌, ◌++◌, length, take, drop, get_or, Option, Some, None, refl, sym, ap, ◌∙◌, arith, subst}
+use Rattle.std.proofs.Common.{◌≡◌, ℕ, suc, ◌+◌, ◌-◌, ◌*◌, ◌/◌, ◌%◌, ◌≤◌, ◌<◌, List, [], ◌∷◌, ◌++◌, length, take, drop, get_or, Option, Some, None, sym, ap, ◌∙◌, arith, subst}
 use Rattle.std.proofs.Common.{length-append, take-append-drop, append_assoc}
-use Rattle.std.proofs.lemmas.List.{length-take-le, length-drop, take_at, drop_at, drop-drop}
-use Rattle.dns_fields.specs.Labels.{AreLabels, wire, FitsName}
+use Rattle.std.proofs.lemmas.List.{length-take-le, length-drop, drop_at, drop-drop}
+use Rattle.dns_fields.specs.Labels.{wire}
 use Rattle.dns_fields.proofs.{Unique.zero_stop, Unique.pointer_stop, Unique.apart, Runs.same_run}
 use Rattle.dns_labels.specs.Reading.{IsRun}
 use Rattle.dns_names_wire.specs.NameEnds.{SkipsRun}

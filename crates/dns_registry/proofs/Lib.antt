@@ -1,5 +1,6 @@
 mod Chains
 mod HostSteps
+mod LongSteps
 mod Passing
 mod PrefixSteps
 mod Ranges

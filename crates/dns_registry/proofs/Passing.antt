@@ -1,11 +1,10 @@
 -- The fields of a row, one by one, and whether each is as its rule asks.
-use Rattle.std.proofs.Common.{add-one, ◌+◌, ◌≡◌, ◌↔◌, ℕ, zero, suc, ◌≤◌, ◌<◌, Bool, true, List, [], ◌∷◌, length, slice_get, Some, None, sym, ◌∙◌, ap, refl, arith, subst}
+use Rattle.std.proofs.Common.{add-one, ◌+◌, ◌≡◌, ◌↔◌, ℕ, zero, suc, ◌≤◌, Bool, true, List, [], ◌∷◌, length, slice_get, Some, sym, ◌∙◌, arith, subst}
 use Rattle.dns_fields.specs.declared.Kind.{Kind}
 use Rattle.dns_fields.specs.Fields.{Value, Values, Field, Stands}
 use Rattle.dns_fields.proofs.FieldLaws.{field_end}
 use Rattle.dns_rows.specs.{declared.row.Part.Part, Table.kinds_of}
 use Rattle.dns_check.specs.Rows.{IsRow}
-use Rattle.dns_check.proofs.RowLoop.{behind_row}
 use Rattle.dns_view.specs.{declared.row.field.FieldRef.FieldRef, Shown.Shows, Shown.ShowsAt}
 use Rattle.dns_registry.specs.declared.rule.FieldRule.{FieldRule}
 use Rattle.dns_registry.specs.declared.rule.FieldRule.TheVariants as rules

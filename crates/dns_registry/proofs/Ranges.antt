@@ -1,5 +1,5 @@
 -- The ranges of type numbers in the registry.
-use Rattle.std.proofs.Common.{◌≡◌, ℕ, ◌<◌, ◌≤◌, List, Option, Some, None, IfSome, IfNone, sym, ◌∙◌, refl, arith}
+use Rattle.std.proofs.Common.{◌≡◌, ℕ, ◌<◌, ◌≤◌, List, Option, Some, None, IfSome, ◌∙◌, refl, arith}
 use Rattle.std.proofs.lemmas.Bool.{ne_eqb, lt-ltb, le-ltb}
 use Rattle.dns_registry.specs.declared.format.Format.{Format}
 use Rattle.dns_registry.specs.{Formats.FormatRow, Formats.row_of_format, Registry.registry, Registry.row_among}

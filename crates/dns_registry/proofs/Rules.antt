@@ -1,14 +1,11 @@
 -- What fields show, by their kinds; and names that are not compressed.
-use Rattle.std.proofs.Common.{Bor, ◌≡◌, ◌↔◌, ℕ, suc, ◌+◌, ◌≤◌, ◌<◌, Bool, true, List, [], ◌∷◌, ◌++◌, length, drop, Option, Some, None, sym, ◌∙◌, ap, refl, arith, subst, length-append, ◌*◌, ◌/◌, ◌%◌}
+use Rattle.std.proofs.Common.{Bor, ◌≡◌, ◌↔◌, ℕ, ◌+◌, Bool, true, List, [], ◌∷◌, ◌++◌, length, Some, None, sym, ◌∙◌, ap, arith, subst, length-append, ◌/◌, ◌%◌}
 use Rattle.std.specs.List.{flat_map}
-use Rattle.dns_fields.specs.declared.Kind.{Kind}
 use Rattle.dns_fields.specs.declared.Kind.TheVariants.{Number, Octets, Name, CharacterString, CharacterStrings, Rest, Options, Parameters, Bitmap}
-use Rattle.dns_fields.specs.{Octets.At, Fields.Value, Fields.Field, Tlvs.string}
+use Rattle.dns_fields.specs.{Octets.At, Fields.Value, Tlvs.string}
 use Rattle.dns_fields.specs.{Labels.DomainName, Labels.AreLabels, Labels.wire, Names.IsNameIn, Names.LabelsStand, Names.LabelsStand.whole, Names.LabelsStand.pointed}
 use Rattle.dns_fields.proofs.{Unique.unique, Unique.apart, Unique.zero_stop, Unique.pointer_stop, Runs.same_run, Stays.labels_stand}
 use Rattle.dns_labels.specs.Reading.{IsRun}
-use Rattle.dns_names_wire.specs.NameEnds.{SkipsRun}
-use Rattle.dns_view.specs.{declared.row.field.FieldRef.FieldRef, Shown.Shows}
 use Rattle.dns_view.specs.declared.row.field.FieldRef.TheVariants as shown
 use Rattle.dns_view.specs.declared.name.name_ref.NameRef.{NameRef}
 use Rattle.dns_registry.specs.declared.rule.FieldRule.{FieldRule}

@@ -5,7 +5,7 @@ use Rattle.std.proofs.lemmas.List.{get_or-take, get_or-drop, length-take-le, len
 use Rattle.std.proofs.lemmas.List.Elements.{All-from_get_or, All-get_or}
 use Rattle.dns_fields.specs.Octets.{AreOctets}
 use Rattle.dns_fields.proofs.OctetLaws.{AreOctets-take, AreOctets-drop}
-use Rattle.dns_fields.specs.Bitmaps.{Block, block, IsBlock, AllAbove, Rises}
+use Rattle.dns_fields.specs.Bitmaps.{Block, block, IsBlock, AllAbove}
 use Rattle.dns_check.specs.Blocks.{FitsBlock, NoBlock}
 use Rattle.dns_check.proofs.Bitmaps.{block_front}
 use Rattle.dns_registry.specs.FieldRules.{EndsInBit, AreShortest, IsShortestBitmap}

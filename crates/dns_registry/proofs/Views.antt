@@ -1,15 +1,14 @@
 -- What a view shows of RDATA, by the format of the type.
-use Rattle.std.proofs.Common.{◌≡◌, ℕ, ◌+◌, ◌<◌, ◌⊎◌, inl, inr, List, length, take, drop, Option, Some, slice_get, sym, ◌∙◌, ap, refl, subst}
-use Rattle.std.proofs.lemmas.Option.{slice_get-get_or}
+use Rattle.std.proofs.Common.{◌≡◌, ℕ, ◌+◌, List, Some, slice_get, sym, ◌∙◌, ap, subst}
 use Rattle.dns_types.specs.{declared.record_type.RecordType.RecordType, RecordTypes.number_of}
 use Rattle.dns_rows.specs.declared.row.Part.{Part}
-use Rattle.dns_names_wire.specs.{State.Reading, Terms.StaysBehind}
+use Rattle.dns_names_wire.specs.{State.Reading}
 use Rattle.dns_check.specs.{Rows.HasRow, Checks.FillsRow}
 use Rattle.dns_view.specs.{ViewOf.IsViewOf, declared.row.view.RowView.RowView}
 use Rattle.dns_registry.specs.declared.rule.FieldRule.{FieldRule}
 use Rattle.dns_registry.specs.declared.typed.TypedRef.{TypedRef}
 use Rattle.dns_registry.specs.{Formats.FormatRow, Formats.AllPass}
-use Rattle.dns_registry.specs.Typed.{IsQuestionType, PassesAt, FirstPass, RejectsField, IsTyped, NotTyped, IsTypedViewOf, format_at}
+use Rattle.dns_registry.specs.Typed.{IsQuestionType, PassesAt, FirstPass, RejectsField, NotTyped, IsTypedViewOf, format_at}
 use Rattle.dns_registry.proofs.Passing.{all_at}
 
 -- what holds of a view holds of its message, its offset, its length and its row

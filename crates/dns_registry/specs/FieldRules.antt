@@ -97,6 +97,28 @@ pub record IsHostIdentity (octets : List ℕ) : Type 0 where
   pub some_key : 1 ≤ length key
   pub names : ArePlainNames servers
 
+-- so many octets after their number in two octets
+abbrev pub long_octets : List ℕ → List ℕ
+long_octets s = (length s / 256) ∷ (length s % 256) ∷ s
+
+-- such octets from p to q
+pub record IsLong (octets : List ℕ) (p q : ℕ) : Type 0 where
+  pub body : List ℕ
+  pub short : length body < 65536
+  pub at : At octets p (long_octets body) q
+
+-- the end of TKEY (RFC 2930, 2): a key and other data, each after its length
+pub record IsKeyAndOther (octets : List ℕ) : Type 0 where
+  pub middle : ℕ
+  pub key : IsLong octets 0 middle
+  pub other : IsLong octets middle (length octets)
+
+-- the end of TSIG (RFC 8945, 4.2): a MAC after its length, an id and an error of two octets each, and other data after its length
+pub record IsMacAndOther (octets : List ℕ) : Type 0 where
+  pub middle : ℕ
+  pub mac : IsLong octets 0 middle
+  pub other : IsLong octets (middle + 4) (length octets)
+
 -- decimal digits of ASCII
 abbrev pub AreDigits : List ℕ → Type 0
 AreDigits octets = list_all is_ascii_digit octets ≡ true
@@ -115,6 +137,8 @@ Passes rules.SomeTypes m p Bitmap v q = (octets : List ℕ) × At m p octets q �
 Passes rules.OldTypes m p Rest s q = AreOldTypes s
 Passes rules.Options m p Rest s q = AreComplete s
 Passes rules.Prefixes m p Rest s q = ArePrefixes s
+Passes rules.KeyAndOther m p Rest s q = IsKeyAndOther s
+Passes rules.MacAndOther m p Rest s q = IsMacAndOther s
 Passes rules.HostIdentity m p Rest s q = IsHostIdentity s
 Passes (rules.AtLeast n) m p CharacterString s q = n ≤ length s
 Passes (rules.AtLeast n) m p Rest s q = n ≤ length s

@@ -1,5 +1,5 @@
 -- Formats: the fields of RDATA, and what is asked of each.
-use Rattle.std.specs.Prelude.{◌≡◌, ℕ, List, [], ◌∷◌}
+use Rattle.std.specs.Prelude.{ℕ, List, [], ◌∷◌}
 use Rattle.dns_fields.specs.{Fields.Values, Fields.Stands}
 use Rattle.dns_rows.specs.{declared.row.Part.Part, Table.kinds_of}
 use Rattle.dns_registry.specs.declared.{format.Format.Format, rule.FieldRule.FieldRule}

@@ -151,6 +151,8 @@ fifth_rows =
     ∷ (108, format_row rows.OCTETS6_PARTS rows.NO_RULES)
     ∷ (109, format_row rows.OCTETS8_PARTS rows.NO_RULES)
     ∷ (128, format_row base.ZERO rows.NO_RULES)
+    ∷ (249, format_row rows.TKEY_PARTS rows.TKEY_RULES)
+    ∷ (250, format_row rows.TSIG_PARTS rows.TSIG_RULES)
     ∷ []
 
 -- types with numbers from 256 on

@@ -1,12 +1,12 @@
 -- RDATA by the format of its type, and why it is rejected.
-use Rattle.std.specs.Prelude.{◌≡◌, ◌≢◌, ℕ, zero, suc, ◌+◌, ◌<◌, ◌≤◌, ◌⊎◌, List, [], ◌∷◌, length, take, drop, slice_get, Option, Some, None, unwrap_or}
-use Rattle.dns_types.specs.{declared.record_type.RecordType.RecordType, declared.error.DecodeError.DecodeError, RecordTypes.number_of}
+use Rattle.std.specs.Prelude.{◌≡◌, ℕ, zero, suc, ◌+◌, ◌⊎◌, List, [], ◌∷◌, take, drop, slice_get, Some, unwrap_or}
+use Rattle.dns_types.specs.{declared.record_type.RecordType.RecordType, RecordTypes.number_of}
 use Rattle.dns_types.specs.declared.error.DecodeError.TheVariants as decode
-use Rattle.dns_fields.specs.{Octets.AreOctets, Fields.Values, Fields.Stands}
+use Rattle.dns_fields.specs.{Fields.Values, Fields.Stands}
 use Rattle.dns_rows.specs.{declared.row.Part.Part, Table.kinds_of}
 use Rattle.dns_rows.specs.declared.row.TheConstants as base
 use Rattle.dns_names_wire.specs.State.{Reading}
-use Rattle.dns_check.specs.{Rows.HasRow, Checks.FillsRow, Checks.IsRowError}
+use Rattle.dns_check.specs.{Checks.FillsRow, Checks.IsRowError}
 use Rattle.dns_view.specs.ViewOf as row_view
 use Rattle.dns_registry.specs.declared.format.TheConstants as rows
 use Rattle.dns_registry.specs.declared.rule.FieldRule.{FieldRule}

@@ -231,6 +231,19 @@ pub static DOA_PARTS: [Part; 5] = [
     part!(Rest),
 ];
 
+/// A name, four numbers, and the rest.
+pub static TKEY_PARTS: [Part; 6] = [
+    part!(Name),
+    part!(Number(4)),
+    part!(Number(4)),
+    part!(Number(2)),
+    part!(Number(2)),
+    part!(Rest),
+];
+
+/// A name, six octets, a number, and the rest.
+pub static TSIG_PARTS: [Part; 4] = [part!(Name), part!(Octets(6)), part!(Number(2)), part!(Rest)];
+
 /// Three numbers, an IPv4 address, and the rest.
 pub static GATEWAY_IPV4_PARTS: [Part; 5] = [
     part!(Number(1)),
@@ -389,6 +402,24 @@ pub static DSYNC_RULES: [FieldRule; 4] = [
     FieldRule::Free,
     FieldRule::Free,
     FieldRule::Uncompressed,
+];
+
+/// TKEY (RFC 2930, 2): key and other data are one field, each after its length.
+pub static TKEY_RULES: [FieldRule; 6] = [
+    FieldRule::Uncompressed,
+    FieldRule::Free,
+    FieldRule::Free,
+    FieldRule::Free,
+    FieldRule::Free,
+    FieldRule::KeyAndOther,
+];
+
+/// TSIG (RFC 8945, 4.2): what follows the fudge is one field: MAC, original id, error and other data.
+pub static TSIG_RULES: [FieldRule; 4] = [
+    FieldRule::Uncompressed,
+    FieldRule::Free,
+    FieldRule::Free,
+    FieldRule::MacAndOther,
 ];
 
 /// URI (RFC 7553, 4.5).
@@ -611,6 +642,19 @@ pub static LP_NAMES: [&str; 2] = ["preference", "fqdn"];
 
 /// EUI48 (RFC 7043, 3.1) and EUI64 (RFC 7043, 4.1).
 pub static EUI_NAMES: [&str; 1] = ["address"];
+
+/// TKEY (RFC 2930, 2): key and other data are one field, each after its length.
+pub static TKEY_NAMES: [&str; 6] = [
+    "algorithm",
+    "inception",
+    "expiration",
+    "mode",
+    "error",
+    "key_and_other",
+];
+
+/// TSIG (RFC 8945, 4.2): what follows the fudge is one field: MAC, original id, error and other data.
+pub static TSIG_NAMES: [&str; 4] = ["algorithm", "time_signed", "fudge", "mac_and_other"];
 
 /// URI (RFC 7553, 4.5).
 pub static URI_NAMES: [&str; 3] = ["priority", "weight", "target"];
@@ -916,6 +960,8 @@ fn fifth_formats(number: u16) -> Option<Format>
         108 => fields_of!(OCTETS6_PARTS, NO_RULES, EUI_NAMES),
         109 => fields_of!(OCTETS8_PARTS, NO_RULES, EUI_NAMES),
         128 => fields_of!(ZERO, NO_RULES, NO_NAMES),
+        249 => fields_of!(TKEY_PARTS, TKEY_RULES, TKEY_NAMES),
+        250 => fields_of!(TSIG_PARTS, TSIG_RULES, TSIG_NAMES),
         _ => None,
     }
 }

@@ -7,6 +7,7 @@
 
 mod format;
 mod hosts;
+mod keys;
 mod prefixes;
 mod rule;
 mod typed;

@@ -10,6 +10,7 @@ ghost use Rattle.dns_view.specs.Shown.{Shows};
 ghost use Rattle.dns_registry.specs.FieldRules.{Passes, IsShortestBitmap, IsPrecision, AreOldTypes};
 
 use crate::hosts::is_host_identity;
+use crate::keys::{is_key_and_other, is_mac_and_other};
 use crate::prefixes::are_prefixes;
 use dns_check::bitmap::block_len;
 use dns_check::tlvs::are_complete;
@@ -38,6 +39,10 @@ pub enum FieldRule {
     /// The RDATA of HIP: two lengths with an algorithm between them, a HIT and a key of these lengths, of at least one octet each, and
     /// uncompressed names (RFC 8005, 5).
     HostIdentity,
+    /// The end of TKEY: a key and other data, each after its length in two octets (RFC 2930, 2).
+    KeyAndOther,
+    /// The end of TSIG: a MAC after its length in two octets, an id, an error, and other data after its length (RFC 8945, 4.2).
+    MacAndOther,
     /// At least so many octets.
     AtLeast(u8),
     /// A number from the first to the second.
@@ -199,6 +204,8 @@ fn rest_passes(rule: FieldRule, octets: &[u8]) -> bool
         FieldRule::OldTypes => are_old_types(octets),
         FieldRule::Options => are_complete(octets),
         FieldRule::Prefixes => are_prefixes(octets),
+        FieldRule::KeyAndOther => is_key_and_other(octets),
+        FieldRule::MacAndOther => is_mac_and_other(octets),
         FieldRule::HostIdentity => is_host_identity(octets),
         _ => true,
     }

@@ -1,4 +1,4 @@
-use Rattle.std.proofs.Common.{arith, refl, length, ◌-◌, take, drop, ◌++◌, ap, sym, ◌∙◌, List, ℕ}
+use Rattle.std.proofs.Common.{arith, length, ◌-◌, take, drop, ◌++◌, ap, sym, ◌∙◌, List, ℕ}
 use Rattle.dns_canonical.proofs.Sharing.{whole}
 use Rattle.dns_fields.proofs.OctetLaws.{AreOctets-take, AreOctets-drop}
 use Rattle.dns_registry.specs.FieldRules.{name_octets, IsPlainName}

@@ -1,7 +1,7 @@
-use Rattle.std.proofs.Common.{arith, refl, length, ◌+◌, ◌-◌, take, drop, ap, sym, ◌∙◌, subst, List, ℕ}
+use Rattle.std.proofs.Common.{arith, ◌+◌, sym, ◌∙◌, subst}
 use Rattle.dns_canonical.proofs.Sharing.{whole}
 use Rattle.dns_registry.specs.FieldRules.{ArePlainNames}
-use Rattle.dns_registry.proofs.HostSteps.{hit_of, key_of, servers_of, is_identity, servers_are}
+use Rattle.dns_registry.proofs.HostSteps.{hit_of, key_of, is_identity, servers_are}
 use Rattle.dns_registry.proofs.hosts.is_host_identity.Goals as goal
 
 pub returns : goal.returns

@@ -1,8 +1,8 @@
-use Rattle.std.proofs.Common.{arith, refl, length, ◌-◌, take, drop, ◌++◌, ap, sym, ◌∙◌, List, ℕ}
+use Rattle.std.proofs.Common.{arith, length, ◌-◌, take, drop, ◌++◌, ap, sym, ◌∙◌, List, ℕ}
 use Rattle.dns_canonical.proofs.Sharing.{whole}
 use Rattle.dns_fields.proofs.OctetLaws.{AreOctets-take, AreOctets-drop}
 use Rattle.dns_registry.specs.FieldRules.{prefix_octets, IsAddressPrefix}
-use Rattle.dns_registry.proofs.Chains.{all_left, after_one, none_left, no_item}
+use Rattle.dns_registry.proofs.Chains.{after_one, no_item}
 use Rattle.dns_registry.proofs.PrefixSteps.{some_octets, one_prefix}
 use Rattle.dns_registry.proofs.prefixes.are_prefixes.Goals as goal
 

@@ -1,6 +1,5 @@
-use Rattle.std.proofs.Common.{arith, refl, subst, ap}
-use Rattle.std.specs.Prelude.{ℕ, Option, Some, None}
-use Rattle.dns_fields.proofs.NameLaws.{name_inside}
+use Rattle.std.proofs.Common.{arith, refl, subst}
+use Rattle.std.specs.Prelude.{ℕ, Option}
 use Rattle.dns_fields.proofs.Stays.{stands_before}
 use Rattle.dns_names_wire.specs.NameEnds.{SkipsRun}
 use Rattle.dns_names_wire.proofs.NameSteps.{no_first}

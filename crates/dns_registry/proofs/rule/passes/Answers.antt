@@ -1,4 +1,4 @@
-use Rattle.std.proofs.Common.{refl, subst, sym}
+use Rattle.std.proofs.Common.{subst, sym}
 use Rattle.dns_view.specs.declared.row.field.FieldRef.{FieldRef}
 use Rattle.dns_registry.proofs.Passing.{Tells}
 use Rattle.dns_registry.proofs.Rules.{number_tells, name_tells, string_tells, strings_tell, rest_tells, bitmap_tells}

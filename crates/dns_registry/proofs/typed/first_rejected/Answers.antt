@@ -1,4 +1,4 @@
-use Rattle.std.proofs.Common.{◌+◌, refl, arith}
+use Rattle.std.proofs.Common.{arith}
 use Rattle.std.proofs.lemmas.Option.{slice_get-get_or}
 use Rattle.dns_registry.proofs.Passing.{first_more, all_passed}
 use Rattle.dns_registry.proofs.typed.first_rejected.Goals as goal

@@ -1,4 +1,4 @@
-use Rattle.std.proofs.Common.{ℕ, ◌+◌, List, false}
+use Rattle.std.proofs.Common.{ℕ, ◌+◌, List}
 use Rattle.dns_rows.specs.{declared.row.Part.Part, Table.kinds_of}
 use Rattle.dns_check.specs.Rows.{HasRow}
 use Rattle.dns_view.specs.Putting.{Put}

@@ -1,4 +1,4 @@
-use Rattle.std.proofs.Common.{◌≡◌, ℕ, List, take, drop, inl, inr, refl, sym, ◌∙◌, ap, subst, arith}
+use Rattle.std.proofs.Common.{◌≡◌, ℕ, List, take, drop, inr, refl, sym, ◌∙◌, ap, subst}
 use Rattle.std.proofs.lemmas.Option.{slice_get-get_or}
 use Rattle.dns_check.specs.Checks.{IsRowError}
 use Rattle.dns_registry.specs.{Formats.FormatRow, Formats.row_of_format, Typed.format_at, Typed.format_for, Typed.IsQuestionType}
